@@ -1,0 +1,46 @@
+-- `wire::write_u64` meets its contract.
+use Prim.Native.Nat.{_/_, _%_}
+use borrow.Author.Needs.{needs}
+use native.Mathlib.Omega.{arith}
+use Rattle.wire.specs.LittleEndian.{leBytes}
+use Rattle.laws.proofs.Storing.{store-store}
+use Rattle.wire.proofs.Laws.{bytes-halves, length-le}
+use Rattle.wire.proofs.write_u64.Statement.{statement}
+use Rattle.wire.proofs.write_u64.Tie as tie
+
+cast-write-u32 : tie.Need-cast-write-u32
+cast-write-u32 c = search needs
+
+write-u32-requires : tie.Need-write-u32-requires
+write-u32-requires c κs = search needs
+
+add-write-u32 : tie.Need-add-write-u32
+add-write-u32 c = search needs
+
+cast-write-u32-2 : tie.Need-cast-write-u32-2
+cast-write-u32-2 c = search needs
+
+write-u32-requires-2 : tie.Need-write-u32-requires-2
+write-u32-requires-2 c κs = search needs
+
+same-length : tie.Need-same-length
+same-length c = search needs
+
+returns : tie.Need-returns
+returns c =
+    let a = c .before .before .before .before .before .before .before .before .before .args in
+    let w = c .before .before .before .before .before .before .write-u32 in
+    let s = store-store (a .s .now) (a .at) (leBytes 4 (a .x % 4294967296)) (leBytes 4 (a .x / 4294967296)) (simp length-le (omega arith)) in
+    rw (c .before .before .write-u322 .ensures, w .ensures, bytes-halves 4 4 (a .x)) (rw length-le at s)
+
+pub write-u64-spec : {M : Type 1} → statement M
+write-u64-spec =
+    tie.close
+    (tie.spec
+    cast-write-u32
+    write-u32-requires
+    add-write-u32
+    cast-write-u32-2
+    write-u32-requires-2
+    same-length
+    returns)
