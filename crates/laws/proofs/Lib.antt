@@ -1,2 +1,4 @@
 pub mod Choosing
 pub mod Storing
+pub mod Reading
+pub mod Listing

@@ -1,12 +1,13 @@
 -- Laws of `part` and `storeAt`: lengths, what is read back, stores side by side, and a store in a part that was lent on.
-use Prim.Native.Nat.{ℕ, _≤_, _<_, _+_, _-_}
-use native.Mathlib.Nat.{add-assoc, add-zero}
-use native.Mathlib.Omega.{arith}
-use mathlib.Core.Path.{_≡_, refl, sym, ap, _∙_}
-use mathlib.Core.List.{List, [], _∷_, _++_, append-assoc}
-use lib.ListN.{length, take, drop, length-append, length-take, length-drop, take-append-drop}
-use lib.Seq.{paste, take-at, drop-at, take-add, take-length, take-take, drop-drop, drop-append-le, length-take-le}
+use Prim.Native.Nat.{ℕ, _+_, _-_, _≤_, _<_}
 use borrow.Rule.Slice.PartMut.{putMid}
+use lib.ListN.{length, getD, take, drop, length-append, take-append-drop, length-take, length-drop, List·getD-eq-default}
+use lib.Seq.{length-take-le, take-all, take-length, drop-append-le, getD-take, getD-drop, take-take, drop-drop, take-add, take-at, drop-at, sets, sets-eq, paste}
+use mathlib.Core.List.{List, [], _++_, append-assoc}
+use mathlib.Core.Path.{_≡_, refl, sym}
+use native.Mathlib.Decide.{decLt}
+use native.Mathlib.Nat.{add-assoc, add-zero, le-refl}
+use native.Mathlib.Omega.{arith}
 use Rattle.laws.specs.Parts.{part, storeAt}
 
 module _ {A : Type 0} where
@@ -23,17 +24,69 @@ module _ {A : Type 0} where
   unfolding storeAt
   store-nothing l at = simp (append-assoc, add-zero) (take-append-drop at l)
 
-  -- what was stored is read
-  pub part-store : (l : List A) (at : ℕ) (s : List A) → at ≤ length l → part (storeAt l at s) at (length s) ≡ s
-  unfolding part storeAt
-  part-store l at s h =
-      let p = length-take-le at l h in
-      rw (append-assoc, drop-at (take at l) (s ++ drop (at + length s) l) at p) (take-at s (drop (at + length s) l) (length s) refl)
+  -- what stood behind stays
+  pub drop-store : (l : List A) (at : ℕ) (s : List A) → at ≤ length l → drop (at + length s) (storeAt l at s) ≡ drop (at + length s) l
+  unfolding storeAt
+  drop-store l at s h =
+      let p : length (take at l ++ s) ≡ at + length s = rw (length-append, length-take-le at l h) in
+      drop-at (take at l ++ s) (drop (at + length s) l) (at + length s) p
+
+  -- what stood there is stored again
+  pub store-own : (l : List A) (at n : ℕ) → at + n ≤ length l → storeAt l at (part l at n) ≡ l
+  unfolding storeAt
+  store-own l at n h =
+      let size : length (part l at n) ≡ n = length-part l at n h in
+      rw (size, append-assoc) (unfold part in (rw (← drop-drop n at l, take-append-drop n (drop at l)) (take-append-drop at l)))
 
   -- a part in the middle of three lists
   pub part-middle : (a b c : List A) (at n : ℕ) → length a ≡ at → length b ≡ n → part (a ++ (b ++ c)) at n ≡ b
   unfolding part
   part-middle a b c at n p q = rw (drop-at a (b ++ c) at p) (take-at b c n q)
+
+  -- what was stored is read
+  pub part-store : (l : List A) (at : ℕ) (s : List A) → at ≤ length l → part (storeAt l at s) at (length s) ≡ s
+  unfolding storeAt
+  part-store l at s h = rw append-assoc (part-middle (take at l) s (drop (at + length s) l) at (length s) (length-take-le at l h) refl)
+
+  -- parts side by side
+  pub part-add : (l : List A) (at m n : ℕ) → part l at (m + n) ≡ part l at m ++ part l (at + m) n
+  unfolding part
+  part-add l at m n = rw (take-add m n (drop at l), drop-drop)
+
+  -- a part and what stands behind it
+  pub part-drop : (l : List A) (at n : ℕ) → part l at n ++ drop (at + n) l ≡ drop at l
+  unfolding part
+  part-drop l at n = rw (← drop-drop n at l) (take-append-drop n (drop at l))
+
+  pub part-rest : (l : List A) (at : ℕ) → part l at (length l - at) ≡ drop at l
+  unfolding part
+  part-rest l at = take-all (length l - at) (drop at l) (rw length-drop (omega arith))
+
+  -- what all elements of a list are, the elements of a part are
+  pub part-all : (P : A → Type 0) (d : A) (l : List A) (at n : ℕ) → ((i : ℕ) → P (getD l i d)) → (i : ℕ) → P (getD (part l at n) i d)
+  unfolding part
+  part-all P d l at n h i = go (decLt i n)
+    where
+      go : Dec (i < n) → P (getD (take n (drop at l)) i d)
+      go (yes k) = rw (getD-take n (drop at l) i d k, getD-drop) (h (at + i))
+      go (no k) =
+          let short : length (take n (drop at l)) ≤ i = simp length-take (omega arith) in
+          rw (List·getD-eq-default (take n (drop at l)) d short, ← List·getD-eq-default l d (le-refl (length l))) (h (length l))
+
+  -- a store in a list that is taken apart
+  pub store-front : (l : List A) (a n k : ℕ) (s : List A) → length s ≡ n
+      → part l 0 a ++ (s ++ (part l (a + n) k ++ drop (a + n + k) l)) ≡ storeAt l a s
+  unfolding storeAt
+  store-front l a n k s e = rw (part-drop l (a + n) k, e) (unfold part in sym (append-assoc (take a l) s (drop (a + n) l)))
+
+  pub store-back : (l : List A) (a k c n : ℕ) (s : List A) → length s ≡ n
+      → part l 0 a ++ (part l a k ++ (part l (a + k) c ++ s ++ drop (a + k + c + n) l)) ≡ storeAt l (a + k + c) s
+  unfolding storeAt part
+  store-back l a k c n s e = rw (e, take-add (a + k) c l, take-add a k l) (simp append-assoc)
+
+  -- a list that is taken apart
+  pub parts-all : (l : List A) (a k c : ℕ) → part l 0 a ++ (part l a k ++ (part l (a + k) c ++ drop (a + k + c) l)) ≡ l
+  parts-all l a k c = rw (part-drop l (a + k) c, part-drop l a k) (unfold part in take-append-drop a l)
 
   -- stores side by side
   pub store-store : (l : List A) (at : ℕ) (a b : List A) → at + length a + length b ≤ length l
@@ -49,6 +102,16 @@ module _ {A : Type 0} where
         drop-drop,
         length-append,
       ) (simp (append-assoc, add-assoc))
+
+  -- the same, where the second place is known by another sum
+  pub store-next : (l : List A) (at : ℕ) (a b : List A) (k : ℕ) → k ≡ at + length a → k + length b ≤ length l
+      → storeAt (storeAt l at a) k b ≡ storeAt l at (a ++ b)
+  store-next l at a b k e h = rw e (store-store l at a b (rw e at h))
+
+  -- elements that are set one after the other are stored
+  pub sets-store : (l : List A) (at : ℕ) (s : List A) → at + length s ≤ length l → sets l at s ≡ storeAt l at s
+  unfolding storeAt
+  sets-store l at s h = sets-eq s l at h
 
   -- the copy loop's result as a store
   pub paste-store : (l : List A) (at : ℕ) (s : List A) → paste l at s (length s) ≡ storeAt l at s

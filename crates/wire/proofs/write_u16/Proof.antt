@@ -2,12 +2,11 @@
 use Prim.Native.Nat.{_/_, _%_}
 use borrow.Author.Needs.{needs}
 use lib.ListN.{length-set}
-use lib.Seq.{sets-eq}
 use mathlib.Core.List.{[], _∷_}
 use native.Mathlib.Numerals.{add-one}
 use native.Mathlib.Omega.{arith}
-use Rattle.laws.specs.Parts.{storeAt}
 use Rattle.wire.specs.LittleEndian.{leBytes}
+use Rattle.laws.proofs.Storing.{sets-store}
 use Rattle.wire.proofs.write_u16.Statement.{statement}
 use Rattle.wire.proofs.write_u16.Tie as tie
 
@@ -30,8 +29,8 @@ same-length : tie.Need-same-length
 same-length c = search needs
 
 returns : tie.Need-returns
-unfolding storeAt leBytes
-returns c = let a = c .args in rw add-one (sets-eq (a .x % 256 ∷ a .x / 256 % 256 ∷ []) (a .s .now) (a .at) (omega arith))
+unfolding leBytes
+returns c = let a = c .args in rw add-one (sets-store (a .s .now) (a .at) (a .x % 256 ∷ a .x / 256 % 256 ∷ []) (omega arith))
 
 pub write-u16-spec : {M : Type 1} → statement M
 write-u16-spec =

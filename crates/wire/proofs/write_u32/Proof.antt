@@ -1,10 +1,7 @@
 -- `wire::write_u32` meets its contract.
-use Prim.Native.Nat.{_/_, _%_}
 use borrow.Author.Needs.{needs}
 use native.Mathlib.Omega.{arith}
-use Rattle.wire.specs.LittleEndian.{leBytes}
-use Rattle.laws.proofs.Storing.{store-store}
-use Rattle.wire.proofs.Laws.{bytes-halves, length-le}
+use Rattle.wire.proofs.Laws.{store-halves}
 use Rattle.wire.proofs.write_u32.Statement.{statement}
 use Rattle.wire.proofs.write_u32.Tie as tie
 
@@ -30,8 +27,7 @@ returns : tie.Need-returns
 returns c =
     let a = c .before .before .before .before .before .before .before .before .before .args in
     let w = c .before .before .before .before .before .before .write-u16 in
-    let s = store-store (a .s .now) (a .at) (leBytes 2 (a .x % 65536)) (leBytes 2 (a .x / 65536)) (simp length-le (omega arith)) in
-    rw (c .before .before .write-u162 .ensures, w .ensures, bytes-halves 2 2 (a .x)) (rw length-le at s)
+    rw (c .before .before .write-u162 .ensures, w .ensures) (store-halves 2 2 (a .x) (a .s .now) (a .at) (omega arith))
 
 pub write-u32-spec : {M : Type 1} → statement M
 write-u32-spec =

@@ -1,0 +1,11 @@
+pub mod TableRule
+pub mod RowLaws
+pub mod FlagLaws
+pub mod LayoutLaws
+pub mod OptionLaws
+pub mod ReadingLaws
+pub mod WritingLaws
+pub mod Accepted
+pub mod ReadBack
+pub mod WriteBack
+pub mod RoundTrips

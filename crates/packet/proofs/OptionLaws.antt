@@ -1,0 +1,141 @@
+-- Each optional header by itself: what was written is read, and what was read is written.
+use Prim.Native.Nat.{ℕ, _+_, _-_, _^_, _≤_, _<_}
+use lib.ListN.{length, getD, length-append}
+use mathlib.Core.Bool.{Bool, true, false}
+use mathlib.Core.List.{List, _++_, append-assoc}
+use mathlib.Core.Logic.{⊎-elim}
+use mathlib.Core.Option.{some, none}
+use mathlib.Core.Path.{_≡_, refl}
+use native.Mathlib.Omega.{arith}
+use Rattle.laws.specs.Choose.{pick}
+use Rattle.laws.specs.Parts.{part}
+use Rattle.packet.specs.Flags.{connidFlag, cqDataFlag, flagsOf, hasFlag, rawAddressFlag}
+use Rattle.packet.specs.Options.{connidBytes, connidIn, connidOrZero, cqDataBytes, cqDataIn, multiuseBytes, rawAddressBytes}
+use Rattle.packet.specs.RoundTrip.{cqDataOrZero}
+use Rattle.packet.specs.Rules.{Sound}
+use Rattle.packet.specs.Sections.{afterRaw, connidLength, cqDataLength, rawLength, rawSpan}
+use Rattle.packet.specs.Values.{bytesAt}
+use Rattle.packet.specs.declared.table.TypeRow.{TypeRow}
+use Rattle.packet.specs.declared.types.Connid.{Connid}
+use Rattle.packet.specs.declared.types.CqData.{CqData}
+use Rattle.packet.specs.declared.types.Header.{Header}
+use Rattle.wire.specs.LittleEndian.{leAt, leBytes}
+use Rattle.laws.proofs.Choosing.{tested}
+use Rattle.laws.proofs.Storing.{length-part, part-add, part-middle}
+use Rattle.packet.proofs.FlagLaws.{connid-flag, cq-data-flag, hasConnid, hasCqData}
+use Rattle.wire.proofs.Laws.{bytes-again, le-behind, le-behind-wide, length-le}
+
+-- how long they are
+
+pub length-raw : (there : Bool) (raw : List ℕ) → length (rawAddressBytes there raw) ≡ pick there (4 + length raw) 0
+unfolding rawAddressBytes pick
+length-raw true raw = rw (length-append, length-le)
+length-raw false raw = refl
+
+length-cq-data : (q : CqData) → length (cqDataBytes q) ≡ pick (hasCqData q) 8 0
+unfolding cqDataBytes pick
+length-cq-data CqData.Absent = refl
+length-cq-data (CqData.Present d) = rw length-le
+
+length-connid : (r : TypeRow) (q : Connid) → length (connidBytes r q) ≡ pick (hasConnid q) (r .connid) 0
+unfolding connidBytes pick
+length-connid r Connid.Absent = refl
+length-connid r (Connid.Present c) = rw length-le
+
+module _ (r : TypeRow) (h : Header) (s : Sound r) where
+  pub cq-data-length : cqDataLength (flagsOf r h) ≡ length (cqDataBytes (h .«cq_data»))
+  unfolding cqDataLength
+  cq-data-length = rw (length-cq-data, cq-data-flag r h s)
+
+  pub connid-length : connidLength r (flagsOf r h) ≡ length (connidBytes r (h .connid))
+  unfolding connidLength
+  connid-length = rw (length-connid, connid-flag r h s)
+
+pub length-multiuse : (r : TypeRow) (q : Connid) → length (multiuseBytes r q) ≡ r .multiuse
+unfolding multiuseBytes
+length-multiuse r q = rw length-le
+
+-- a raw address that was written behind the bytes m
+module _ (r : TypeRow) (f : ℕ) (raw m c : List ℕ) (p : length m ≡ r .header) where
+  raw-size : length (rawAddressBytes true raw) < 256 ^ 4 → leAt 4 (m ++ (rawAddressBytes true raw ++ c)) (r .header) ≡ length raw
+  unfolding rawAddressBytes pick
+  raw-size x = rw append-assoc (le-behind 4 (length raw) m (raw ++ c) (r .header) (omega (arith, length-raw true raw)) p)
+
+  raw-part : part (m ++ (rawAddressBytes true raw ++ c)) (r .header + 4) (length raw) ≡ raw
+  unfolding rawAddressBytes pick
+  raw-part =
+      let q : length (m ++ leBytes 4 (length raw)) ≡ r .header + 4 = rw (length-append, length-le, p) in
+      rw (append-assoc, ← append-assoc m (leBytes 4 (length raw)) (raw ++ c)) (part-middle (m ++ leBytes 4 (length raw)) raw c _ _ q refl)
+
+  pub after-raw : (there : Bool) → hasFlag f rawAddressFlag ≡ there → length (rawAddressBytes there raw) < 256 ^ 4
+      → afterRaw r f (m ++ (rawAddressBytes there raw ++ c)) ≡ r .header + length (rawAddressBytes there raw)
+  unfolding afterRaw pick
+  after-raw true e x = rw (e, raw-size x, length-raw true raw)
+  after-raw false e x = rw (e, length-raw false raw)
+
+  pub raw-read : (there : Bool) → hasFlag f rawAddressFlag ≡ there → length (rawAddressBytes there raw) < 256 ^ 4
+      → pick (hasFlag f rawAddressFlag) (some (bytesAt (m ++ (rawAddressBytes there raw ++ c)) (rawSpan r f (m ++ (rawAddressBytes there raw ++ c))))) none
+      ≡ pick there (some raw) none
+  unfolding rawSpan pick
+  raw-read true e x = rw (e, raw-size x, raw-part)
+  raw-read false e x = rw e
+
+-- CQ data that were written
+pub cq-data-read : (f : ℕ) (q : CqData) (a c : List ℕ) (at : ℕ)
+    → hasFlag f cqDataFlag ≡ hasCqData q
+    → cqDataOrZero q < 256 ^ 8
+    → length a ≡ at
+    → cqDataIn f (a ++ (cqDataBytes q ++ c)) at ≡ q
+unfolding cqDataIn cqDataBytes pick
+cq-data-read f CqData.Absent a c at e x p = rw e
+cq-data-read f (CqData.Present d) a c at e x p = rw (e, le-behind 8 d a c at x p)
+
+-- a connid that was written behind the other optional headers
+pub connid-behind : (r : TypeRow) (f : ℕ) (q : Connid) (a c : List ℕ) (at : ℕ)
+    → 4 ≤ r .connid
+    → hasFlag f connidFlag ≡ hasConnid q
+    → connidOrZero q < 256 ^ 4
+    → length a ≡ at
+    → connidIn f (a ++ (connidBytes r q ++ c)) at ≡ q
+unfolding connidIn connidBytes connidOrZero pick
+connid-behind r f Connid.Absent a c at w e x p = rw e
+connid-behind r f (Connid.Present d) a c at w e x p =
+    let n : r .connid ≡ 4 + (r .connid - 4) = omega arith in
+    rw (e, n, le-behind-wide 4 (r .connid - 4) d a c at x p)
+
+-- a connid in multiuse
+pub connid-in-multiuse : (r : TypeRow) (f : ℕ) (q : Connid) (a c : List ℕ) (at : ℕ)
+    → r .multiuse ≡ 4
+    → hasFlag f connidFlag ≡ hasConnid q
+    → connidOrZero q < 256 ^ 4
+    → length a ≡ at
+    → connidIn f (a ++ (multiuseBytes r q ++ c)) at ≡ q
+unfolding connidIn multiuseBytes connidOrZero pick
+connid-in-multiuse r f Connid.Absent a c at w e x p = rw e
+connid-in-multiuse r f (Connid.Present d) a c at w e x p = rw (e, w, le-behind 4 d a c at x p)
+
+-- an optional header that was read is there where its flag is
+pub has-cq-data : (f : ℕ) (bs : List ℕ) (at : ℕ) → hasCqData (cqDataIn f bs at) ≡ hasFlag f cqDataFlag
+unfolding cqDataIn pick
+has-cq-data f bs at = ⊎-elim (λ e. rw e) (λ e. rw e) (tested (hasFlag f cqDataFlag))
+
+pub has-connid : (f : ℕ) (bs : List ℕ) (at : ℕ) → hasConnid (connidIn f bs at) ≡ hasFlag f connidFlag
+unfolding connidIn pick
+has-connid f bs at = ⊎-elim (λ e. rw e) (λ e. rw e) (tested (hasFlag f connidFlag))
+
+-- the bytes of an optional header that was read
+module _ (bs : List ℕ) (b : (i : ℕ) → getD bs i 0 < 256) where
+  pub raw-again : (r : TypeRow) (f : ℕ) → r .header + rawLength r f bs ≤ length bs
+      → rawAddressBytes (hasFlag f rawAddressFlag) (bytesAt bs (rawSpan r f bs)) ≡ part bs (r .header) (rawLength r f bs)
+  unfolding rawAddressBytes rawSpan pick part
+  raw-again r f h =
+      ⊎-elim (λ e.
+      let k : r .header + (4 + leAt 4 bs (r .header)) ≤ length bs = rw e at h in
+      let m = length-part bs (r .header + 4) (leAt 4 bs (r .header)) (omega arith) in
+      rw (e, part-add, m, bytes-again 4 bs (r .header) b (omega arith)))
+      (λ e. rw e)
+      (tested (hasFlag f rawAddressFlag))
+
+  pub cq-data-again : (f at : ℕ) → at + cqDataLength f ≤ length bs → cqDataBytes (cqDataIn f bs at) ≡ part bs at (cqDataLength f)
+  unfolding cqDataBytes cqDataIn cqDataLength pick part
+  cq-data-again f at h = ⊎-elim (λ e. rw e (bytes-again 8 bs at b (rw e at h))) (λ e. rw e) (tested (hasFlag f cqDataFlag))

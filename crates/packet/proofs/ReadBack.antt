@@ -1,0 +1,143 @@
+-- A packet that was written is read: its flags, its sections, its own fields and its optional headers.
+use Prim.Native.Nat.{ℕ, _+_, _-_, _^_, _≤_, _<_}
+use lib.ListN.{length, length-append}
+use lib.Seq.{drop-append-seam}
+use mathlib.Core.List.{List, [], _∷_, _++_, append-assoc, map}
+use mathlib.Core.Logic.{inl, inr}
+use mathlib.Core.Option.{some, none}
+use mathlib.Core.Path.{_≡_, refl, sym, ap, _∙_}
+use native.Mathlib.Omega.{arith}
+use Rattle.laws.specs.Choose.{pick}
+use Rattle.laws.specs.Parts.{part}
+use Rattle.packet.specs.Flags.{flagsOf, hasFlag, rawAddressFlag}
+use Rattle.packet.specs.Layout.{fieldsAt, fieldsIn, layout, numberIn}
+use Rattle.packet.specs.Options.{connidBytes, connidIn, cqDataBytes, cqDataIn, multiuseBytes, rawAddressBytes}
+use Rattle.packet.specs.Reading.{headerIn, packetIn}
+use Rattle.packet.specs.RoundTrip.{Numbers}
+use Rattle.packet.specs.Rules.{Sound}
+use Rattle.packet.specs.Sections.{afterRaw, connidAt, rawSpan}
+use Rattle.packet.specs.Types.{row, rowOf}
+use Rattle.packet.specs.Values.{bytesAt, ownNumbers, values, valuesIn}
+use Rattle.packet.specs.Writing.{baseBytes, mandatoryBytes, packetBytes}
+use Rattle.packet.specs.declared.table.Found.the-variants.{Row}
+use Rattle.packet.specs.declared.table.TypeRow.{TypeRow}
+use Rattle.packet.specs.declared.types.Fields.{Fields}
+use Rattle.packet.specs.declared.types.Header.{Header}
+use Rattle.wire.specs.LittleEndian.{leAt}
+use Rattle.laws.proofs.Storing.{part-rest}
+use Rattle.packet.proofs.Accepted.{ReadAs, WrittenAs, connidFrom, dataFrom, packetOf}
+use Rattle.packet.proofs.FlagLaws.{connid-flag, cq-data-flag, flags-small, raw-address-flag}
+use Rattle.packet.proofs.LayoutLaws.{fields-read, lengths-same}
+use Rattle.packet.proofs.OptionLaws.{after-raw, connid-behind, connid-in-multiuse, connid-length, cq-data-length, cq-data-read, raw-read}
+use Rattle.packet.proofs.ReadingLaws.{connid-after, connid-at-four}
+use Rattle.packet.proofs.RowLaws.{ConnidPlace, connid-place, header-bounds}
+use Rattle.packet.proofs.TableRule.{row-kind, sound}
+use Rattle.packet.proofs.WritingLaws.{length-base, length-before, length-mandatory, length-packet}
+use Rattle.wire.proofs.Laws.{le-behind}
+
+-- the headers of a written packet up to the raw address, up to the CQ data, and all
+abbrev toRaw : TypeRow → Header → List ℕ → List ℕ
+toRaw r h raw = mandatoryBytes r h ++ rawAddressBytes (h .«raw_address») raw
+
+abbrev toCqData : TypeRow → Header → List ℕ → List ℕ
+toCqData r h raw = toRaw r h raw ++ cqDataBytes (h .«cq_data»)
+
+abbrev headers : TypeRow → Header → List ℕ → List ℕ
+headers r h raw = toCqData r h raw ++ connidBytes r (h .connid)
+
+own-numbers : (k : ℕ) (r : TypeRow) (v : Fields) → rowOf k ≡ Row r → ownNumbers (rowOf k) v ≡ map (numberIn v) (layout r)
+unfolding ownNumbers
+own-numbers k r v e = rw e
+
+module _ (h : Header) (raw body out : List ℕ) (r : TypeRow) (w : WrittenAs h raw body out r) (x : Numbers h) where
+  rule : Sound r
+  rule = sound (h .kind) r (w .row)
+
+  -- where the sections lie
+
+  headers-and-body : length (packetBytes r h raw body) ≡ length (headers r h raw) + length body
+  headers-and-body = simp length-append (omega (arith, length-packet r h raw body rule, length-mandatory r h rule))
+
+  address-small : length (rawAddressBytes (h .«raw_address») raw) < 256 ^ 4
+  address-small = omega (arith, length-packet r h raw body rule, w .allowed)
+
+  after-address : afterRaw r (flagsOf r h) (packetBytes r h raw body) ≡ length (toRaw r h raw)
+  unfolding packetBytes
+  after-address =
+      rw (length-append (mandatoryBytes r h), length-mandatory r h rule) (simp append-assoc
+      (after-raw r (flagsOf r h) raw (mandatoryBytes r h) _ (length-mandatory r h rule) _ (raw-address-flag r h rule) address-small))
+
+  connid-from : connidFrom r (flagsOf r h) (packetBytes r h raw body) ≡ length (toCqData r h raw)
+  connid-from = rw (after-address, cq-data-length r h rule, length-append (toRaw r h raw))
+
+  data-from : dataFrom r (flagsOf r h) (packetBytes r h raw body) ≡ length (headers r h raw)
+  data-from = rw (connid-from, connid-length r h rule, length-append (toCqData r h raw))
+
+  -- what is read from them
+
+  flags-read : leAt 2 (packetBytes r h raw body) 2 ≡ flagsOf r h
+  unfolding packetBytes mandatoryBytes baseBytes
+  flags-read = simp append-assoc (le-behind 2 (flagsOf r h) (r .kind ∷ 4 ∷ []) _ 2 (flags-small r h rule) refl)
+
+  own-read : map (numberIn (fieldsIn (layout r) (fieldsAt r) (packetBytes r h raw body))) (layout r) ≡ map (numberIn (h .fields)) (layout r)
+  unfolding packetBytes mandatoryBytes
+  own-read =
+      let rest = rawAddressBytes (h .«raw_address») raw ++ (cqDataBytes (h .«cq_data») ++ (connidBytes r (h .connid) ++ body)) in
+      simp append-assoc (simp append-assoc at
+      (fields-read (layout r) (h .fields) (baseBytes (r .kind) (flagsOf r h) ++ multiuseBytes r (h .connid)) rest _ (x .fields) (length-before r h)))
+
+  address-read : pick (hasFlag (flagsOf r h) rawAddressFlag)
+      (some (bytesAt (packetBytes r h raw body) (rawSpan r (flagsOf r h) (packetBytes r h raw body)))) none
+      ≡ pick (h .«raw_address») (some raw) none
+  unfolding packetBytes
+  address-read =
+      simp append-assoc (raw-read r (flagsOf r h) raw (mandatoryBytes r h) _ (length-mandatory r h rule) _ (raw-address-flag r h rule) address-small)
+
+  cq-read : cqDataIn (flagsOf r h) (packetBytes r h raw body) (afterRaw r (flagsOf r h) (packetBytes r h raw body)) ≡ h .«cq_data»
+  cq-read =
+      rw after-address (unfold packetBytes in simp append-assoc (simp append-assoc at
+      (cq-data-read (flagsOf r h) (h .«cq_data») (toRaw r h raw) (connidBytes r (h .connid) ++ body) _ (cq-data-flag r h rule) (x .cqData) refl)))
+
+  connid-read : ConnidPlace (r .multiuse) (r .connid)
+      → connidIn (flagsOf r h) (packetBytes r h raw body) (connidAt r (connidFrom r (flagsOf r h) (packetBytes r h raw body))) ≡ h .connid
+  connid-read (inl m) =
+      rw (connid-after r _ (m .0), connid-from) (unfold packetBytes in simp append-assoc (simp append-assoc at
+      (connid-behind r (flagsOf r h) (h .connid) (toCqData r h raw) body _ (m .1) (connid-flag r h rule) (x .connid) refl)))
+  connid-read (inr m) =
+      rw (connid-at-four r _ (m .0)) (unfold packetBytes mandatoryBytes in simp append-assoc
+      (connid-in-multiuse r (flagsOf r h) (h .connid) (baseBytes (r .kind) (flagsOf r h)) _ 4 (m .0) (connid-flag r h rule) (x .connid) (length-base _ _)))
+
+  body-read : part (packetBytes r h raw body) (dataFrom r (flagsOf r h) (packetBytes r h raw body))
+      (length (packetBytes r h raw body) - dataFrom r (flagsOf r h) (packetBytes r h raw body))
+      ≡ body
+  body-read = rw (part-rest (packetBytes r h raw body), data-from) (unfold packetBytes in drop-append-seam (headers r h raw) body)
+
+  -- the packet is taken, and its values are those that were written
+
+  pub written-reads : (limit : ℕ) → length (packetBytes r h raw body) ≤ limit → ReadAs limit (packetBytes r h raw body) r
+  unfolding layout
+  written-reads limit l =
+      let n : length (packetBytes r h raw body) - dataFrom r (flagsOf r h) (packetBytes r h raw body) ≡ length body = omega (arith, data-from, headers-and-body) in
+      record {
+        allowed = l;
+        based = omega (arith, length-packet r h raw body rule, header-bounds r rule);
+        version = unfold packetBytes mandatoryBytes baseBytes in refl;
+        row = unfold packetBytes mandatoryBytes baseBytes in ap rowOf (row-kind (h .kind) r (w .row)) ∙ w .row;
+        flags = rw flags-read (w .flags);
+        inside = rw flags-read (omega (arith, data-from, headers-and-body));
+        lengths = rw (flags-read, n) (lengths-same (r .shape) _ _ _ _ own-read ∙ w .lengths);
+      }
+
+  pub written-values : valuesIn (packetOf r (leAt 2 (packetBytes r h raw body) 2) (packetBytes r h raw body)) (packetBytes r h raw body) ≡ values h raw body
+  unfolding valuesIn values packetIn headerIn
+  written-values =
+      let k = row-kind (h .kind) r (w .row) in
+      let own = own-numbers (r .kind) r _ (ap rowOf k ∙ w .row) ∙ own-read ∙ sym (own-numbers (h .kind) r (h .fields) (w .row)) in
+      rw flags-read (λ i. record {
+        kind = k i;
+        own = own i;
+        rawAddress = address-read i;
+        cqData = cq-read i;
+        connid = connid-read (connid-place r rule) i;
+        body = body-read i;
+      })

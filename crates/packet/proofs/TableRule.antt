@@ -1,0 +1,63 @@
+-- The rule of the table of packet types: what `Sound` says holds of every row that is found, by one test over the whole table.
+use Prim.Native.Nat.{ℕ, _+_, _%_}
+use borrow.Author.Tests.{leb-true, eqb-true}
+use lib.Dec.{leb, eqb}
+use lib.ListN.{getD}
+use mathlib.Core.Bool.{Bool, true, _||_}
+use mathlib.Core.List.{List, [], _∷_, map}
+use mathlib.Core.Logic.{⊎-elim, ⊎-map}
+use mathlib.Core.Path.{_≡_, refl}
+use native.Mathlib.Omega.{arith}
+use Rattle.laws.specs.Choose.{pick}
+use Rattle.packet.specs.Layout.{fieldsAt, layout, widths}
+use Rattle.packet.specs.Rules.{Sound, connidOf, multiuseOf}
+use Rattle.packet.specs.Types.{rowIn, rowOf, rows}
+use Rattle.packet.specs.declared.table.Found.the-variants.{Row}
+use Rattle.packet.specs.declared.table.TypeRow.{TypeRow}
+use Rattle.laws.proofs.Choosing.{all-true, allTrue, and-left, and-right, or-cases, pick-cases}
+
+-- a row that is found in a table has the type that was looked for, and passes a test that all its rows pass
+found-in : (test : TypeRow → Bool) (rs : List TypeRow) (k : ℕ) (r : TypeRow)
+    → allTrue (map test rs) ≡ true
+    → rowIn rs k ≡ Row r
+    → (r .kind ≡ k) × (test r ≡ true)
+unfolding rowIn
+found-in test [] k r a e = let z : _≡_ {A = ℕ} 0 1 = cc in absurd (omega arith)
+found-in test (q ∷ rs) k r a e =
+    ⊎-elim (λ h. let s : q ≡ r = cc in (rw (← s) (eqb-true (q .kind) k (h .0)), rw (← s) (and-left (test q) (allTrue (map test rs)) a)))
+    (λ h. found-in test rs k r (and-right (test q) (allTrue (map test rs)) a) (h .1))
+    (pick-cases (eqb (q .kind) k) (Row q) (rowIn rs k) (Row r) e)
+
+pub row-kind : (k : ℕ) (r : TypeRow) → rowOf k ≡ Row r → r .kind ≡ k
+unfolding rowOf
+row-kind k r e = found-in (λ q. true) rows k r refl e .0
+
+pub row-passes : (test : TypeRow → Bool) → allTrue (map test rows) ≡ true → (k : ℕ) (r : TypeRow) → rowOf k ≡ Row r → test r ≡ true
+unfolding rowOf
+row-passes test a k r e = found-in test rows k r a e .1
+
+-- the rule as tests
+abbrev checks : TypeRow → List Bool
+checks r =
+    eqb (r .header) (fieldsAt r + widths (layout r))
+    ∷ eqb (r .multiuse) (multiuseOf (r .shape))
+    ∷ eqb (r .connid) (connidOf (r .shape))
+    ∷ eqb (r .must % 4) 0
+    ∷ leb (r .must) 12
+    ∷ (eqb (r .may) 0x8003 || eqb (r .may) 0x8000)
+    ∷ []
+
+pub sound : (k : ℕ) (r : TypeRow) → rowOf k ≡ Row r → Sound r
+unfolding layout pick
+sound k r e =
+    record {
+      header = eqb-true _ _ (holds 0);
+      multiuse = eqb-true _ _ (holds 1);
+      connid = eqb-true _ _ (holds 2);
+      must = eqb-true _ _ (holds 3);
+      small = leb-true _ _ (holds 4);
+      may = ⊎-map (eqb-true _ _) (eqb-true _ _) (or-cases _ _ (holds 5));
+    }
+  where
+    holds : (i : ℕ) → getD (checks r) i true ≡ true
+    holds = all-true (checks r) (row-passes (λ q. allTrue (checks q)) refl k r e)

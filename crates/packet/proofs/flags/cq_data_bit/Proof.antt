@@ -1,0 +1,22 @@
+-- `packet::flags::cq_data_bit` meets its contract.
+use borrow.Author.Needs.{needs}
+use Rattle.packet.specs.Flags.{cqDataBit}
+use Rattle.packet.proofs.flags.cq_data_bit.Statement.{statement}
+use Rattle.packet.proofs.flags.cq_data_bit.Tie as tie
+
+enum-told : tie.Need-enum-told
+enum-told c = search needs
+
+enum-told-2 : tie.Need-enum-told-2
+enum-told-2 c = search needs
+
+returns : tie.Need-returns
+unfolding cqDataBit
+returns c = rw (c .enum-told .given .1)
+
+returns-2 : tie.Need-returns-2
+unfolding cqDataBit
+returns-2 c = rw (c .enum-told2 .given .1)
+
+pub cq-data-bit-spec : {M : Type 1} → statement M
+cq-data-bit-spec = tie.close (tie.spec enum-told enum-told-2 returns returns-2)

@@ -1,0 +1,16 @@
+-- `packet::flags::has` meets its contract.
+use borrow.Author.Needs.{needs}
+use mathlib.Core.Path.{refl}
+use Rattle.packet.specs.Flags.{hasFlag}
+use Rattle.packet.proofs.flags.has.Statement.{statement}
+use Rattle.packet.proofs.flags.has.Tie as tie
+
+div-result : tie.Need-div-result
+div-result c = search needs
+
+returns : tie.Need-returns
+unfolding hasFlag
+returns c = refl
+
+pub has-spec : {M : Type 1} → statement M
+has-spec = tie.close (tie.spec div-result returns)

@@ -1,0 +1,16 @@
+-- `packet::flags::raw_address_bit` meets its contract.
+use Rattle.laws.specs.Choose.{pick}
+use Rattle.packet.specs.Flags.{rawAddressBit}
+use Rattle.packet.proofs.flags.raw_address_bit.Statement.{statement}
+use Rattle.packet.proofs.flags.raw_address_bit.Tie as tie
+
+returns : tie.Need-returns
+unfolding rawAddressBit pick
+returns c = rw (c .if1 .taken)
+
+returns-2 : tie.Need-returns-2
+unfolding rawAddressBit pick
+returns-2 c = rw (c .if1 .left)
+
+pub raw-address-bit-spec : {M : Type 1} → statement M
+raw-address-bit-spec = tie.close (tie.spec returns returns-2)

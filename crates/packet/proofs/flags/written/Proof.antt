@@ -1,0 +1,46 @@
+-- `packet::flags::written` meets its contract. The sum does not wrap: the flags of the optional headers are at most 0x8003 together.
+use borrow.Author.Needs.{needs}
+use native.Mathlib.Omega.{arith}
+use Rattle.packet.specs.Flags.{flagsOf}
+use Rattle.packet.proofs.FlagLaws.{options-small}
+use Rattle.packet.proofs.flags.written.Statement.{statement}
+use Rattle.packet.proofs.flags.written.Tie as tie
+
+raw-address-bit-requires : tie.Need-raw-address-bit-requires
+raw-address-bit-requires c κs = search needs
+
+cq-data-bit-requires : tie.Need-cq-data-bit-requires
+cq-data-bit-requires c κs = search needs
+
+connid-bit-requires : tie.Need-connid-bit-requires
+connid-bit-requires c κs = search needs
+
+add-result : tie.Need-add-result
+add-result c = omega (arith, options-small (c .before .before .before .before .args .header))
+
+add-result-2 : tie.Need-add-result-2
+add-result-2 c = omega (arith, options-small (c .before .before .before .before .args .header))
+
+add-result-3 : tie.Need-add-result-3
+add-result-3 c = omega (arith, options-small (c .before .before .before .before .args .header))
+
+returns : tie.Need-returns
+unfolding flagsOf
+returns c =
+    rw (
+      c .before .connid-bit .ensures,
+      c .before .before .cq-data-bit .ensures,
+      c .before .before .before .raw-address-bit .ensures,
+    )
+
+pub written-spec : {M : Type 1} → statement M
+written-spec =
+    tie.close
+    (tie.spec
+    raw-address-bit-requires
+    cq-data-bit-requires
+    connid-bit-requires
+    add-result
+    add-result-2
+    add-result-3
+    returns)

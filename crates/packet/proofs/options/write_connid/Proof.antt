@@ -1,0 +1,38 @@
+-- `packet::options::write_connid` meets its contract.
+use borrow.Author.Needs.{needs}
+use mathlib.Core.Path.{sym}
+use native.Mathlib.Omega.{arith}
+use Rattle.packet.specs.Options.{connidBytes}
+use Rattle.laws.proofs.Storing.{store-nothing}
+use Rattle.packet.proofs.RowLaws.{connid-width}
+use Rattle.wire.proofs.Laws.{length-le}
+use Rattle.packet.proofs.options.write_connid.Statement.{statement}
+use Rattle.packet.proofs.options.write_connid.Tie as tie
+
+enum-told : tie.Need-enum-told
+enum-told c = search needs
+
+enum-known-connid : tie.Need-enum-known-connid
+enum-known-connid c = search needs
+
+write-number-requires : tie.Need-write-number-requires
+unfolding connidBytes
+write-number-requires c κs =
+    let p = c .before .before .before .before .before .pre in
+    (connid-width _ (p .0), rw (c .before .before .connid .given .1, length-le) at (p .1))
+
+returns : tie.Need-returns
+unfolding connidBytes
+returns c = rw (c .enum-told .given .1) (omega arith, sym (store-nothing _ _))
+
+same-length : tie.Need-same-length
+same-length c = search needs
+
+returns-2 : tie.Need-returns-2
+unfolding connidBytes
+returns-2 c = rw (c .before .before .before .before .before .connid .given .1, length-le) (c .before .before .write-number .ensures)
+
+pub write-connid-spec : {M : Type 1} → statement M
+write-connid-spec =
+    tie.close
+    (tie.spec enum-told enum-known-connid write-number-requires returns same-length returns-2)

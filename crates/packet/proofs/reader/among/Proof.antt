@@ -1,0 +1,119 @@
+-- `packet::reader::among` meets its contract. What `typed` requires, the rule of the table, holds of a row that is found.
+use Prim.Native.Nat.{ℕ}
+use borrow.Author.Needs.{needs}
+use borrow.Author.Tests.{lt-ltb, le-ltb, eq-eqb, ne-eqb}
+use lib.ListN.{getD}
+use mathlib.Core.Bool.{Bool, _||_}
+use mathlib.Core.Logic.{⊎-elim}
+use mathlib.Core.Path.{_≡_, sym, _∙_}
+use native.Mathlib.Omega.{arith}
+use Rattle.laws.specs.Choose.{pick}
+use Rattle.packet.specs.Reading.{readOf, readTyped}
+use Rattle.packet.specs.Types.{admit, rowOf}
+use Rattle.packet.specs.declared.table.Found.{Found}
+use Rattle.packet.specs.declared.table.Found.the-variants.{Row, Unknown}
+use Rattle.packet.specs.declared.table.TypeRow.{TypeRow}
+use Rattle.laws.proofs.Choosing.{pick-cases}
+use Rattle.packet.proofs.TableRule.{sound}
+use Rattle.packet.proofs.reader.among.Statement.{statement}
+use Rattle.packet.proofs.reader.among.Tie as tie
+
+-- what is admitted was found
+admitted : (all : Bool) (f : Found) (r : TypeRow) → admit all f ≡ Row r → f ≡ Row r
+unfolding admit
+admitted all Unknown r e = e
+admitted all (Row q) r e =
+    ⊎-elim (λ w. w .1) (λ w. let z : _≡_ {A = ℕ} 0 1 = cc in absurd (omega arith))
+    (pick-cases (all || q .served) (Row q) Unknown (Row r) e)
+
+-- past the tests of length and version, the type is looked for
+passed : (c : tie.After-shared-slice-known3) → let a = c .before .before .before .before .before .before .args in
+    readOf (a .all) (a .limit) (a .bytes .now) ≡ readTyped (admit (a .all) (rowOf (getD (a .bytes .now) 0 0))) (a .bytes .now)
+unfolding readOf pick
+passed c =
+    let t = c .before .before .before in
+    rw (le-ltb _ _ (t .before .if1 .left), le-ltb _ _ (t .if2 .left), eq-eqb _ _ (c .before .if3 .left))
+
+refused-requires : tie.Need-refused-requires
+refused-requires c κs = search needs
+
+returns : tie.Need-returns
+unfolding readOf pick
+returns c = rw (lt-ltb _ _ (c .before .if1 .taken), c .refused .ensures)
+
+refused-requires-2 : tie.Need-refused-requires-2
+refused-requires-2 c κs = search needs
+
+returns-2 : tie.Need-returns-2
+unfolding readOf pick
+returns-2 c =
+    rw (le-ltb _ _ (c .before .before .if1 .left), lt-ltb _ _ (c .before .if2 .taken), c .refused2 .ensures)
+
+shared-slice-read-if3 : tie.Need-shared-slice-read-if3
+shared-slice-read-if3 c = search needs
+
+refused-requires-3 : tie.Need-refused-requires-3
+refused-requires-3 c κs = search needs
+
+returns-3 : tie.Need-returns-3
+unfolding readOf pick
+returns-3 c =
+    let t = c .before .before .before in
+    rw (
+      le-ltb _ _ (t .before .if1 .left),
+      le-ltb _ _ (t .if2 .left),
+      ne-eqb _ _ (c .before .if3 .taken),
+      c .refused3 .ensures,
+    )
+
+shared-slice-read-find-among : tie.Need-shared-slice-read-find-among
+shared-slice-read-find-among c = search needs
+
+find-among-requires : tie.Need-find-among-requires
+find-among-requires c κs = search needs
+
+enum-told : tie.Need-enum-told
+enum-told c = search needs
+
+refused-requires-4 : tie.Need-refused-requires-4
+refused-requires-4 c κs = search needs
+
+enum-known-row : tie.Need-enum-known-row
+enum-known-row c = search needs
+
+typed-requires : tie.Need-typed-requires
+typed-requires c κs =
+    let e = sym (c .before .before .before .find-among .ensures) ∙ c .before .row .given .1 in
+    (sound _ _ (admitted _ _ _ e), omega arith)
+
+returns-4 : tie.Need-returns-4
+unfolding readTyped
+returns-4 c =
+    let f = c .before .before .before in
+    rw (passed (f .before), ← f .find-among .ensures, c .before .enum-told .given .1, c .refused4 .ensures)
+
+returns-5 : tie.Need-returns-5
+unfolding readTyped
+returns-5 c =
+    let f = c .before .before .before .before in
+    rw (passed (f .before), ← f .find-among .ensures, c .before .before .row .given .1, c .typed .ensures)
+
+pub among-spec : {M : Type 1} → statement M
+among-spec =
+    tie.close
+    (tie.spec
+    refused-requires
+    returns
+    refused-requires-2
+    returns-2
+    shared-slice-read-if3
+    refused-requires-3
+    returns-3
+    shared-slice-read-find-among
+    find-among-requires
+    enum-told
+    refused-requires-4
+    enum-known-row
+    typed-requires
+    returns-4
+    returns-5)

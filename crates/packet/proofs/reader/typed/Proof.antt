@@ -1,0 +1,80 @@
+-- `packet::reader::typed` meets its contract. What `whole` requires, that the sections lie inside the packet, holds of sections that are found.
+use borrow.Author.Needs.{needs}
+use borrow.Author.Tests.{not-true, not-false}
+use mathlib.Core.Path.{_≡_, sym, _∙_}
+use Rattle.laws.specs.Choose.{pick}
+use Rattle.packet.specs.Reading.{readFlags, readSections}
+use Rattle.packet.specs.Sections.{extentOf}
+use Rattle.packet.proofs.ReadingLaws.{extent-inside}
+use Rattle.packet.proofs.reader.typed.Statement.{statement}
+use Rattle.packet.proofs.reader.typed.Tie as tie
+
+-- past the test of the flags, the sections are read
+passed : (c : tie.Else1) → let w = c .before .before in let a = w .before .before .args in
+    readFlags (a .row) (a .bytes .now)
+    ≡ readSections (a .row) (w .read-u16 .result) (a .bytes .now) (extentOf (a .row) (w .read-u16 .result) (a .bytes .now))
+unfolding readFlags pick
+passed c =
+    let f = c .before in
+    rw (← f .before .read-u16 .ensures, ← f .fit .ensures, not-false (f .fit .result) (c .if1 .left))
+
+read-u16-requires : tie.Need-read-u16-requires
+read-u16-requires c κs = search needs
+
+fit-requires : tie.Need-fit-requires
+fit-requires c κs = search needs
+
+refused-requires : tie.Need-refused-requires
+refused-requires c κs = search needs
+
+returns : tie.Need-returns
+unfolding readFlags pick
+returns c =
+    let f = c .before .before in
+    let e = not-true (f .fit .result) (c .before .if1 .taken) in
+    rw (← f .before .read-u16 .ensures, ← f .fit .ensures, e, c .refused .ensures)
+
+find-requires : tie.Need-find-requires
+find-requires c κs = search needs
+
+enum-told : tie.Need-enum-told
+enum-told c = search needs
+
+refused-requires-2 : tie.Need-refused-requires-2
+refused-requires-2 c κs = search needs
+
+enum-known-at : tie.Need-enum-known-at
+enum-known-at c = search needs
+
+whole-requires : tie.Need-whole-requires
+whole-requires c κs =
+    let s = c .before .before .before .before .before .before .before .before .pre .0 in
+    (s, extent-inside _ _ _ _ s (sym (c .before .before .before .find .ensures) ∙ c .before .at .given .1))
+
+returns-2 : tie.Need-returns-2
+unfolding readSections
+returns-2 c =
+    let f = c .before .before .before in
+    rw (passed (f .before), ← f .find .ensures, c .before .enum-told .given .1, c .refused2 .ensures)
+
+returns-3 : tie.Need-returns-3
+unfolding readSections
+returns-3 c =
+    let f = c .before .before .before .before in
+    rw (passed (f .before), ← f .find .ensures, c .before .before .at .given .1, c .whole .ensures)
+
+pub typed-spec : {M : Type 1} → statement M
+typed-spec =
+    tie.close
+    (tie.spec
+    read-u16-requires
+    fit-requires
+    refused-requires
+    returns
+    find-requires
+    enum-told
+    refused-requires-2
+    enum-known-at
+    whole-requires
+    returns-2
+    returns-3)

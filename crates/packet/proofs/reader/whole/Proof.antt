@@ -1,0 +1,36 @@
+-- `packet::reader::whole` meets its contract.
+use borrow.Author.Needs.{needs}
+use borrow.Author.Tests.{not-true, not-false}
+use Rattle.laws.specs.Choose.{pick}
+use Rattle.packet.specs.Reading.{packetIn, readLengths}
+use Rattle.packet.proofs.reader.whole.Statement.{statement}
+use Rattle.packet.proofs.reader.whole.Tie as tie
+
+header-requires : tie.Need-header-requires
+header-requires c κs = search needs
+
+sub-size : tie.Need-sub-size
+sub-size c = search needs
+
+fit-requires : tie.Need-fit-requires
+fit-requires c κs = search needs
+
+refused-requires : tie.Need-refused-requires
+refused-requires c κs = search needs
+
+returns : tie.Need-returns
+unfolding readLengths packetIn pick
+returns c =
+    let f = c .before .before in
+    let e = not-true (f .fit .result) (c .before .if1 .taken) in
+    rw (← f .before .before .header .ensures, ← f .fit .ensures, e, c .refused .ensures)
+
+returns-2 : tie.Need-returns-2
+unfolding readLengths packetIn pick
+returns-2 c =
+    let f = c .before .before in
+    rw (← f .before .before .header .ensures, ← f .fit .ensures, not-false (f .fit .result) (c .before .if1 .left))
+
+pub whole-spec : {M : Type 1} → statement M
+whole-spec =
+    tie.close (tie.spec header-requires sub-size fit-requires refused-requires returns returns-2)

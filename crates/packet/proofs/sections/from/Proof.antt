@@ -1,0 +1,51 @@
+-- `packet::sections::from` meets its contract. The sums do not wrap: CQ data and connid have at most 8 bytes each.
+use borrow.Author.Needs.{needs}
+use borrow.Author.Tests.{lt-ltb, le-ltb}
+use native.Mathlib.Omega.{arith}
+use Rattle.laws.specs.Choose.{pick}
+use Rattle.packet.specs.Sections.{sectionsFrom}
+use Rattle.packet.proofs.ReadingLaws.{options-short}
+use Rattle.packet.proofs.sections.from.Statement.{statement}
+use Rattle.packet.proofs.sections.from.Tie as tie
+
+cq-data-length-requires : tie.Need-cq-data-length-requires
+cq-data-length-requires c κs = search needs
+
+add-after : tie.Need-add-after
+add-after c = omega (arith, options-short (c .before .args .row) (c .before .args .flags) (c .before .pre .0))
+
+connid-length-requires : tie.Need-connid-length-requires
+connid-length-requires c κs = search needs
+
+add-data-at : tie.Need-add-data-at
+add-data-at c =
+    let s = c .before .before in
+    omega (arith, options-short (s .args .row) (s .args .flags) (s .pre .0))
+
+returns : tie.Need-returns
+unfolding sectionsFrom pick
+returns c =
+    let w = c .before in
+    rw (← w .connid-length .ensures, ← w .before .cq-data-length .ensures, lt-ltb _ _ (c .if1 .taken))
+
+connid-at-requires : tie.Need-connid-at-requires
+connid-at-requires c κs = search needs
+
+returns-2 : tie.Need-returns-2
+unfolding sectionsFrom pick
+returns-2 c =
+    let w = c .before .before in
+    let e = le-ltb _ _ (c .before .if1 .left) in
+    rw (c .connid-at .ensures, ← w .connid-length .ensures, ← w .before .cq-data-length .ensures, e)
+
+pub from-spec : {M : Type 1} → statement M
+from-spec =
+    tie.close
+    (tie.spec
+    cq-data-length-requires
+    add-after
+    connid-length-requires
+    add-data-at
+    returns
+    connid-at-requires
+    returns-2)

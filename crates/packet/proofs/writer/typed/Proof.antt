@@ -1,0 +1,142 @@
+-- `packet::writer::typed` meets its contract. The length that `total` answers is the packet's.
+use Prim.Native.Nat.{_≤_}
+use borrow.Author.Needs.{needs}
+use borrow.Author.Tests.{not-true, not-false, lt-ltb, le-ltb}
+use lib.ListN.{length}
+use mathlib.Core.Path.{_≡_, sym, _∙_}
+use native.Mathlib.Omega.{arith}
+use Rattle.laws.specs.Choose.{pick}
+use Rattle.packet.specs.Totals.{limitedTo}
+use Rattle.packet.specs.Writing.{packetBytes, writeAs, writeBytes}
+use Rattle.packet.proofs.WritingLaws.{limited-above, limited-bytes, total-is}
+use Rattle.packet.proofs.writer.typed.Statement.{statement}
+use Rattle.packet.proofs.writer.typed.Tie as tie
+
+-- past the tests of flags and lengths, the bytes are written
+passed : (c : tie.Else2) → let a = c .before .before .before .before .before .before .before .before .before .args in
+    writeAs (a .row) (a .header) (a .raw .now) (a .«data» .now) (a .out .now)
+    ≡ writeBytes (packetBytes (a .row) (a .header) (a .raw .now) (a .«data» .now)) (a .out .now)
+unfolding writeAs pick
+passed c =
+    let f2 = c .before in
+    let f1 = f2 .before .before .before in
+    let e1 = not-false (f1 .fit .result) (f2 .before .before .if1 .left) in
+    let e2 = not-false (f2 .fit2 .result) (c .if2 .left) in
+    rw (← f1 .before .written .ensures, ← f1 .fit .ensures, e1, ← f2 .fit2 .ensures, e2)
+
+-- `total` answers the packet's length, if the limit allows it
+answered : (c : tie.After-total) → let a = c .before .before .before .before .before .before .before .before .before .before .args in
+    limitedTo (length (packetBytes (a .row) (a .header) (a .raw .now) (a .«data» .now))) ≡ c .total .result
+answered c =
+    let w = c .before .before .before .before .before .before in
+    let s = w .before .before .before .before in
+    let a = s .args in
+    sym (total-is (a .row) (a .header) (a .raw .now) (a .«data» .now) (s .pre)) ∙ sym (rw (w .written .ensures) at (c .total .ensures))
+
+measured : (c : tie.After-known-told) →
+    let a = c .before .before .before .before .before .before .before .before .before .before .before .before .before .args in
+    let bytes = packetBytes (a .row) (a .header) (a .raw .now) (a .«data» .now) in
+    (length bytes ≡ c .before .n .given .0 .0) × (length bytes ≤ 8192)
+measured c = limited-bytes _ _ (answered (c .before .before .before) ∙ c .before .n .given .1)
+
+written-requires : tie.Need-written-requires
+written-requires c κs = search needs
+
+fit-requires : tie.Need-fit-requires
+fit-requires c κs = search needs
+
+refused-requires : tie.Need-refused-requires
+refused-requires c κs = search needs
+
+returns : tie.Need-returns
+unfolding writeAs pick
+returns c =
+    let f = c .before .before in
+    let e = not-true (f .fit .result) (c .before .if1 .taken) in
+    rw (← f .before .written .ensures, ← f .fit .ensures, e, c .refused .ensures)
+
+fit-requires-2 : tie.Need-fit-requires-2
+fit-requires-2 c κs = search needs
+
+refused-requires-2 : tie.Need-refused-requires-2
+refused-requires-2 c κs = search needs
+
+returns-2 : tie.Need-returns-2
+unfolding writeAs pick
+returns-2 c =
+    let f2 = c .before .before in
+    let f1 = f2 .before .before .before in
+    let e1 = not-false (f1 .fit .result) (f2 .before .before .if1 .left) in
+    let e2 = not-true (f2 .fit2 .result) (c .before .if2 .taken) in
+    rw (← f1 .before .written .ensures, ← f1 .fit .ensures, e1, ← f2 .fit2 .ensures, e2, c .refused2 .ensures)
+
+total-requires : tie.Need-total-requires
+total-requires c κs = search needs
+
+enum-told : tie.Need-enum-told
+enum-told c = search needs
+
+refused-requires-3 : tie.Need-refused-requires-3
+refused-requires-3 c κs = search needs
+
+enum-known-n : tie.Need-enum-known-n
+enum-known-n c = search needs
+
+refused-requires-4 : tie.Need-refused-requires-4
+refused-requires-4 c κs = search needs
+
+returns-3 : tie.Need-returns-3
+unfolding writeBytes pick
+returns-3 c =
+    let t = c .before .before in
+    let m = measured t in
+    let k = rw (← m .0) at (c .before .if3 .taken) in
+    rw (passed (t .before .before .before .before), le-ltb 8192 _ (m .1), lt-ltb _ _ k, c .refused4 .ensures)
+
+put-requires : tie.Need-put-requires
+put-requires c κs =
+    let t = c .before .before in
+    let w = t .before .before .before .before .before .before .before .before .before in
+    let m = measured t in
+    (w .before .before .before .before .pre, (w .written .ensures, (m .1, omega arith)))
+
+returns-4 : tie.Need-returns-4
+unfolding writeBytes pick
+returns-4 c =
+    let t = c .before .before .before in
+    let e = limited-above _ (answered t ∙ c .before .enum-told .given .1) in
+    rw (passed (t .before), lt-ltb 8192 _ e, c .refused3 .ensures)
+
+same-length : tie.Need-same-length
+same-length c = search needs
+
+returns-5 : tie.Need-returns-5
+unfolding writeBytes pick
+returns-5 c =
+    let w = c .before .before in
+    let t = w .before .before .before in
+    let m = measured t in
+    let k = rw (← m .0) at (w .before .before .if3 .left) in
+    rw (passed (t .before .before .before .before), le-ltb 8192 _ (m .1), le-ltb _ _ k, w .put .ensures, m .0)
+
+pub typed-spec : {M : Type 1} → statement M
+typed-spec =
+    tie.close
+    (tie.spec
+    written-requires
+    fit-requires
+    refused-requires
+    returns
+    fit-requires-2
+    refused-requires-2
+    returns-2
+    total-requires
+    enum-told
+    refused-requires-3
+    enum-known-n
+    refused-requires-4
+    returns-3
+    put-requires
+    returns-4
+    same-length
+    returns-5)

@@ -1,0 +1,49 @@
+-- `packet::writer::write` meets its contract. What `typed` requires, the rule of the table, holds of a row that is found.
+use borrow.Author.Needs.{needs}
+use mathlib.Core.Path.{sym, _∙_}
+use Rattle.packet.specs.Writing.{writeOf, writeTyped}
+use Rattle.packet.proofs.TableRule.{sound}
+use Rattle.packet.proofs.writer.write.Statement.{statement}
+use Rattle.packet.proofs.writer.write.Tie as tie
+
+find-requires : tie.Need-find-requires
+find-requires c κs = search needs
+
+enum-told : tie.Need-enum-told
+enum-told c = search needs
+
+refused-requires : tie.Need-refused-requires
+refused-requires c κs = search needs
+
+enum-known-row : tie.Need-enum-known-row
+enum-known-row c = search needs
+
+typed-requires : tie.Need-typed-requires
+typed-requires c κs = sound _ _ (sym (c .before .before .before .before .find .ensures) ∙ c .before .before .row .given .1)
+
+returns : tie.Need-returns
+unfolding writeOf writeTyped
+returns c =
+    rw (← c .before .before .before .find .ensures, c .before .enum-told .given .1, c .refused .ensures)
+
+same-length : tie.Need-same-length
+same-length c = search needs
+
+returns-2 : tie.Need-returns-2
+unfolding writeOf writeTyped
+returns-2 c =
+    let r = c .before .before .before .before .before in
+    rw (← r .before .before .find .ensures, r .row .given .1, c .before .before .typed .ensures)
+
+pub write-spec : {M : Type 1} → statement M
+write-spec =
+    tie.close
+    (tie.spec
+    find-requires
+    enum-told
+    refused-requires
+    enum-known-row
+    typed-requires
+    returns
+    same-length
+    returns-2)

@@ -1,0 +1,13 @@
+pub mod Types
+pub mod Flags
+pub mod Layout
+pub mod Lengths
+pub mod Options
+pub mod Refusals
+pub mod Sections
+pub mod Reading
+pub mod Writing
+pub mod Totals
+pub mod Rules
+pub mod Values
+pub mod RoundTrip

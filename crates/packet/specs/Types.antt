@@ -1,0 +1,41 @@
+-- The table of packet types (01: "One constant table, keyed by type, gives mandatory header lengths").
+use Prim.Native.Nat.{ℕ}
+use mathlib.Core.List.{List, [], _∷_}
+use mathlib.Core.Bool.{Bool, true, false, _||_}
+use lib.Dec.{eqb}
+use Rattle.laws.specs.Choose.{pick}
+use Rattle.packet.specs.declared.table.TypeRow.{TypeRow}
+use Rattle.packet.specs.declared.table.Shape.{Shape}
+use Rattle.packet.specs.declared.table.Shape.the-variants.{Cts, CtsData, Eager, Medium, LongCts}
+use Rattle.packet.specs.declared.table.Found.{Found}
+use Rattle.packet.specs.declared.table.Found.the-variants.{Row, Unknown}
+
+-- type, shape; bytes of the mandatory header, of multiuse and of the connid header; tagged, served; flags it must have, flags it may have
+abbrev pub row : ℕ → Shape → ℕ → ℕ → ℕ → Bool → Bool → ℕ → ℕ → TypeRow
+row k s h m c t e must may =
+    record { kind = k; shape = s; header = h; multiuse = m; connid = c; tagged = t; served = e; must = must; may = may }
+
+abbrev pub rows : List TypeRow
+rows =
+    row 3 Cts 24 4 0 false false 0x0 0x8000
+    ∷ row 4 CtsData 24 0 8 false true 0x0 0x8000
+    ∷ row 64 Eager 8 0 4 false true 0x4 0x8003
+    ∷ row 65 Eager 16 0 4 true true 0xc 0x8003
+    ∷ row 66 Medium 24 0 4 false true 0x4 0x8003
+    ∷ row 67 Medium 32 0 4 true true 0xc 0x8003
+    ∷ row 68 LongCts 24 0 4 false true 0x4 0x8003
+    ∷ row 69 LongCts 32 0 4 true true 0xc 0x8003
+    ∷ []
+
+-- the first row of a table with this type
+unfoldable pub rowIn : List TypeRow → ℕ → Found
+rowIn [] k = Unknown
+rowIn (r ∷ rs) k = pick (eqb (r .kind) k) (Row r) (rowIn rs k)
+
+unfoldable pub rowOf : ℕ → Found
+rowOf k = rowIn rows k
+
+-- what is found among all types, or only among those that the engine serves (01, refusal 9: "type not in the table; in the engine, CTS too")
+unfoldable pub admit : Bool → Found → Found
+admit all Unknown = Unknown
+admit all (Row r) = pick (all || r .served) (Row r) Unknown

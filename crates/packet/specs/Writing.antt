@@ -1,0 +1,67 @@
+-- Writing a packet: its bytes, and the checks in 01's order (9, 10, 11, 6, 21). Refused, the buffer stays; written, bytes past the packet stay.
+use Prim.Native.Nat.{ℕ}
+use mathlib.Core.List.{List, _∷_, _++_}
+use lib.Dec.{ltb}
+use lib.ListN.{length}
+use Rattle.laws.specs.Choose.{pick}
+use Rattle.laws.specs.Parts.{storeAt}
+use Rattle.wire.specs.LittleEndian.{leBytes}
+use Rattle.packet.specs.declared.table.TypeRow.{TypeRow}
+use Rattle.packet.specs.declared.table.Found.{Found}
+use Rattle.packet.specs.declared.table.Found.the-variants.{Row, Unknown}
+use Rattle.packet.specs.declared.types.Header.{Header}
+use Rattle.packet.specs.declared.types.Refusal.{Refusal}
+use Rattle.packet.specs.declared.types.Written.{Written}
+use Rattle.packet.specs.Types.{rowOf}
+use Rattle.packet.specs.Flags.{flagsOf, flagsFit}
+use Rattle.packet.specs.Layout.{layout, fieldBytes}
+use Rattle.packet.specs.Lengths.{lengthsFit}
+use Rattle.packet.specs.Options.{multiuseBytes, rawAddressBytes, cqDataBytes, connidBytes}
+use Rattle.packet.specs.Refusals.{aboveLimit, badType, badFlags, badLength, noRoom}
+
+-- type 1, version 1, flags 2
+unfoldable pub baseBytes : ℕ → ℕ → List ℕ
+baseBytes kind flags = kind ∷ 4 ∷ leBytes 2 flags
+
+-- the mandatory header
+unfoldable pub mandatoryBytes : TypeRow → Header → List ℕ
+mandatoryBytes r h = baseBytes (r .kind) (flagsOf r h) ++ multiuseBytes r (h .connid) ++ fieldBytes (layout r) (h .fields)
+
+-- the bytes of a packet
+unfoldable pub packetBytes : TypeRow → Header → List ℕ → List ℕ → List ℕ
+packetBytes r h raw body =
+    mandatoryBytes r h
+    ++ rawAddressBytes (h .«raw_address») raw
+    ++ cqDataBytes (h .«cq_data»)
+    ++ connidBytes r (h .connid)
+    ++ body
+
+-- what a call of the writer leaves: its answer, and the lent buffer
+pub record Outcome : Type 0 where
+  pub answer : Written
+  pub out : List ℕ
+
+abbrev pub refused : Refusal → List ℕ → Outcome
+refused k out = record { answer = Written.Refused k; out = out }
+
+-- refusals 6 and 21, then the packet
+unfoldable pub writeBytes : List ℕ → List ℕ → Outcome
+writeBytes bytes out =
+    pick (ltb 8192 (length bytes)) (refused aboveLimit out)
+    (pick (ltb (length out) (length bytes)) (refused noRoom out)
+    (record { answer = Written.Length (length bytes); out = storeAt out 0 bytes }))
+
+-- refusals 10 (an optional header that its type can't have) and 11
+unfoldable pub writeAs : TypeRow → Header → List ℕ → List ℕ → List ℕ → Outcome
+writeAs r h raw body out =
+    pick (flagsFit r (flagsOf r h))
+    (pick (lengthsFit (r .shape) (h .fields) (length body)) (writeBytes (packetBytes r h raw body) out) (refused badLength out))
+    (refused badFlags out)
+
+-- refusal 9
+unfoldable pub writeTyped : Found → Header → List ℕ → List ℕ → List ℕ → Outcome
+writeTyped Unknown h raw body out = refused badType out
+writeTyped (Row r) h raw body out = writeAs r h raw body out
+
+unfoldable pub writeOf : Header → List ℕ → List ℕ → List ℕ → Outcome
+writeOf h raw body out = writeTyped (rowOf (h .kind)) h raw body out

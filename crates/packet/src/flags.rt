@@ -1,0 +1,67 @@
+// Flags of a packet.
+use crate::table::TypeRow;
+use crate::types::Connid;
+use crate::types::CqData;
+use crate::types::Header;
+ghost use mathlib.Core.Path.{_≡_};
+ghost use Prim.Native.Nat.{_<_, _≤_};
+ghost use Rattle.packet.specs.Flags.{hasFlag, flagsFit, flagsOf, rawAddressBit, cqDataBit, connidBit};
+
+pub(crate) const RAW_ADDRESS: u16 = 0x1;
+
+pub(crate) const CQ_DATA: u16 = 0x2;
+
+pub(crate) const CONNID: u16 = 0x8000;
+
+// Whether a flag is set.
+pub(crate) fn has(flags: u16, flag: u16) -> bool
+    requires { ⌜ 0 < flag ⌝ }
+    ensures { λ r. ⌜ r ≡ hasFlag flags flag ⌝ }
+{
+    flags / flag % 2 == 1
+}
+
+// Whether a packet of this type may have these flags.
+pub(crate) fn fit(row: TypeRow, flags: u16) -> bool
+    ensures { λ r. ⌜ r ≡ flagsFit row flags ⌝ }
+{
+    let optional = flags & row.may;
+    flags - optional == row.must
+}
+
+fn raw_address_bit(there: bool) -> u16
+    ensures { λ r. ⌜ r ≡ rawAddressBit there ⌝ }
+{
+    if there { RAW_ADDRESS } else { 0 }
+}
+
+fn cq_data_bit(cq_data: CqData) -> u16
+    ensures { λ r. ⌜ r ≡ cqDataBit «cq_data» ⌝ }
+{
+    match cq_data {
+        CqData::Absent => 0,
+        CqData::Present(_) => CQ_DATA,
+    }
+}
+
+fn connid_bit(connid: Connid) -> u16
+    ensures { λ r. ⌜ r ≡ connidBit connid ⌝ }
+{
+    match connid {
+        Connid::Absent => 0,
+        Connid::Present(_) => CONNID,
+    }
+}
+
+// The flags that a packet with these optional headers is written with.
+pub(crate) fn written(row: TypeRow, header: Header) -> u16
+    requires { ⌜ row .must ≤ 12 ⌝ }
+    ensures { λ r. ⌜ r ≡ flagsOf row header ⌝ }
+{
+    let raw = raw_address_bit(header.raw_address);
+    let cq_data = header.cq_data;
+    let cq = cq_data_bit(cq_data);
+    let connid = header.connid;
+    let id = connid_bit(connid);
+    row.must + raw + cq + id
+}

@@ -1,0 +1,118 @@
+// The optional headers, read from a packet and written into one. A writer answers where the next
+// header begins.
+use crate::flags;
+use crate::flags::CONNID;
+use crate::flags::CQ_DATA;
+use crate::table::TypeRow;
+use crate::types::Connid;
+use crate::types::CqData;
+ghost use mathlib.Core.Path.{_≡_};
+ghost use mathlib.Core.Bool.{true};
+ghost use Prim.Native.Nat.{_+_, _≤_, _<_, _^_};
+ghost use lib.ListN.{length};
+ghost use Rattle.laws.specs.Parts.{storeAt};
+ghost use Rattle.packet.specs.Flags.{hasFlag, cqDataFlag, connidFlag};
+ghost use Rattle.packet.specs.Options.{rawAddressBytes, cqDataBytes, connidBytes, multiuseBytes, cqDataIn, connidIn};
+ghost use Rattle.wire.specs.LittleEndian.{leBytes};
+ghost use Rattle.packet.specs.Rules.{Sound, NumberWidth};
+
+pub(crate) fn read_cq_data(flags: u16, bytes: &[u8], at: usize) -> CqData
+    requires { ⌜ (hasFlag flags cqDataFlag ≡ true → at + 8 ≤ length (now bytes)) ⌝ }
+    ensures { λ r. ⌜ r ≡ cqDataIn flags (now (bytes .entry)) at ⌝ }
+{
+    if flags::has(flags, CQ_DATA) {
+        CqData::Present(wire::read_u64(bytes, at))
+    } else {
+        CqData::Absent
+    }
+}
+
+pub(crate) fn read_connid(flags: u16, bytes: &[u8], at: usize) -> Connid
+    requires { ⌜ (hasFlag flags connidFlag ≡ true → at + 4 ≤ length (now bytes)) ⌝ }
+    ensures { λ r. ⌜ r ≡ connidIn flags (now (bytes .entry)) at ⌝ }
+{
+    if flags::has(flags, CONNID) {
+        Connid::Present(wire::read_u32(bytes, at))
+    } else {
+        Connid::Absent
+    }
+}
+
+// Bytes are copied to their place.
+pub(crate) fn write_bytes(out: &mut [u8], at: usize, bytes: &[u8]) -> usize
+    requires { ⌜ at + length (now bytes) ≤ length (now out) ⌝ }
+    ensures { λ r. ⌜ (r ≡ at + length (now (bytes .entry))) × (now (out .exit) ≡ storeAt (now (out .entry)) at (now (bytes .entry))) ⌝ }
+{
+    let mut i: usize = 0;
+    while i < bytes.len() {
+        out[at + i] = bytes[i];
+        i += 1;
+    }
+    at + i
+}
+
+pub(crate) fn write_raw_address(out: &mut [u8], at: usize, there: bool, raw: &[u8]) -> usize
+    requires { ⌜ at + length (rawAddressBytes there (now raw)) ≤ length (now out) ⌝ }
+    requires { ⌜ (there ≡ true → length (now raw) < 2 ^ 32) ⌝ }
+    ensures { λ r. ⌜ (r ≡ at + length (rawAddressBytes there (now (raw .entry)))) × (now (out .exit) ≡ storeAt (now (out .entry)) at (rawAddressBytes there (now (raw .entry)))) ⌝ }
+{
+    if !there {
+        return at;
+    }
+    wire::write_u32(out, at, raw.len() as u32);
+    write_bytes(out, at + 4, raw)
+}
+
+pub(crate) fn write_cq_data(out: &mut [u8], at: usize, cq_data: CqData) -> usize
+    requires { ⌜ at + length (cqDataBytes «cq_data») ≤ length (now out) ⌝ }
+    ensures { λ r. ⌜ (r ≡ at + length (cqDataBytes «cq_data»)) × (now (out .exit) ≡ storeAt (now (out .entry)) at (cqDataBytes «cq_data»)) ⌝ }
+{
+    match cq_data {
+        CqData::Absent => at,
+        CqData::Present(value) => {
+            wire::write_u64(out, at, value);
+            at + 8
+        }
+    }
+}
+
+// A number in 0, 4 or 8 bytes.
+fn write_number(out: &mut [u8], at: usize, width: usize, x: u32) -> usize
+    requires { ⌜ NumberWidth width ⌝ }
+    requires { ⌜ at + width ≤ length (now out) ⌝ }
+    ensures { λ r. ⌜ (r ≡ at + width) × (now (out .exit) ≡ storeAt (now (out .entry)) at (leBytes width x)) ⌝ }
+{
+    if width == 0 {
+        return at;
+    }
+    if width == 4 {
+        wire::write_u32(out, at, x);
+        return at + 4;
+    }
+    wire::write_u64(out, at, x as u64);
+    at + 8
+}
+
+// The connid and its padding, of `row.connid` bytes.
+pub(crate) fn write_connid(out: &mut [u8], at: usize, row: TypeRow, connid: Connid) -> usize
+    requires { ⌜ Sound row ⌝ }
+    requires { ⌜ at + length (connidBytes row connid) ≤ length (now out) ⌝ }
+    ensures { λ r. ⌜ (r ≡ at + length (connidBytes row connid)) × (now (out .exit) ≡ storeAt (now (out .entry)) at (connidBytes row connid)) ⌝ }
+{
+    match connid {
+        Connid::Absent => at,
+        Connid::Present(value) => write_number(out, at, row.connid, value),
+    }
+}
+
+// The multiuse field, of `row.multiuse` bytes.
+pub(crate) fn write_multiuse(out: &mut [u8], row: TypeRow, connid: Connid) -> usize
+    requires { ⌜ Sound row ⌝ }
+    requires { ⌜ 4 + length (multiuseBytes row connid) ≤ length (now out) ⌝ }
+    ensures { λ r. ⌜ (r ≡ 4 + length (multiuseBytes row connid)) × (now (out .exit) ≡ storeAt (now (out .entry)) 4 (multiuseBytes row connid)) ⌝ }
+{
+    match connid {
+        Connid::Absent => write_number(out, 4, row.multiuse, 0),
+        Connid::Present(value) => write_number(out, 4, row.multiuse, value),
+    }
+}

@@ -1,0 +1,128 @@
+// Reading a packet: its checks in their order, then its numbers and where its bytes lie.
+use crate::flags;
+use crate::flags::RAW_ADDRESS;
+use crate::layout;
+use crate::lengths;
+use crate::options;
+use crate::sections;
+use crate::sections::Extent;
+use crate::sections::Sections;
+use crate::table;
+use crate::table::Found;
+use crate::table::TypeRow;
+use crate::types::ABOVE_LIMIT;
+use crate::types::BAD_FLAGS;
+use crate::types::BAD_LENGTH;
+use crate::types::BAD_TYPE;
+use crate::types::BAD_VERSION;
+use crate::types::CUT_SHORT;
+use crate::types::Header;
+use crate::types::Packet;
+use crate::types::Read;
+use crate::types::Refusal;
+use crate::types::Span;
+use crate::types::VERSION;
+ghost use mathlib.Core.Path.{_≡_};
+ghost use mathlib.Core.Bool.{true, false};
+ghost use Prim.Native.Nat.{_≤_};
+ghost use lib.ListN.{length};
+ghost use Rattle.packet.specs.Reading.{headerIn, packetIn, readLengths, readFlags, readOf};
+ghost use Rattle.packet.specs.Refusals.{refusal};
+ghost use Rattle.packet.specs.Rules.{Sound, Inside};
+
+fn refused(number: u8) -> Read
+    ensures { λ r. ⌜ r ≡ Read.Refused (refusal number) ⌝ }
+{
+    Read::Refused(Refusal { number })
+}
+
+// The numbers of a packet whose sections are known.
+fn header(row: TypeRow, flags: u16, bytes: &[u8], at: Sections) -> Header
+    requires { ⌜ Sound row ⌝ }
+    requires { ⌜ Inside row flags at (length (now bytes)) ⌝ }
+    ensures { λ r. ⌜ r ≡ headerIn row flags (now (bytes .entry)) at ⌝ }
+{
+    let fields = layout::read(row, bytes);
+    let cq_at = at.cq_at;
+    let cq_data = options::read_cq_data(flags, bytes, cq_at);
+    let connid_at = at.connid_at;
+    let connid = options::read_connid(flags, bytes, connid_at);
+    Header {
+        kind: row.kind,
+        fields,
+        raw_address: flags::has(flags, RAW_ADDRESS),
+        cq_data,
+        connid,
+    }
+}
+
+// A packet whose headers are whole: its lengths are checked.
+fn whole(row: TypeRow, flags: u16, bytes: &[u8], at: Sections) -> Read
+    requires { ⌜ Sound row ⌝ }
+    requires { ⌜ Inside row flags at (length (now bytes)) ⌝ }
+    ensures { λ r. ⌜ r ≡ readLengths row (packetIn row flags (now (bytes .entry)) at) ⌝ }
+{
+    let header = header(row, flags, bytes, at);
+    let data_at = at.data_at;
+    let size = bytes.len() - data_at;
+    let shape = row.shape;
+    let fields = header.fields;
+    if !lengths::fit(shape, fields, size) {
+        return refused(BAD_LENGTH);
+    }
+    let raw_address = at.raw;
+    Read::Packet(Packet {
+        header,
+        raw_address,
+        data: Span { at: data_at, size },
+    })
+}
+
+// A packet of a known type: its flags, then its headers.
+fn typed(row: TypeRow, bytes: &[u8]) -> Read
+    requires { ⌜ Sound row ⌝ }
+    requires { ⌜ 4 ≤ length (now bytes) ⌝ }
+    ensures { λ r. ⌜ r ≡ readFlags row (now (bytes .entry)) ⌝ }
+{
+    let flags = wire::read_u16(bytes, 2);
+    if !flags::fit(row, flags) {
+        return refused(BAD_FLAGS);
+    }
+    match sections::find(row, flags, bytes) {
+        Extent::Cut => refused(CUT_SHORT),
+        Extent::Whole(at) => whole(row, flags, bytes, at),
+    }
+}
+
+fn among(bytes: &[u8], limit: usize, all: bool) -> Read
+    ensures { λ r. ⌜ r ≡ readOf all limit (now (bytes .entry)) ⌝ }
+{
+    let n = bytes.len();
+    if limit < n {
+        return refused(ABOVE_LIMIT);
+    }
+    if n < 4 {
+        return refused(CUT_SHORT);
+    }
+    if bytes[1] != VERSION {
+        return refused(BAD_VERSION);
+    }
+    match table::find_among(bytes[0], all) {
+        Found::Unknown => refused(BAD_TYPE),
+        Found::Row(row) => typed(row, bytes),
+    }
+}
+
+// Reads a packet of any type of the table that is at most limit bytes long.
+pub fn read(bytes: &[u8], limit: usize) -> Read
+    ensures { λ r. ⌜ r ≡ readOf true limit (now (bytes .entry)) ⌝ }
+{
+    among(bytes, limit, true)
+}
+
+// The same, of the types that the receive engine serves: a CTS is refused as a type.
+pub fn read_served(bytes: &[u8], limit: usize) -> Read
+    ensures { λ r. ⌜ r ≡ readOf false limit (now (bytes .entry)) ⌝ }
+{
+    among(bytes, limit, false)
+}

@@ -1,0 +1,87 @@
+// Where a packet's optional headers and its data lie.
+use crate::flags;
+use crate::flags::CONNID;
+use crate::flags::CQ_DATA;
+use crate::flags::RAW_ADDRESS;
+use crate::table::TypeRow;
+use crate::types::Span;
+ghost use mathlib.Core.Path.{_≡_};
+ghost use Prim.Native.Nat.{_<_, _^_};
+ghost use Rattle.packet.specs.Sections.{cqDataLength, connidLength, connidAt, sectionsFrom, extentOf};
+ghost use Rattle.packet.specs.Rules.{Sound};
+
+// The raw address, and where CQ data, connid and data begin.
+pub struct Sections {
+    pub raw: Span,
+    pub cq_at: usize,
+    pub connid_at: usize,
+    pub data_at: usize,
+}
+
+pub enum Extent {
+    Whole(Sections),
+    Cut,
+}
+
+// The bytes that CQ data and connid take where they are flagged.
+pub(crate) fn cq_data_length(flags: u16) -> usize
+    ensures { λ r. ⌜ r ≡ cqDataLength flags ⌝ }
+{
+    if flags::has(flags, CQ_DATA) { 8 } else { 0 }
+}
+
+pub(crate) fn connid_length(row: TypeRow, flags: u16) -> usize
+    ensures { λ r. ⌜ r ≡ connidLength row flags ⌝ }
+{
+    if flags::has(flags, CONNID) {
+        row.connid
+    } else {
+        0
+    }
+}
+
+fn connid_at(row: TypeRow, after: usize) -> usize
+    ensures { λ r. ⌜ r ≡ connidAt row after ⌝ }
+{
+    if row.multiuse == 0 { after } else { 4 }
+}
+
+// The sections of a packet of n bytes, whose raw address ends before at.
+fn from(row: TypeRow, flags: u16, raw: Span, at: usize, n: usize) -> Extent
+    requires { ⌜ Sound row ⌝ }
+    requires { ⌜ at < 2 ^ 48 ⌝ }
+    ensures { λ r. ⌜ r ≡ sectionsFrom row flags raw at n ⌝ }
+{
+    let after = at + cq_data_length(flags);
+    let data_at = after + connid_length(row, flags);
+    if n < data_at {
+        return Extent::Cut;
+    }
+    Extent::Whole(Sections {
+        raw,
+        cq_at: at,
+        connid_at: connid_at(row, after),
+        data_at,
+    })
+}
+
+// The sections of a packet with these flags.
+pub(crate) fn find(row: TypeRow, flags: u16, bytes: &[u8]) -> Extent
+    requires { ⌜ Sound row ⌝ }
+    ensures { λ r. ⌜ r ≡ extentOf row flags (now (bytes .entry)) ⌝ }
+{
+    let n = bytes.len();
+    let at = row.header;
+    if n < at {
+        return Extent::Cut;
+    }
+    if !flags::has(flags, RAW_ADDRESS) {
+        return from(row, flags, Span { at: 0, size: 0 }, at, n);
+    }
+    if n - at < 4 {
+        return Extent::Cut;
+    }
+    let size = wire::read_u32(bytes, at) as usize;
+    let start = at + 4;
+    from(row, flags, Span { at: start, size }, start + size, n)
+}

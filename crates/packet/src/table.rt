@@ -1,0 +1,164 @@
+// The table of packet types, which reader and writer share.
+ghost use mathlib.Core.Path.{_≡_};
+ghost use Rattle.packet.specs.Types.{rowOf, admit};
+
+// The fields that a type has of its own. A tagged type has a tag after them.
+pub enum Shape {
+    Cts,
+    CtsData,
+    Eager,
+    Medium,
+    LongCts,
+}
+
+pub struct TypeRow {
+    // the type's number
+    pub kind: u8,
+    pub shape: Shape,
+    // bytes of the mandatory header
+    pub header: usize,
+    // bytes of the multiuse field, which comes before the type's own fields
+    pub multiuse: usize,
+    // bytes that the connid takes after the other optional headers, with its padding
+    pub connid: usize,
+    pub tagged: bool,
+    // whether the receive engine takes such packets
+    pub served: bool,
+    // flags that a packet of the type has, and flags that it may have besides
+    pub must: u16,
+    pub may: u16,
+}
+
+pub enum Found {
+    Row(TypeRow),
+    Unknown,
+}
+
+// Flags that an RTM may have: raw address, CQ data and connid; and that CTS and CTSDATA may have.
+const RTM_MAY: u16 = 0x8003;
+
+const CTS_MAY: u16 = 0x8000;
+
+const TYPES: [TypeRow; 8] = [
+    TypeRow {
+        kind: 3,
+        shape: Shape::Cts,
+        header: 24,
+        multiuse: 4,
+        connid: 0,
+        tagged: false,
+        served: false,
+        must: 0x0,
+        may: CTS_MAY,
+    },
+    TypeRow {
+        kind: 4,
+        shape: Shape::CtsData,
+        header: 24,
+        multiuse: 0,
+        connid: 8,
+        tagged: false,
+        served: true,
+        must: 0x0,
+        may: CTS_MAY,
+    },
+    TypeRow {
+        kind: 64,
+        shape: Shape::Eager,
+        header: 8,
+        multiuse: 0,
+        connid: 4,
+        tagged: false,
+        served: true,
+        must: 0x4,
+        may: RTM_MAY,
+    },
+    TypeRow {
+        kind: 65,
+        shape: Shape::Eager,
+        header: 16,
+        multiuse: 0,
+        connid: 4,
+        tagged: true,
+        served: true,
+        must: 0xc,
+        may: RTM_MAY,
+    },
+    TypeRow {
+        kind: 66,
+        shape: Shape::Medium,
+        header: 24,
+        multiuse: 0,
+        connid: 4,
+        tagged: false,
+        served: true,
+        must: 0x4,
+        may: RTM_MAY,
+    },
+    TypeRow {
+        kind: 67,
+        shape: Shape::Medium,
+        header: 32,
+        multiuse: 0,
+        connid: 4,
+        tagged: true,
+        served: true,
+        must: 0xc,
+        may: RTM_MAY,
+    },
+    TypeRow {
+        kind: 68,
+        shape: Shape::LongCts,
+        header: 24,
+        multiuse: 0,
+        connid: 4,
+        tagged: false,
+        served: true,
+        must: 0x4,
+        may: RTM_MAY,
+    },
+    TypeRow {
+        kind: 69,
+        shape: Shape::LongCts,
+        header: 32,
+        multiuse: 0,
+        connid: 4,
+        tagged: true,
+        served: true,
+        must: 0xc,
+        may: RTM_MAY,
+    },
+];
+
+// The row of a packet type.
+pub(crate) fn find(kind: u8) -> Found
+    ensures { λ r. ⌜ r ≡ rowOf kind ⌝ }
+{
+    let mut i: usize = 0;
+    while i < 8 {
+        let row = TYPES[i];
+        if row.kind == kind {
+            return Found::Row(row);
+        }
+        i += 1;
+    }
+    Found::Unknown
+}
+
+// The same, of all types or only of those that the engine serves.
+pub(crate) fn find_among(kind: u8, all: bool) -> Found
+    ensures { λ r. ⌜ r ≡ admit all (rowOf kind) ⌝ }
+{
+    match find(kind) {
+        Found::Unknown => Found::Unknown,
+        Found::Row(row) => {
+            if all {
+                return Found::Row(row);
+            }
+            if row.served {
+                return Found::Row(row);
+            }
+            Found::Unknown
+        }
+    }
+}

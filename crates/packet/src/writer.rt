@@ -1,0 +1,157 @@
+// Writing a packet: its checks in their order, then its bytes.
+use crate::flags;
+use crate::layout;
+use crate::lengths;
+use crate::options;
+use crate::sections;
+use crate::table;
+use crate::table::Found;
+use crate::table::TypeRow;
+use crate::types::ABOVE_LIMIT;
+use crate::types::BAD_FLAGS;
+use crate::types::BAD_LENGTH;
+use crate::types::BAD_TYPE;
+use crate::types::Header;
+use crate::types::LIMIT;
+use crate::types::NO_ROOM;
+use crate::types::Refusal;
+use crate::types::VERSION;
+use crate::types::Written;
+ghost use mathlib.Core.Path.{_≡_};
+ghost use Prim.Native.Nat.{_≤_, _+_};
+ghost use lib.ListN.{length};
+ghost use Rattle.laws.specs.Parts.{storeAt};
+ghost use Rattle.packet.specs.Flags.{flagsOf};
+ghost use Rattle.packet.specs.Writing.{baseBytes, mandatoryBytes, packetBytes, writeAs, writeOf};
+ghost use Rattle.packet.specs.Refusals.{refusal};
+ghost use Rattle.packet.specs.Totals.{headLength, limitedTo, totalOf};
+ghost use Rattle.packet.specs.Rules.{Sound};
+
+// A packet's length, if the limit allows it.
+pub enum Length {
+    Bytes(usize),
+    Above,
+}
+
+fn refused(number: u8) -> Written
+    ensures { λ r. ⌜ r ≡ Written.Refused (refusal number) ⌝ }
+{
+    Written::Refused(Refusal { number })
+}
+
+// The bytes of the headers without the raw address.
+fn head_length(row: TypeRow, flags: u16) -> usize
+    requires { ⌜ Sound row ⌝ }
+    ensures { λ r. ⌜ r ≡ headLength row flags ⌝ }
+{
+    row.header + sections::cq_data_length(flags) + sections::connid_length(row, flags)
+}
+
+// The length of a packet with these flags and so many bytes of raw address, where it is there, and
+// of data.
+fn total(row: TypeRow, flags: u16, there: bool, raw: usize, size: usize) -> Length
+    requires { ⌜ Sound row ⌝ }
+    ensures { λ r. ⌜ r ≡ totalOf row flags there raw size ⌝ }
+{
+    let head = head_length(row, flags);
+    if LIMIT < size {
+        return Length::Above;
+    }
+    if !there {
+        return limited(head + size);
+    }
+    if LIMIT < raw {
+        return Length::Above;
+    }
+    limited(head + 4 + raw + size)
+}
+
+fn limited(n: usize) -> Length
+    ensures { λ r. ⌜ r ≡ limitedTo n ⌝ }
+{
+    if LIMIT < n {
+        Length::Above
+    } else {
+        Length::Bytes(n)
+    }
+}
+
+// Type, version and flags.
+fn put_base(out: &mut [u8], kind: u8, flags: u16)
+    requires { ⌜ 4 ≤ length (now out) ⌝ }
+    ensures { λ _. ⌜ now (out .exit) ≡ storeAt (now (out .entry)) 0 (baseBytes kind flags) ⌝ }
+{
+    out[0] = kind;
+    out[1] = VERSION;
+    wire::write_u16(out, 2, flags);
+}
+
+// The mandatory header.
+fn put_mandatory(out: &mut [u8], row: TypeRow, header: Header, flags: u16)
+    requires { ⌜ Sound row ⌝ }
+    requires { ⌜ row .header ≤ length (now out) ⌝ }
+    requires { ⌜ flags ≡ flagsOf row header ⌝ }
+    ensures { λ _. ⌜ now (out .exit) ≡ storeAt (now (out .entry)) 0 (mandatoryBytes row header) ⌝ }
+{
+    put_base(out, row.kind, flags);
+    let connid = header.connid;
+    options::write_multiuse(out, row, connid);
+    let fields = header.fields;
+    layout::write(row, fields, out);
+}
+
+// A whole packet.
+fn put(out: &mut [u8], row: TypeRow, header: Header, flags: u16, raw: &[u8], data: &[u8])
+    requires { ⌜ Sound row ⌝ }
+    requires { ⌜ flags ≡ flagsOf row header ⌝ }
+    requires { ⌜ length (packetBytes row header (now raw) (now «data»)) ≤ 8192 ⌝ }
+    requires { ⌜ length (packetBytes row header (now raw) (now «data»)) ≤ length (now out) ⌝ }
+    ensures { λ _. ⌜ now (out .exit) ≡ storeAt (now (out .entry)) 0 (packetBytes row header (now (raw .entry)) (now («data» .entry))) ⌝ }
+{
+    put_mandatory(out, row, header, flags);
+    let after_header = row.header;
+    let after_raw = options::write_raw_address(out, after_header, header.raw_address, raw);
+    let cq_data = header.cq_data;
+    let after_cq = options::write_cq_data(out, after_raw, cq_data);
+    let connid = header.connid;
+    let data_at = options::write_connid(out, after_cq, row, connid);
+    options::write_bytes(out, data_at, data);
+}
+
+// A packet of a known type.
+fn typed(row: TypeRow, header: Header, raw: &[u8], data: &[u8], out: &mut [u8]) -> Written
+    requires { ⌜ Sound row ⌝ }
+    ensures { λ r. ⌜ record { answer = r; out = now (out .exit) } ≡ writeAs row header (now (raw .entry)) (now («data» .entry)) (now (out .entry)) ⌝ }
+{
+    let flags = flags::written(row, header);
+    if !flags::fit(row, flags) {
+        return refused(BAD_FLAGS);
+    }
+    let shape = row.shape;
+    let fields = header.fields;
+    if !lengths::fit(shape, fields, data.len()) {
+        return refused(BAD_LENGTH);
+    }
+    match total(row, flags, header.raw_address, raw.len(), data.len()) {
+        Length::Above => refused(ABOVE_LIMIT),
+        Length::Bytes(n) => {
+            if out.len() < n {
+                return refused(NO_ROOM);
+            }
+            put(out, row, header, flags, raw, data);
+            Written::Length(n)
+        }
+    }
+}
+
+// Writes the packet with these numbers, this raw address, if the header says that it has one, and
+// these data to the start of out, and answers its length. Refused, it leaves out as it was.
+pub fn write(header: Header, raw_address: &[u8], data: &[u8], out: &mut [u8]) -> Written
+    ensures { λ r. ⌜ record { answer = r; out = now (out .exit) } ≡ writeOf header (now («raw_address» .entry)) (now («data» .entry)) (now (out .entry)) ⌝ }
+{
+    let kind = header.kind;
+    match table::find(kind) {
+        Found::Unknown => refused(BAD_TYPE),
+        Found::Row(row) => typed(row, header, raw_address, data, out),
+    }
+}
