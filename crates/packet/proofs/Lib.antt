@@ -9,3 +9,4 @@ pub mod Accepted
 pub mod ReadBack
 pub mod WriteBack
 pub mod RoundTrips
+pub mod Served

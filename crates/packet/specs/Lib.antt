@@ -11,3 +11,4 @@ pub mod Totals
 pub mod Rules
 pub mod Values
 pub mod RoundTrip
+pub mod Cts

@@ -1,0 +1,7 @@
+pub mod BitLaws
+pub mod Counts
+pub mod CoverLaws
+pub mod Edited
+pub mod Runs
+pub mod Stores
+pub mod Word

@@ -1,0 +1,62 @@
+-- Demand 2: each accepted segment writes its own data to its own range, and no other arena byte changes, in every run.
+use Prim.Native.Nat.{ℕ}
+use borrow.Author.Tests.{eq-eqb, ne-eqb}
+use lib.Dec.{eqb}
+use mathlib.Core.List.{List, [], _∷_}
+use mathlib.Core.Path.{_≡_, sym, ap, subst}
+use native.Mathlib.Decide.{ℕ-discrete}
+use Rattle.engine.specs.Steps.{World}
+use Rattle.guarantees.specs.Delivery.{AllWrite, OwnRange, Writes, demanded}
+use Rattle.guarantees.specs.Runs.{Request, Seen, callOf, freshWorld, noStarts, seenAt, turnOf}
+use Rattle.laws.specs.Choose.{pick}
+use Rattle.peer.specs.Expected.{expected}
+use Rattle.peer.specs.Plain.{Plain, enter, freshPlain}
+use Rattle.peer.specs.Starts.{noteStart}
+use Rattle.peer.specs.declared.types.Answer.{Answer}
+use Rattle.guarantees.proofs.Seeing.{fresh-tracks}
+use Rattle.guarantees.proofs.Tracking.{Tracks, other-tracks, own-seen, own-writes}
+use Rattle.laws.proofs.Choosing.{pick-false, pick-true}
+
+abbrev Rest : ℕ → List Request → Type 0
+Rest p qs = (w : World) (starts : List ℕ) (l : Plain) → Tracks p w starts l → AllWrite p w l qs
+
+written : (p : ℕ) (qs : List Request) → Rest p qs
+unfolding AllWrite
+written p [] w starts l t = tt
+written p (q ∷ qs) w starts l t = go (ℕ-discrete (q .peer) p) (written p qs)
+  where
+    next : Plain
+    next = pick (eqb (q .peer) p) (enter (w .engine .limit) l (callOf (q .act)) (turnOf w q .answer)) l
+
+    own : Request
+    own = record { peer = p; act = q .act }
+
+    is : q .peer ≡ p → own ≡ q
+    is e = ap (λ (n : ℕ). record { peer = n; act = q .act }) (sym e)
+
+    mine : (seenAt p w starts own ≡ demanded (w .engine .area) (w .engine .limit) l (callOf (q .act)))
+        × Tracks p (turnOf w own .world) (noteStart starts (callOf (q .act)) (turnOf w own .answer))
+        (enter (w .engine .limit) l (callOf (q .act)) (expected (w .engine .area) (w .engine .limit) l (callOf (q .act))))
+        × (turnOf w own .world .engine .area ≡ w .engine .area) × (turnOf w own .world .engine .limit ≡ w .engine .limit)
+        → Rest p qs → AllWrite p (turnOf w own .world) (enter (w .engine .limit) l (callOf (q .act)) (turnOf w own .answer)) qs
+    mine x rest =
+        subst (λ (a : Answer). AllWrite p (turnOf w own .world) (enter (w .engine .limit) l (callOf (q .act)) a) qs) (sym (ap (λ (s : Seen). s .answer) (x .0)))
+        (rest (turnOf w own .world) _ _ (x .1))
+
+    go : Dec (q .peer ≡ p) → Rest p qs
+        → (q .peer ≡ p → Writes p w (turnOf w q .world) l (callOf (q .act)) (turnOf w q .answer)) × AllWrite p (turnOf w q .world) next qs
+    go (yes e) rest = (
+      λ x. subst (λ (r : Request). Writes p w (turnOf w r .world) l (callOf (q .act)) (turnOf w r .answer)) (is e) (own-writes p w starts l t (q .act)),
+      subst (λ (m : Plain). AllWrite p (turnOf w q .world) m qs) (sym (pick-true _ _ (eq-eqb (q .peer) p e)))
+          (subst (λ (r : Request). AllWrite p (turnOf w r .world) (enter (w .engine .limit) l (callOf (q .act)) (turnOf w r .answer)) qs) (is e)
+          (mine (own-seen p w starts l t (q .act)) rest)),
+    )
+    go (no e) rest = (
+      λ x. absurd (e x),
+      subst (λ (m : Plain). AllWrite p (turnOf w q .world) m qs) (sym (pick-false _ _ (ne-eqb (q .peer) p e))) (rest (turnOf w q .world) starts l (other-tracks p w starts l t q e .0)),
+    )
+
+pub own-range : OwnRange
+unfolding OwnRange
+own-range n area limit p arena map ready h calls =
+    written p calls (freshWorld n area limit arena map) noStarts freshPlain (fresh-tracks n area limit p arena map ready h)

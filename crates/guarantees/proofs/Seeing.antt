@@ -1,0 +1,104 @@
+-- Demand 2, delivery: in every run all that a peer sees is what the plain receiver makes of that peer's own calls.
+use Prim.Native.Nat.{ℕ, _<_}
+use borrow.Author.Tests.{eq-eqb, ne-eqb}
+use lib.Dec.{eqb}
+use lib.ListN.{length, replicate}
+use mathlib.Core.Bool.{true, false}
+use mathlib.Core.List.{List, [], _∷_}
+use mathlib.Core.Path.{_≡_, refl, sym, ap, ap₂, _∙_, subst}
+use native.Mathlib.Decide.{ℕ-discrete}
+use Rattle.engine.specs.SetUp.{peerAt, setUp}
+use Rattle.engine.specs.Steps.{World, wordsOf}
+use Rattle.engine.specs.declared.types.Ready.{Ready}
+use Rattle.guarantees.specs.Delivery.{SeenByHistory, demanded, plainRun}
+use Rattle.guarantees.specs.Runs.{Request, Seen, callOf, callsOf, freshWorld, noStarts, observe, seenAt, turnOf}
+use Rattle.peer.specs.Expected.{expected}
+use Rattle.peer.specs.Plain.{Plain, enter, freshPlain}
+use Rattle.peer.specs.Starts.{noteStart}
+use Rattle.peer.specs.State.{freeSlot, freshPeer, isFree, phaseAt, slotCount}
+use Rattle.peer.specs.declared.types.Peer.{Peer}
+use Rattle.engine.proofs.Worlds.{byteIn}
+use Rattle.guarantees.proofs.SetUps.{fresh-good, fresh-peer}
+use Rattle.guarantees.proofs.Tracking.{Tracks, other-tracks, own-seen}
+use Rattle.laws.proofs.Choosing.{clashing, pick-false, pick-true}
+use Rattle.peer.proofs.Agreement.{Agrees}
+use Rattle.peer.proofs.Steps.{fresh-agrees, fresh-free}
+use Rattle.peer.proofs.Yields.{Starts}
+
+-- the rest of a run, from a world in which the peer is tracked
+abbrev Rest : ℕ → List Request → Type 0
+Rest p qs =
+    (w : World) (starts : List ℕ) (l : Plain) → Tracks p w starts l
+    → observe p w starts qs ≡ plainRun (w .engine .area) (w .engine .limit) l (callsOf p qs)
+
+-- the numbers stay
+with-numbers : (p : ℕ) (qs : List Request) (w w′ : World) (starts : List ℕ) (l : Plain) → Rest p qs → Tracks p w′ starts l → w′ .engine .area ≡ w .engine .area
+    → w′ .engine .limit ≡ w .engine .limit → observe p w′ starts qs ≡ plainRun (w .engine .area) (w .engine .limit) l (callsOf p qs)
+with-numbers p qs w w′ starts l rest t a b = rest w′ starts l t ∙ ap₂ (λ (m n : ℕ). plainRun m n l (callsOf p qs)) a b
+
+own-call : (p : ℕ) (q : Request) (qs : List Request) (w : World) (starts : List ℕ) (l : Plain) → Rest p qs → Tracks p w starts l → q .peer ≡ p
+    → _≡_ {A = List Seen} (seenAt p w starts q ∷ observe p (turnOf w q .world) (noteStart starts (callOf (q .act)) (turnOf w q .answer)) qs)
+    (plainRun (w .engine .area) (w .engine .limit) l (callOf (q .act) ∷ callsOf p qs))
+unfolding plainRun
+own-call p q qs w starts l rest t e =
+    subst (λ (r : Request). _≡_ {A = List Seen} (seenAt p w starts r ∷ observe p (turnOf w r .world) (noteStart starts (callOf (q .act)) (turnOf w r .answer)) qs)
+    (demanded (w .engine .area) (w .engine .limit) l (callOf (q .act))
+    ∷ plainRun (w .engine .area) (w .engine .limit) (enter (w .engine .limit) l (callOf (q .act)) (expected (w .engine .area) (w .engine .limit) l (callOf (q .act)))) (callsOf p qs)))
+    (ap (λ (n : ℕ). record { peer = n; act = q .act }) (sym e))
+    (go (own-seen p w starts l t (q .act)))
+  where
+    own : Request
+    own = record { peer = p; act = q .act }
+
+    l′ : Plain
+    l′ = enter (w .engine .limit) l (callOf (q .act)) (expected (w .engine .area) (w .engine .limit) l (callOf (q .act)))
+
+    go : (seenAt p w starts own ≡ demanded (w .engine .area) (w .engine .limit) l (callOf (q .act)))
+        × Tracks p (turnOf w own .world) (noteStart starts (callOf (q .act)) (turnOf w own .answer)) l′
+        × (turnOf w own .world .engine .area ≡ w .engine .area) × (turnOf w own .world .engine .limit ≡ w .engine .limit)
+        → _≡_ {A = List Seen} (seenAt p w starts own ∷ observe p (turnOf w own .world) (noteStart starts (callOf (q .act)) (turnOf w own .answer)) qs)
+        (demanded (w .engine .area) (w .engine .limit) l (callOf (q .act)) ∷ plainRun (w .engine .area) (w .engine .limit) l′ (callsOf p qs))
+    go x = ap₂ (λ (s : Seen) (ss : List Seen). s ∷ ss) (x .0) (with-numbers p qs w (turnOf w own .world) _ l′ rest (x .1) (x .2) (x .3))
+
+observed : (p : ℕ) (qs : List Request) → Rest p qs
+unfolding observe callsOf
+observed p [] w starts l t = unfold plainRun in refl
+observed p (q ∷ qs) w starts l t = go (ℕ-discrete (q .peer) p) (observed p qs)
+  where
+    go : Dec (q .peer ≡ p) → Rest p qs → observe p w starts (q ∷ qs) ≡ plainRun (w .engine .area) (w .engine .limit) l (callsOf p (q ∷ qs))
+    go (yes e) rest =
+        let yes′ : eqb (q .peer) p ≡ true = eq-eqb (q .peer) p e in
+        (pick-true _ _ yes′ ∙ own-call p q qs w starts l rest t e ∙ ap (plainRun (w .engine .area) (w .engine .limit) l) (sym (pick-true _ _ yes′)))
+    go (no e) rest =
+        let no′ : eqb (q .peer) p ≡ false = ne-eqb (q .peer) p e in
+        let x = other-tracks p w starts l t q e in
+        (pick-false _ _ no′ ∙ with-numbers p qs w (turnOf w q .world) starts l rest (x .0) (x .1) (x .2)
+        ∙ ap (plainRun (w .engine .area) (w .engine .limit) l) (sym (pick-false _ _ no′)))
+
+-- after a set-up that was not refused, every peer is tracked from a fresh history on
+pub fresh-tracks : (n area limit p : ℕ) (arena map : List ℕ) → setUp n area limit (length arena) map .started .answer ≡ Ready.Ready → p < n
+    → Tracks p (freshWorld n area limit arena map) noStarts freshPlain
+fresh-tracks n area limit p arena map ready h =
+    record {
+      good = fresh-good n area limit arena map ready;
+      below = unfold freshWorld in h;
+      agrees = subst (λ (q : Peer). Agrees q (wordsOf w p) (byteIn w p) freshPlain) (sym fresh) (fresh-agrees (wordsOf w p) (byteIn w p));
+      from = subst (λ (q : Peer). Starts (q .slots) noStarts) (sym fresh) fresh-starts;
+    }
+  where
+    w : World
+    w = freshWorld n area limit arena map
+
+    fresh : peerAt (w .engine) p ≡ freshPeer
+    fresh = unfold freshWorld in fresh-peer n area limit p
+
+    fresh-starts : Starts (freshPeer .slots) noStarts
+    fresh-starts =
+        record {
+          count = unfold freshPeer in refl;
+          at = λ i u. unfold freshPeer in clashing (isFree (phaseAt (replicate slotCount freeSlot) i)) (ap isFree (fresh-free slotCount i)) u;
+        }
+
+pub seen-by-history : SeenByHistory
+unfolding SeenByHistory freshWorld
+seen-by-history n area limit p arena map ready h calls = observed p calls (freshWorld n area limit arena map) noStarts freshPlain (fresh-tracks n area limit p arena map ready h)

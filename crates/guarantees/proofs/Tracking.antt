@@ -1,0 +1,219 @@
+-- One peer of a run, tracked by its history: its own calls yield what is demanded, and other calls leave what it has.
+use Prim.Native.Nat.{ℕ, _+_, _*_, _≤_, _<_}
+use lib.ListN.{length, getD, take}
+use lib.Seq.{ext-getD}
+use mathlib.Core.List.{List}
+use mathlib.Core.Path.{_≡_, refl, sym, ap, _∙_, subst, subst₂}
+use native.Mathlib.Decide.{decLt}
+use native.Mathlib.Omega.{arith}
+use Rattle.engine.specs.SetUp.{peerAt}
+use Rattle.engine.specs.Steps.{Turn, World, callTurn, putBack, wordsOf}
+use Rattle.guarantees.specs.Delivery.{Writes, demanded}
+use Rattle.guarantees.specs.Runs.{Act, Request, Seen, bufferOf, bytesSeen, callOf, cancel, packet, post, replySeen, report, seenAt, turnOf}
+use Rattle.laws.specs.Parts.{part, storeAt}
+use Rattle.packet.specs.declared.types.CqData.{CqData}
+use Rattle.peer.specs.Calls.{peerStep}
+use Rattle.peer.specs.Coverage.{Segment, byteOf, bytesFrom, inside}
+use Rattle.peer.specs.Effects.{Effect}
+use Rattle.peer.specs.Expected.{expected, expectedBytes, expectedReply, targetOfCall}
+use Rattle.peer.specs.Numbers.{said}
+use Rattle.peer.specs.Plain.{Plain, Role, enter}
+use Rattle.peer.specs.Starts.{noteStart}
+use Rattle.peer.specs.declared.types.Answer.{Answer}
+use Rattle.peer.specs.declared.types.Peer.{Peer}
+use Rattle.engine.proofs.Worlds.{Good, byte-other, byte-own, byteIn, good-turn, kept, lent-lengths, part-inside, peer-other, peer-own, turn-none, turn-own, words-cover, words-other, words-own}
+use Rattle.laws.proofs.Reading.{getD-part}
+use Rattle.laws.proofs.Storing.{length-part, part-store}
+use Rattle.peer.proofs.Agreement.{Agrees}
+use Rattle.peer.proofs.CoverageLaws.{Wrote, byte-at, length-bytes}
+use Rattle.peer.proofs.Entered.{agrees-kept}
+use Rattle.peer.proofs.Kept.{Kept}
+use Rattle.peer.proofs.Replies.{Yielded, roomOf, step-room, step-yields}
+use Rattle.peer.proofs.Steps.{Stepped, stepped}
+use Rattle.peer.proofs.Yields.{Starts, starts-stepped}
+
+-- the state, the map and the arena of peer p say what its history l says
+pub record Tracks (p : ℕ) (w : World) (starts : List ℕ) (l : Plain) : Type 0 where
+  pub good : Good w
+  pub below : p < w .engine .n
+  pub agrees : Agrees (peerAt (w .engine) p) (wordsOf w p) (byteIn w p) l
+  pub from : Starts (peerAt (w .engine) p .slots) starts
+
+-- ---- what is seen of a call
+
+-- the reply packet stands at the buffer's start
+buffer-reply : (buffer reply : List ℕ) → length reply ≡ 24 → 24 ≤ length buffer → take 24 (storeAt buffer 0 reply) ≡ reply
+buffer-reply buffer reply e h = ap (λ (n : ℕ). take n (storeAt buffer 0 reply)) (sym e) ∙ (unfold part in part-store buffer 0 reply (omega arith))
+
+-- of a grant the first 24 bytes of the buffer are the reply, of any other answer there is none
+reply-seen : (r : Role) (a : Answer) (buffer reply : List ℕ) → reply ≡ expectedReply r a → ((n : ℕ) → a ≡ Answer.Granted n → (length reply ≡ 24) × (24 ≤ length buffer))
+    → replySeen (storeAt buffer 0 reply) a ≡ expectedReply r a
+reply-seen r (Answer.Refused k) buffer reply e g = refl
+reply-seen r (Answer.Posted i) buffer reply e g = refl
+reply-seen r (Answer.Cancelled i) buffer reply e g = refl
+reply-seen r Answer.Stored buffer reply e g = refl
+reply-seen r (Answer.Granted n) buffer reply e g = buffer-reply buffer reply (g n refl .0) (g n refl .1) ∙ e
+reply-seen r (Answer.Done i id n cq) buffer reply e g = refl
+reply-seen r (Answer.Truncated i id n) buffer reply e g = refl
+reply-seen r (Answer.Missing c o) buffer reply e g = refl
+
+-- the bytes of a done message
+part-bytes : (arena : List ℕ) (at n : ℕ) (gs : List Segment) → at + n ≤ length arena → ((o : ℕ) → o < n → getD arena (at + o) 0 ≡ byteOf gs o)
+    → part arena at n ≡ bytesFrom gs 0 n
+part-bytes arena at n gs h f =
+    ext-getD 0 (part arena at n) (bytesFrom gs 0 n) (length-part arena at n h ∙ sym (length-bytes gs 0 n))
+    (λ i q.
+    let q′ : i < n = omega (arith, length-part arena at n h) in
+    getD-part arena at n i 0 q′ ∙ f i q′ ∙ ap (byteOf gs) (omega arith) ∙ sym (byte-at gs 0 n i q′))
+
+bytes-seen : (arena : List ℕ) (base area : ℕ) (starts : List ℕ) (gs : List Segment) (a : Answer) → base + area ≤ length arena
+    → ((i id n : ℕ) (cq : CqData) → a ≡ Answer.Done i id n cq
+    → (getD starts i 0 + n ≤ area) × ((o : ℕ) → o < n → getD arena (base + (getD starts i 0 + o)) 0 ≡ byteOf gs o))
+    → bytesSeen arena base starts a ≡ expectedBytes gs a
+bytes-seen arena base area starts gs (Answer.Refused k) h d = refl
+bytes-seen arena base area starts gs (Answer.Posted i) h d = refl
+bytes-seen arena base area starts gs (Answer.Cancelled i) h d = refl
+bytes-seen arena base area starts gs Answer.Stored h d = refl
+bytes-seen arena base area starts gs (Answer.Granted n) h d = refl
+bytes-seen arena base area starts gs (Answer.Done i id n cq) h d =
+    let (inside, byte) = d i id n cq refl in
+    part-bytes arena (base + getD starts i 0) n gs (omega arith) (λ o l. ap (λ (k : ℕ). getD arena k 0) (omega arith) ∙ byte o l)
+bytes-seen arena base area starts gs (Answer.Truncated i id n) h d = refl
+bytes-seen arena base area starts gs (Answer.Missing c o) h d = refl
+
+-- ---- the peer's own call
+
+module _ (p : ℕ) (w : World) (starts : List ℕ) (l : Plain) (t : Tracks p w starts l) (a : Act) where
+  abbrev f : Effect
+  f = peerStep (w .engine .area) (w .engine .limit) (peerAt (w .engine) p) (wordsOf w p) (callOf a)
+
+  abbrev own : Request
+  own = record { peer = p; act = a }
+
+  turn : turnOf w own ≡ putBack w p f
+  unfolding turnOf
+  turn = turn-own w (t .good) p (t .below) (callOf a)
+
+  k : Kept (w .engine .area) (peerAt (w .engine) p) (wordsOf w p) f
+  k = kept w (t .good) p (t .below) (callOf a)
+
+  abbrev w′ : World
+  w′ = putBack w p f .world
+
+  wrote : Wrote (w .engine .area) (byteIn w p) (byteIn w′ p) (f .at) (f .bytes)
+  wrote = byte-own w (t .good) p (t .below) f k
+
+  step : Stepped (w .engine .area) (w .engine .limit) (peerAt (w .engine) p) (wordsOf w p) (byteIn w′ p) l (callOf a)
+  step =
+      stepped (w .engine .area) (w .engine .limit) (peerAt (w .engine) p) (wordsOf w p) (byteIn w p) (byteIn w′ p) l (t .good .each p (t .below)) (t .good .slots p (t .below))
+      (words-cover w (t .good) p (t .below)) (t .agrees) (callOf a) wrote
+
+  yields : Yielded (w .engine .area) (byteIn w′ p) starts (targetOfCall (w .engine .limit) l (callOf a)) f
+  yields =
+      step-yields (w .engine .area) (w .engine .limit) (peerAt (w .engine) p) (wordsOf w p) (byteIn w p) (byteIn w′ p) l starts (t .good .each p (t .below))
+      (words-cover w (t .good) p (t .below)) (t .agrees) (t .from) (callOf a) wrote
+
+  -- a grant leaves room for its CTS
+  roomy : (n : ℕ) → f .answer ≡ Answer.Granted n → (length (f .reply) ≡ 24) × (24 ≤ length (bufferOf a))
+  roomy n e = go (f .reply) a (step-room (w .engine .area) (w .engine .limit) (peerAt (w .engine) p) (wordsOf w p) (callOf a) n e)
+    where
+      go : (reply : List ℕ) (b : Act) → (length reply ≡ 24) × (24 ≤ roomOf (callOf b)) → (length reply ≡ 24) × (24 ≤ length (bufferOf b))
+      go reply (post r) x = x
+      go reply (packet bs buffer) x = x
+      go reply (cancel i) x = x
+      go reply (report i) x = x
+
+  tracked : Tracks p w′ (noteStart starts (callOf a) (f .answer)) (enter (w .engine .limit) l (callOf a) (expected (w .engine .area) (w .engine .limit) l (callOf a)))
+  tracked =
+      record {
+        good = good-turn w (t .good) p (t .below) f k;
+        below = unfold putBack in t .below;
+        agrees = subst₂ (λ (q : Peer) (ws : List ℕ). Agrees q ws (byteIn w′ p) (enter (w .engine .limit) l (callOf a) (expected (w .engine .area) (w .engine .limit) l (callOf a))))
+            (sym (peer-own w (t .good) p (t .below) f k)) (sym (words-own w (t .good) p (t .below) f k)) (step .agrees);
+        from = subst (λ (q : Peer). Starts (q .slots) (noteStart starts (callOf a) (f .answer))) (sym (peer-own w (t .good) p (t .below) f k))
+            (starts-stepped (w .engine .area) (w .engine .limit) (peerAt (w .engine) p) (wordsOf w p) starts (callOf a) (t .good .each p (t .below))
+            (t .good .slots p (t .below)) (t .from));
+      }
+
+  seen : seenAt p w starts own ≡ demanded (w .engine .area) (w .engine .limit) l (callOf a)
+  seen =
+      ap (λ (u : Turn). record { answer = u .answer; says = said (u .answer); reply = replySeen (storeAt (bufferOf a) 0 (u .reply)) (u .answer); bytes = bytesSeen (u .world .arena) (p * w .engine .area) starts (u .answer) }) turn
+      ∙ (unfold putBack in (three refl reply bytes ∙ ap (λ (x : Answer). record { answer = x; says = said x; reply = expectedReply role x; bytes = expectedBytes gs x }) (step .answer)))
+    where
+      role : Role
+      role = targetOfCall (w .engine .limit) l (callOf a) .entry .role
+
+      gs : List Segment
+      gs = targetOfCall (w .engine .limit) l (callOf a) .entry .segments
+
+      three : {x y : Answer} {r s b c : List ℕ} → x ≡ y → r ≡ s → b ≡ c → _≡_ {A = Seen} (record { answer = x; says = said x; reply = r; bytes = b }) (record { answer = y; says = said y; reply = s; bytes = c })
+      three d e h = λ i. record { answer = d i; says = said (d i); reply = e i; bytes = h i }
+
+      reply : replySeen (storeAt (bufferOf a) 0 (f .reply)) (f .answer) ≡ expectedReply role (f .answer)
+      reply = reply-seen role (f .answer) (bufferOf a) (f .reply) (yields .reply) roomy
+
+      bytes : bytesSeen (w′ .arena) (p * w .engine .area) starts (f .answer) ≡ expectedBytes gs (f .answer)
+      bytes =
+          bytes-seen (w′ .arena) (p * w .engine .area) (w .engine .area) starts gs (f .answer)
+          (omega (
+            arith,
+            lent-lengths (w .engine .n) (w .engine .area) (length (w′ .arena)) (length (w′ .map)) (unfold putBack in tracked .good .lent) .0,
+            part-inside (w .engine .n) p (w .engine .area) (t .below),
+          ))
+          (unfold putBack in yields .done)
+
+  pub own-seen : (seenAt p w starts own ≡ demanded (w .engine .area) (w .engine .limit) l (callOf a))
+      × Tracks p (turnOf w own .world) (noteStart starts (callOf a) (turnOf w own .answer)) (enter (w .engine .limit) l (callOf a) (expected (w .engine .area) (w .engine .limit) l (callOf a)))
+      × (turnOf w own .world .engine .area ≡ w .engine .area) × (turnOf w own .world .engine .limit ≡ w .engine .limit)
+  own-seen = (
+    seen,
+    subst (λ (u : Turn). Tracks p (u .world) (noteStart starts (callOf a) (u .answer)) (enter (w .engine .limit) l (callOf a) (expected (w .engine .area) (w .engine .limit) l (callOf a)))) (sym turn)
+        (unfold putBack in tracked),
+    ap (λ (u : Turn). u .world .engine .area) turn ∙ (unfold putBack in refl),
+    ap (λ (u : Turn). u .world .engine .limit) turn ∙ (unfold putBack in refl),
+  )
+
+  pub own-writes : Writes p w (turnOf w own .world) l (callOf a) (turnOf w own .answer)
+  own-writes =
+      subst (λ (u : Turn). Writes p w (u .world) l (callOf a) (u .answer)) (sym turn)
+      (record { at = f .at; bytes = f .bytes; claim = unfold putBack in yields .writes; arena = unfold putBack in refl })
+
+-- ---- another's call
+
+pub other-tracks : (p : ℕ) (w : World) (starts : List ℕ) (l : Plain) → Tracks p w starts l → (q : Request) → (q .peer ≡ p → ⊥)
+    → Tracks p (turnOf w q .world) starts l × (turnOf w q .world .engine .area ≡ w .engine .area) × (turnOf w q .world .engine .limit ≡ w .engine .limit)
+unfolding turnOf
+other-tracks p w starts l t q d = elim (decLt (q .peer) (w .engine .n)) as (λ x. Kept′) [
+  | yes h ↦ subst Fine (sym (turn-own w (t .good) (q .peer) h (callOf (q .act)))) (made h)
+  | no h ↦ subst Fine (sym (turn-none w (t .good) (q .peer) (omega (arith, h)) (callOf (q .act)))) (t, refl, refl)
+]
+  where
+    Fine : Turn → Type 0
+    Fine u = Tracks p (u .world) starts l × (u .world .engine .area ≡ w .engine .area) × (u .world .engine .limit ≡ w .engine .limit)
+
+    Kept′ : Type 0
+    Kept′ = Fine (callTurn w (q .peer) (callOf (q .act)))
+
+    made : q .peer < w .engine .n → Fine (putBack w (q .peer) (peerStep (w .engine .area) (w .engine .limit) (peerAt (w .engine) (q .peer)) (wordsOf w (q .peer)) (callOf (q .act))))
+    made h = (
+      record {
+        good = good-turn w (t .good) (q .peer) h _ k;
+        below = unfold putBack in t .below;
+        agrees = subst₂ (λ (x : Peer) (ws : List ℕ). Agrees x ws (byteIn (putBack w (q .peer) f .world) p) l)
+            (sym (peer-other w (t .good) (q .peer) h f k p e)) (sym (words-other w (t .good) (q .peer) h f k p (t .below) e))
+            (agrees-kept (w .engine .area) (peerAt (w .engine) p) (wordsOf w p) (byteIn w p) (byteIn (putBack w (q .peer) f .world) p) l (t .good .each p (t .below))
+            (byte-other w (t .good) (q .peer) h f k p e) (t .agrees));
+        from = subst (λ (x : Peer). Starts (x .slots) starts) (sym (peer-other w (t .good) (q .peer) h f k p e)) (t .from);
+      },
+      unfold putBack in refl,
+      unfold putBack in refl,
+    )
+      where
+        e : p ≡ q .peer → ⊥
+        e x = d (sym x)
+
+        f : Effect
+        f = peerStep (w .engine .area) (w .engine .limit) (peerAt (w .engine) (q .peer)) (wordsOf w (q .peer)) (callOf (q .act))
+
+        k : Kept (w .engine .area) (peerAt (w .engine) (q .peer)) (wordsOf w (q .peer)) f
+        k = kept w (t .good) (q .peer) h (callOf (q .act))

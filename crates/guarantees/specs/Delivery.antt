@@ -1,0 +1,106 @@
+-- Demand 2, delivery: what a peer sees of a run is what the plain receiver makes of that peer's own calls. Proved in proofs/Seeing.antt, Delivering.antt and Ranges.antt.
+use Prim.Native.Nat.{ℕ, _+_, _*_, _<_}
+use lib.Dec.{eqb}
+use lib.ListN.{length}
+use mathlib.Core.Bool.{true, false}
+use mathlib.Core.List.{List, [], _∷_}
+use mathlib.Core.Path.{_≡_}
+use Rattle.engine.specs.SetUp.{setUp}
+use Rattle.engine.specs.Steps.{World}
+use Rattle.engine.specs.declared.types.Ready.{Ready}
+use Rattle.guarantees.specs.Runs.{Request, Seen, callOf, callsOf, freshWorld, noStarts, observe, turnOf}
+use Rattle.laws.specs.Choose.{pick}
+use Rattle.laws.specs.Parts.{storeAt}
+use Rattle.packet.specs.Reading.{readOf}
+use Rattle.packet.specs.declared.types.Packet.{Packet}
+use Rattle.packet.specs.declared.types.Read.{Read}
+use Rattle.peer.specs.Calls.{Call}
+use Rattle.peer.specs.Claims.{BytesClaim, Distinct, DoneClaim, GrantClaim, InOrder, WriteClaim, isDone, isMatch, receivesOf, takes}
+use Rattle.peer.specs.Expected.{expected, expectedBytes, expectedReply, targetOfCall}
+use Rattle.peer.specs.Numbers.{said}
+use Rattle.peer.specs.Plain.{Plain, enter, freshPlain}
+use Rattle.peer.specs.declared.types.Answer.{Answer}
+
+-- what 01 demands of one call after the history l
+abbrev pub demanded : ℕ → ℕ → Plain → Call → Seen
+demanded area limit l c =
+    record {
+      answer = expected area limit l c;
+      says = said (expected area limit l c);
+      reply = expectedReply (targetOfCall limit l c .entry .role) (expected area limit l c);
+      bytes = expectedBytes (targetOfCall limit l c .entry .segments) (expected area limit l c);
+    }
+
+-- and of a list of them
+unfoldable pub plainRun : ℕ → ℕ → Plain → List Call → List Seen
+plainRun area limit l [] = []
+plainRun area limit l (c ∷ cs) = demanded area limit l c ∷ plainRun area limit (enter limit l c (expected area limit l c)) cs
+
+-- in every run all that a peer sees (answers with every number, reply packets, and of done messages the bytes, read off the arena) is what
+-- 01 demands after the history of that peer's calls alone
+unfoldable pub SeenByHistory : Type 0
+SeenByHistory =
+    (n area limit p : ℕ) (arena map : List ℕ)
+    → setUp n area limit (length arena) map .started .answer ≡ Ready.Ready
+    → p < n
+    → (calls : List Request)
+    → observe p (freshWorld n area limit arena map) noStarts calls ≡ plainRun area limit freshPlain (callsOf p calls)
+
+-- ---- each call of a run, by the peer's history before it
+
+-- what demand 2 says of one call c after the history l, of which s was seen
+pub record Delivered (area limit : ℕ) (l : Plain) (c : Call) (s : Seen) : Type 0 where
+  -- the answer, refusals included, and each number that it says
+  pub answer : s .answer ≡ expected area limit l c
+  pub says : s .says ≡ said (expected area limit l c)
+  -- done exactly at the packet with which accepted segments cover every byte
+  pub done : DoneClaim (targetOfCall limit l c) (s .answer)
+  -- in message order, to the receive posted first of those that fit
+  pub order : (bs : List ℕ) (room : ℕ) (q : Packet) → c ≡ Call.packet bs room → readOf false limit bs ≡ Read.Packet q → takes (s .answer) ≡ true
+      → targetOfCall limit l c .matched ≡ true → InOrder l q (targetOfCall limit l c)
+  -- a done message's bytes, as the arena has them, are at each offset those of the one accepted segment that covers it
+  pub read : s .bytes ≡ expectedBytes (targetOfCall limit l c .entry .segments) (s .answer)
+  pub bytes : BytesClaim (targetOfCall limit l c) (s .answer)
+  -- the grants of a long message
+  pub grants : GrantClaim limit (targetOfCall limit l c) (s .answer)
+
+unfoldable pub AllDelivered : ℕ → ℕ → Plain → List Call → List Seen → Type 0
+AllDelivered area limit l [] ss = Unit {0}
+AllDelivered area limit l (c ∷ cs) [] = ⊥
+AllDelivered area limit l (c ∷ cs) (s ∷ ss) = Delivered area limit l c s × AllDelivered area limit (enter limit l c (s .answer)) cs ss
+
+-- every call of every peer in every run; each match takes a receive of its own, and of each a done is answered at most once
+unfoldable pub Delivery : Type 0
+Delivery =
+    (n area limit p : ℕ) (arena map : List ℕ)
+    → setUp n area limit (length arena) map .started .answer ≡ Ready.Ready
+    → p < n
+    → (calls : List Request)
+    → AllDelivered area limit freshPlain (callsOf p calls) (observe p (freshWorld n area limit arena map) noStarts calls)
+    × Distinct (receivesOf isMatch area limit freshPlain (callsOf p calls))
+    × Distinct (receivesOf isDone area limit freshPlain (callsOf p calls))
+
+-- ---- what is written
+
+-- a call of peer p after the history l writes its own segment into the arena, and nothing else
+pub record Writes (p : ℕ) (w w′ : World) (l : Plain) (c : Call) (a : Answer) : Type 0 where
+  pub at : ℕ
+  pub bytes : List ℕ
+  pub claim : WriteClaim (w .engine .area) (targetOfCall (w .engine .limit) l c) a at bytes
+  pub arena : w′ .arena ≡ storeAt (w .arena) (p * w .engine .area + at) bytes
+
+-- at every call of peer p in a run from w
+unfoldable pub AllWrite : ℕ → World → Plain → List Request → Type 0
+AllWrite p w l [] = Unit {0}
+AllWrite p w l (q ∷ qs) =
+    (q .peer ≡ p → Writes p w (turnOf w q .world) l (callOf (q .act)) (turnOf w q .answer))
+    × AllWrite p (turnOf w q .world) (pick (eqb (q .peer) p) (enter (w .engine .limit) l (callOf (q .act)) (turnOf w q .answer)) l) qs
+
+-- "Each accepted segment puts its own data into its own range of its own buffer and changes no other arena byte", in every run
+unfoldable pub OwnRange : Type 0
+OwnRange =
+    (n area limit p : ℕ) (arena map : List ℕ)
+    → setUp n area limit (length arena) map .started .answer ≡ Ready.Ready
+    → p < n
+    → (calls : List Request)
+    → AllWrite p (freshWorld n area limit arena map) freshPlain calls

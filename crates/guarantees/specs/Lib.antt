@@ -1,0 +1,4 @@
+pub mod Runs
+pub mod Refusals
+pub mod Delivery
+pub mod Isolation

@@ -1,0 +1,113 @@
+-- Runs, and what one peer sees of one (01, "The two runs of demand 3").
+use Prim.Native.Nat.{ℕ, _+_, _*_}
+use mathlib.Core.List.{List, [], _∷_}
+use lib.ListN.{length, getD, take, replicate}
+use lib.Dec.{eqb}
+use Rattle.laws.specs.Choose.{pick}
+use Rattle.laws.specs.Parts.{part, storeAt}
+use Rattle.peer.specs.declared.types.Receive.{Receive}
+use Rattle.peer.specs.declared.types.Answer.{Answer}
+use Rattle.peer.specs.Calls.{Call}
+use Rattle.peer.specs.Numbers.{Saying, said}
+use Rattle.peer.specs.Starts.{noteStart}
+use Rattle.peer.specs.State.{slotCount}
+use Rattle.engine.specs.SetUp.{engineOf}
+use Rattle.engine.specs.Steps.{World, Turn, callTurn}
+
+-- a call with what it lends: of a packet its bytes, and the reply buffer as it is lent
+pub data Act : Type 0 where
+  post : Receive → Act
+  packet : List ℕ → List ℕ → Act
+  cancel : ℕ → Act
+  report : ℕ → Act
+
+pub record Request : Type 0 where
+  pub peer : ℕ
+  pub act : Act
+
+-- "their kind, numbers, bytes lent to be read and lengths of buffers lent to be written"
+abbrev pub callOf : Act → Call
+callOf (post r) = Call.post r
+callOf (packet bs buffer) = Call.packet bs (length buffer)
+callOf (cancel i) = Call.cancel i
+callOf (report i) = Call.report i
+
+abbrev pub bufferOf : Act → List ℕ
+bufferOf (post r) = []
+bufferOf (packet bs buffer) = buffer
+bufferOf (cancel i) = []
+bufferOf (report i) = []
+
+-- ---- a run
+
+-- "The first call gets the fresh state, the cleared map and the arena"
+unfoldable pub freshWorld : ℕ → ℕ → ℕ → List ℕ → List ℕ → World
+freshWorld n area limit arena map = record { engine = engineOf n area limit; arena = arena; map = replicate (length map) 0 }
+
+unfoldable pub turnOf : World → Request → Turn
+turnOf w q = callTurn w (q .peer) (callOf (q .act))
+
+-- the reply buffer as the call leaves it
+abbrev pub bufferAfter : World → Request → List ℕ
+bufferAfter w q = storeAt (bufferOf (q .act)) 0 (turnOf w q .reply)
+
+-- "each later one gets state, map and arena as the call before returned or left them"
+unfoldable pub worldAfter : World → List Request → World
+worldAfter w [] = w
+worldAfter w (q ∷ qs) = worldAfter (turnOf w q .world) qs
+
+-- ---- what peer p sees
+
+-- what one call yields: the answer, and the numbers that it says in 01's words; "the first 24 reply bytes if granted, else none"; and of a
+-- done message its bytes
+pub record Seen : Type 0 where
+  pub answer : Answer
+  pub says : Saying
+  pub reply : List ℕ
+  pub bytes : List ℕ
+
+abbrev pub replySeen : List ℕ → Answer → List ℕ
+replySeen buffer (Answer.Refused k) = []
+replySeen buffer (Answer.Posted i) = []
+replySeen buffer (Answer.Cancelled i) = []
+replySeen buffer Answer.Stored = []
+replySeen buffer (Answer.Granted n) = take 24 buffer
+replySeen buffer (Answer.Done i id n cq) = []
+replySeen buffer (Answer.Truncated i id n) = []
+replySeen buffer (Answer.Missing c o) = []
+
+-- "the arena from p×A + start on, for the message's length", where the peer's area begins at base
+abbrev pub bytesSeen : List ℕ → ℕ → List ℕ → Answer → List ℕ
+bytesSeen arena base starts (Answer.Refused k) = []
+bytesSeen arena base starts (Answer.Posted i) = []
+bytesSeen arena base starts (Answer.Cancelled i) = []
+bytesSeen arena base starts Answer.Stored = []
+bytesSeen arena base starts (Answer.Granted n) = []
+bytesSeen arena base starts (Answer.Done i id n cq) = part arena (base + getD starts i 0) n
+bytesSeen arena base starts (Answer.Truncated i id n) = []
+bytesSeen arena base starts (Answer.Missing c o) = []
+
+abbrev pub seenAt : ℕ → World → List ℕ → Request → Seen
+seenAt p w starts q =
+    record {
+      answer = turnOf w q .answer;
+      says = said (turnOf w q .answer);
+      reply = replySeen (bufferAfter w q) (turnOf w q .answer);
+      bytes = bytesSeen (turnOf w q .world .arena) (p * w .engine .area) starts (turnOf w q .answer);
+    }
+
+-- what peer p sees of its calls in a run from w, with the starts so far
+unfoldable pub observe : ℕ → World → List ℕ → List Request → List Seen
+observe p w starts [] = []
+observe p w starts (q ∷ qs) =
+    pick (eqb (q .peer) p)
+    (seenAt p w starts q ∷ observe p (turnOf w q .world) (noteStart starts (callOf (q .act)) (turnOf w q .answer)) qs)
+    (observe p (turnOf w q .world) starts qs)
+
+abbrev pub noStarts : List ℕ
+noStarts = replicate slotCount 0
+
+-- the calls of peer p, in order
+unfoldable pub callsOf : ℕ → List Request → List Call
+callsOf p [] = []
+callsOf p (q ∷ qs) = pick (eqb (q .peer) p) (callOf (q .act) ∷ callsOf p qs) (callsOf p qs)

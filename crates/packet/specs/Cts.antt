@@ -1,0 +1,34 @@
+-- The CTS packet of a grant (01: "a CTS in the first 24 reply bytes (flags and multiuse 0, rest untouched)").
+use Prim.Native.Nat.{ℕ}
+use mathlib.Core.List.{List, []}
+use mathlib.Core.Bool.{false}
+use Rattle.packet.specs.declared.table.Shape.the-variants.{Cts}
+use Rattle.packet.specs.declared.types.Connid.{Connid}
+use Rattle.packet.specs.declared.types.CqData.{CqData}
+use Rattle.packet.specs.declared.types.Header.{Header}
+use Rattle.packet.specs.Types.{row}
+use Rattle.packet.specs.Writing.{packetBytes}
+
+abbrev pub ctsHeader : ℕ → ℕ → ℕ → Header
+ctsHeader sendId recvId recvLength =
+    record {
+      kind = 3;
+      fields = record {
+        «msg_id» = 0;
+        «recv_id» = recvId;
+        «send_id» = sendId;
+        «msg_length» = 0;
+        «seg_length» = 0;
+        «recv_length» = recvLength;
+        «seg_offset» = 0;
+        «credit_request» = 0;
+        tag = 0;
+      };
+      «raw_address» = false;
+      «cq_data» = CqData.Absent;
+      connid = Connid.Absent;
+    }
+
+-- its bytes, as the packet writer writes them
+unfoldable pub ctsBytes : ℕ → ℕ → ℕ → List ℕ
+ctsBytes sendId recvId recvLength = packetBytes (row 3 Cts 24 4 0 false false 0x0 0x8000) (ctsHeader sendId recvId recvLength) [] []

@@ -1,0 +1,141 @@
+-- The bytes of a done message: at every offset the byte of the one accepted segment that covers it.
+use Prim.Native.Nat.{ℕ, zero, suc, _+_, _-_, _<_}
+use lib.ListN.{length, getD}
+use mathlib.Core.Bool.{Bool, true, false, _||_, false≢true, or-true}
+use mathlib.Core.List.{List, [], _∷_}
+use mathlib.Core.Path.{_≡_, refl, sym, ap, _∙_, subst}
+use native.Mathlib.Decide.{ℕ-discrete}
+use native.Mathlib.Omega.{arith}
+use Rattle.bitmap.specs.Offsets.{someOf}
+use Rattle.laws.specs.Choose.{pick}
+use Rattle.peer.specs.Calls.{Call}
+use Rattle.peer.specs.Claims.{ByteFrom, BytesBySegments, BytesClaim, history, segmentAt}
+use Rattle.peer.specs.Coverage.{Segment, byteOf, bytesFrom, covers, inside}
+use Rattle.peer.specs.Expected.{expected, targetOfCall}
+use Rattle.peer.specs.Plain.{Entry, Plain, Target, entryAt, segmentOf}
+use Rattle.peer.specs.declared.types.Answer.{Answer}
+use Rattle.peer.specs.declared.types.Inbound.{Inbound}
+use Rattle.peer.specs.declared.types.Incoming.{Incoming}
+use Rattle.laws.proofs.Choosing.{clashing, or-left, or-right, pick-false, pick-true}
+use Rattle.peer.proofs.CoverageLaws.{all-at, inside-end}
+use Rattle.peer.proofs.HistoryFacts.{Aims, Outcome, begins, bytesOf, goesOn, headOf, outcome}
+use Rattle.peer.proofs.HistorySerials.{waits}
+use Rattle.peer.proofs.HistorySteps.{Every, Lasting, every-entry}
+use Rattle.peer.proofs.PacketsRead.{read-formed}
+
+-- ---- the bytes
+
+length-bytes : (gs : List Segment) (o n : ℕ) → length (bytesFrom gs o n) ≡ n
+unfolding bytesFrom
+length-bytes gs o zero = refl
+length-bytes gs o (suc n) = ap suc (length-bytes gs (suc o) n)
+
+bytes-at : (gs : List Segment) (o n k : ℕ) → k < n → getD (bytesFrom gs o n) k 0 ≡ byteOf gs (o + k)
+unfolding bytesFrom
+bytes-at gs o zero k h = absurd (omega arith)
+bytes-at gs o (suc n) zero h = ap (byteOf gs) (omega arith)
+bytes-at gs o (suc n) (suc k) h = bytes-at gs (suc o) n k (omega arith) ∙ ap (byteOf gs) (omega arith)
+
+-- ---- segments that share no offset
+
+abbrev Apart : List Segment → Type 0
+Apart [] = Unit {0}
+Apart (g ∷ gs) = ((o : ℕ) → inside g o ≡ true → covers gs o ≡ false) × Apart gs
+
+covers-by : (gs : List Segment) (o k : ℕ) → k < length gs → inside (segmentAt gs k) o ≡ true → covers gs o ≡ true
+unfolding covers
+covers-by [] o k h e = absurd (omega arith)
+covers-by (g ∷ gs) o zero h e = rw e
+covers-by (g ∷ gs) o (suc k) h e = rw (covers-by gs o k (omega arith) e, or-true)
+
+byte-from : (gs : List Segment) (o : ℕ) → Apart gs → covers gs o ≡ true → ByteFrom gs o (byteOf gs o)
+unfolding covers byteOf
+byte-from [] o a e = absurd (false≢true e)
+byte-from (g ∷ gs) o a e = go (inside g o) refl (byte-from gs o (a .1)) e
+  where
+    go : (b : Bool) → inside g o ≡ b → (covers gs o ≡ true → ByteFrom gs o (byteOf gs o)) → (b || covers gs o) ≡ true
+        → ByteFrom (g ∷ gs) o (pick (inside g o) (getD (g .bytes) (o - g .offset) 0) (byteOf gs o))
+    go true x rest y =
+        record {
+          index = 0;
+          inList = omega arith;
+          covered = x;
+          byte = pick-true _ _ x;
+          only = only;
+        }
+      where
+        only : (k : ℕ) → k < length (g ∷ gs) → inside (segmentAt (g ∷ gs) k) o ≡ true → k ≡ 0
+        only zero h z = refl
+        only (suc k) h z = clashing (covers gs o) (covers-by gs o k (omega arith) z) (a .0 o x)
+    go false x rest y =
+        let w = rest y in
+        record {
+          index = suc (w .index);
+          inList = omega (arith, w .inList);
+          covered = w .covered;
+          byte = pick-false _ _ x ∙ w .byte;
+          only = only w;
+        }
+      where
+        only : (w : ByteFrom gs o (byteOf gs o)) (k : ℕ) → k < length (g ∷ gs) → inside (segmentAt (g ∷ gs) k) o ≡ true → k ≡ suc (w .index)
+        only w zero h z = clashing (inside g o) z x
+        only w (suc k) h z = ap suc (w .only k (omega arith) z)
+
+-- ---- accepted segments are apart
+
+none-of : (f : ℕ → Bool) (at n k : ℕ) → someOf f at n ≡ false → k < n → f (at + k) ≡ false
+unfolding someOf
+none-of f at zero k e h = absurd (omega arith)
+none-of f at (suc n) k e h = elim (ℕ-discrete k n) as (λ d. f (at + k) ≡ false) [
+  | yes x ↦ ap (λ (j : ℕ). f (at + j)) x ∙ or-right (someOf f at n) (f (at + n)) e
+  | no x ↦ none-of f at n k (or-left (someOf f at n) (f (at + n)) e) (omega (arith, x))
+]
+
+segments-apart : (l : Plain) (h : Incoming) (bytes : List ℕ) (t : Target) (o : Inbound) → h .size ≡ length bytes
+    → ((j : ℕ) → Apart (entryAt (l .entries) j .segments)) → Aims l h bytes t o → Apart (t .entry .segments)
+unfolding covers
+segments-apart l h bytes _ _ size f (goesOn i o g) = (
+  λ k x.
+      let w = inside-end (segmentOf h bytes) k x in
+      ap (covers (entryAt (l .entries) i .segments)) (omega arith)
+      ∙ none-of (covers (entryAt (l .entries) i .segments)) (h .offset) (h .size) (k - h .offset) (g .new) (omega arith),
+  f i,
+)
+segments-apart l h bytes _ _ size f (begins i r serial m) = (λ k x. refl, tt)
+
+apart-lasts : (limit : ℕ) → Lasting limit (λ (e : Entry). Apart (e .segments))
+apart-lasts limit =
+    record {
+      unused = tt;
+      waits = λ r serial. tt;
+      takesIn = λ l c t f w.
+          let b = w .brings in
+          segments-apart l (headOf b) (bytesOf b) t (w .message) (read-formed limit (b .text) (b .read) (b .reads) .size) f (w .aims);
+      grants = λ l c t n w a. a;
+    }
+
+-- ---- the claim
+
+bytes-claim : (limit : ℕ) (l : Plain) (c : Call) (t : Target) (a : Answer) → Every (λ (e : Entry). Apart (e .segments)) l → Outcome limit l c t a → BytesClaim t a
+bytes-claim limit l c t (Answer.Refused k) f w = tt
+bytes-claim limit l c t (Answer.Posted i) f w = tt
+bytes-claim limit l c t (Answer.Cancelled i) f w = tt
+bytes-claim limit l c t Answer.Stored f w = tt
+bytes-claim limit l c t (Answer.Granted n) f w = tt
+bytes-claim limit l c t (Answer.Done slot id n cq) f w = (
+  length-bytes (t .entry .segments) 0 n,
+  λ o h.
+      let at : 0 + o ≡ o = omega arith in
+      subst (ByteFrom (t .entry .segments) o) (sym (bytes-at (t .entry .segments) 0 n o h ∙ ap (byteOf (t .entry .segments)) at))
+      (byte-from (t .entry .segments) o (apart-lasts limit .takesIn l c t f (w .taken))
+      (ap (covers (t .entry .segments)) (sym at) ∙ all-at (covers (t .entry .segments)) 0 _ o (w .covered) (omega (arith, w .lengthIs)))),
+)
+bytes-claim limit l c t (Answer.Truncated slot id n) f w = tt
+bytes-claim limit l c t (Answer.Missing c′ o) f w = tt
+
+pub bytes-by-segments : BytesBySegments
+unfolding BytesBySegments
+bytes-by-segments area limit calls c =
+    let l : Plain = history area limit calls in
+    bytes-claim limit l c (targetOfCall limit l c) (expected area limit l c)
+    (every-entry area limit (λ (e : Entry). Apart (e .segments)) (apart-lasts limit) calls) (outcome area limit l c)

@@ -1,0 +1,167 @@
+-- Each match takes a receive of its own, and of each receive a done is answered at most once.
+use Prim.Native.Nat.{ℕ, zero, suc, _≤_, _<_}
+use lib.ListN.{length, getD, set}
+use mathlib.Core.Bool.{Bool, true, false, false≢true}
+use mathlib.Core.List.{List, [], _∷_}
+use mathlib.Core.Logic.{_⊎_, inl, inr, ⊎-elim}
+use mathlib.Core.Path.{_≡_, refl, sym, ap, _∙_}
+use native.Mathlib.Omega.{arith}
+use Rattle.laws.specs.Choose.{pick}
+use Rattle.peer.specs.Calls.{Call}
+use Rattle.peer.specs.Claims.{Distinct, Once, isDone, isMatch, receivesOf, takes}
+use Rattle.peer.specs.Expected.{expected, targetOfCall}
+use Rattle.peer.specs.Plain.{Entry, Plain, Role, Target, enter, freshPlain, grantedEntry, idle, nextAfter, noEntry, receiving, waiting}
+use Rattle.peer.specs.declared.types.Answer.{Answer}
+use Rattle.peer.specs.declared.types.Inbound.{Inbound}
+use Rattle.peer.specs.declared.types.Incoming.{Incoming}
+use Rattle.laws.proofs.Choosing.{branch, clashing, pick-first}
+use Rattle.laws.proofs.Listing.{set-there}
+use Rattle.peer.proofs.HistoryFacts.{Aims, Taken, begins, goesOn}
+use Rattle.peer.proofs.HistorySerials.{Numbered, Passes, aims-used, fresh-numbered, goes-on, numbered, passes, roleAt, serialAt, stays, used, waits}
+use Rattle.peer.proofs.HistorySteps.{Entered, asBefore, entered, withCancel, withEnd, withGrant, withPost, withSegment}
+
+-- ---- a receive that is named
+
+-- entry i was live, and is so no more
+record Ends (live : Role → Bool) (l : Plain) (i : ℕ) (l′ : Plain) : Type 0 where
+  was : live (roleAt l i) ≡ true
+  gone : live (roleAt l′ i) ≡ false
+
+ends-set : (live : Role → Bool) (l : Plain) (n i : ℕ) (e : Entry) → used (roleAt l i) ≡ true → live (roleAt l i) ≡ true → live (e .role) ≡ false
+    → Ends live l i (record { next = n; posts = l .posts; entries = set (l .entries) i e })
+ends-set live l n i e u a g =
+    let there = set-there (l .entries) i e noEntry (λ x. clashing (used (roleAt l i)) u (ap (λ (d : Entry). used (d .role)) x)) in
+    record { was = a; gone = ap (λ (d : Entry). live (d .role)) there ∙ g }
+
+aims-waits : {l : Plain} {h : Incoming} {bytes : List ℕ} {t : Target} {o : Inbound} → Aims l h bytes t o → t .matched ≡ true
+    → waits (roleAt l (t .index)) ≡ true
+aims-waits (goesOn i o g) x = absurd (false≢true x)
+aims-waits (begins i r serial m) x = ap waits (m .chosen .waits)
+
+-- a match ends a receive's waiting
+match-ends : {limit : ℕ} {l : Plain} {c : Call} {t : Target} {a : Answer} {l′ : Plain} → Entered limit l c t a l′ → isMatch t a ≡ true
+    → Ends waits l (t .index) l′
+match-ends {limit} {l} {c} {t} {a} {l′} w x = go w (m .0) (m .1)
+  where
+    m : (takes a ≡ true) × (t .matched ≡ true)
+    m = pick-first (takes a) (t .matched) false true (λ y. false≢true y) x
+
+    ended : {t : Target} → Taken limit l c t → (e : Entry) → t .matched ≡ true → waits (e .role) ≡ false
+        → Ends waits l (t .index) (record { next = nextAfter l t; posts = l .posts; entries = set (l .entries) (t .index) e })
+    ended {t} w e y g = ends-set waits l (nextAfter l t) (t .index) e (aims-used (w .aims) .0) (aims-waits (w .aims) y) g
+
+    go : {t : Target} {a : Answer} {l′ : Plain} → Entered limit l c t a l′ → takes a ≡ true → t .matched ≡ true → Ends waits l (t .index) l′
+    go (asBefore t a e) x y = clashing (takes a) x e
+    go (withPost t i r) x y = absurd (false≢true x)
+    go (withCancel t i) x y = absurd (false≢true x)
+    go (withSegment t w) x y = ended (w .taken) (t .entry) y (stays (w .taken))
+    go (withGrant t n w) x y = ended (w .partly .taken) (grantedEntry n (t .entry)) y (goes-on n (w .partly .taken))
+    go (withEnd t a w) x y = ended w noEntry y refl
+
+done-takes : (t : Target) (a : Answer) → isDone t a ≡ true → takes a ≡ true
+done-takes t (Answer.Refused k) e = e
+done-takes t (Answer.Posted i) e = e
+done-takes t (Answer.Cancelled i) e = e
+done-takes t Answer.Stored e = refl
+done-takes t (Answer.Granted n) e = refl
+done-takes t (Answer.Done slot id n cq) e = e
+done-takes t (Answer.Truncated slot id n) e = refl
+done-takes t (Answer.Missing c o) e = e
+
+-- a done ends a receive's use
+done-ends : {limit : ℕ} {l : Plain} {c : Call} {t : Target} {a : Answer} {l′ : Plain} → Entered limit l c t a l′ → isDone t a ≡ true
+    → Ends used l (t .index) l′
+done-ends (asBefore t a e) x = clashing (takes a) (done-takes t a x) e
+done-ends (withPost t i r) x = absurd (false≢true x)
+done-ends (withCancel t i) x = absurd (false≢true x)
+done-ends (withSegment t w) x = absurd (false≢true x)
+done-ends (withGrant t n w) x = absurd (false≢true x)
+done-ends {l} (withEnd t a w) x =
+    let u = aims-used (w .aims) .0 in
+    ends-set used l (nextAfter l t) (t .index) noEntry u u refl
+
+-- ---- the receives that a history names
+
+distinct-cons : (n : ℕ) (ns : List ℕ) → ((i : ℕ) → i < length ns → getD ns i 0 ≡ n → ⊥) → Distinct ns → Distinct (n ∷ ns)
+distinct-cons n ns f d zero zero h k e = refl
+distinct-cons n ns f d zero (suc j) h k e = absurd (f j (omega arith) (sym e))
+distinct-cons n ns f d (suc i) zero h k e = absurd (f i (omega arith) e)
+distinct-cons n ns f d (suc i) (suc j) h k e = ap suc (d i j (omega arith) (omega arith) e)
+
+module _ (live : Role → Bool) (named : Target → Answer → Bool)
+    (inUse : (u : Role) → live u ≡ true → used u ≡ true)
+    (before : (u u′ : Role) → used u ≡ true → (waits u′ ≡ true → waits u ≡ true) → live u′ ≡ true → live u ≡ true)
+    (ends : (limit : ℕ) (l : Plain) (c : Call) (t : Target) (a : Answer) (l′ : Plain) → Entered limit l c t a l′ → named t a ≡ true → Ends live l (t .index) l′)
+    (area limit : ℕ) where
+  -- what may be named from now on: the live receives, and those to come
+  Future : Plain → ℕ → Type 0
+  Future l s = ((j : ℕ) × (live (roleAt l j) ≡ true) × (serialAt l j ≡ s)) ⊎ (l .posts ≤ s)
+
+  earlier : (l l′ : Plain) (s : ℕ) → Passes l l′ → Future l′ s → Future l s
+  unfolding Future
+  earlier l l′ s p (inl w) = ⊎-elim
+      (λ x. inl (w .0, before _ _ (x .usedBefore) (x .waitedBefore) (w .1), sym (x .sameSerial) ∙ w .2))
+      (λ x. inr (omega (arith, x .1, w .2)))
+      (p .came (w .0) (inUse _ (w .1)))
+  earlier l l′ s p (inr h) = inr (omega (arith, p .more))
+
+  -- a receive that is named is never named again
+  never-again : (l l′ : Plain) (i s : ℕ) → Passes l l′ → Numbered l → Ends live l i l′ → Future l′ s → s ≡ serialAt l i → ⊥
+  unfolding Future
+  never-again l l′ i s p n d (inl w) e = ⊎-elim
+      (λ x.
+      let same = n .apart (w .0) i (x .usedBefore) (inUse _ (d .was)) (sym (x .sameSerial) ∙ w .2 ∙ e) in
+      clashing (live (roleAt l′ i)) (ap (λ (k : ℕ). live (roleAt l′ k)) (sym same) ∙ w .1) (d .gone))
+      (λ x. omega (arith, x .1, w .2, n .past i (inUse _ (d .was))))
+      (p .came (w .0) (inUse _ (w .1)))
+  never-again l l′ i s p n d (inr h) e = omega (arith, p .more, n .past i (inUse _ (d .was)))
+
+  record Names (l : Plain) (ns : List ℕ) : Type 0 where
+    future : (i : ℕ) → i < length ns → Future l (getD ns i 0)
+    distinct : Distinct ns
+
+  names : (l : Plain) (calls : List Call) → Numbered l → Names l (receivesOf named area limit l calls)
+  unfolding receivesOf
+  names l [] n = record { future = λ i h. absurd (omega arith); distinct = λ i j h. absurd (omega arith) }
+  names l (c ∷ cs) n =
+      go (entered area limit l c) (names (enter limit l c (expected area limit l c)) cs (numbered (passes (entered area limit l c)) n))
+    where
+      t : Target
+      t = targetOfCall limit l c
+
+      l′ : Plain
+      l′ = enter limit l c (expected area limit l c)
+
+      ns : List ℕ
+      ns = receivesOf named area limit l′ cs
+
+      go : Entered limit l c t (expected area limit l c) l′ → Names l′ ns
+          → Names l (pick (named t (expected area limit l c)) (serialAt l (t .index) ∷ ns) ns)
+      go w r =
+          branch (Names l) (named t (expected area limit l c)) (serialAt l (t .index) ∷ ns) ns
+          (λ x.
+          let d = ends limit l c t (expected area limit l c) l′ w x in
+          record {
+            future = both d;
+            distinct = distinct-cons (serialAt l (t .index)) ns (λ i h e. never-again l l′ (t .index) (getD ns i 0) p n d (r .future i h) e) (r .distinct);
+          })
+          (λ x. record { future = λ i h. earlier l l′ _ p (r .future i h); distinct = r .distinct })
+        where
+          p : Passes l l′
+          p = passes w
+
+          both : Ends live l (t .index) l′ → (i : ℕ) → i < length (serialAt l (t .index) ∷ ns) → Future l (getD (serialAt l (t .index) ∷ ns) i 0)
+          both d zero h = unfold Future in inl (t .index, d .was, refl)
+          both d (suc i) h = earlier l l′ _ p (r .future i (omega arith))
+
+pub once : Once
+unfolding Once
+once area limit calls = (
+  names waits isMatch (λ u x. waiting-used u x) (λ u u′ a b x. b x) (λ limit l c t a l′ w x. match-ends w x) area limit freshPlain calls fresh-numbered .distinct,
+  names used isDone (λ u x. x) (λ u u′ a b x. a) (λ limit l c t a l′ w x. done-ends w x) area limit freshPlain calls fresh-numbered .distinct,
+)
+  where
+    waiting-used : (u : Role) → waits u ≡ true → used u ≡ true
+    waiting-used idle x = x
+    waiting-used (waiting r) x = refl
+    waiting-used (receiving o) x = refl

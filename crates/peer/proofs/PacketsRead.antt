@@ -1,0 +1,119 @@
+-- A packet that was read is formed: an RTM's segment lies in its message, and a long message begins at its start.
+use Prim.Native.Nat.{ℕ, _+_, _-_, _/_, _≤_}
+use borrow.Author.Tests.{leb-true, eqb-true, eq-eqb, ne-eqb}
+use lib.Dec.{leb, eqb}
+use lib.ListN.{length, getD}
+use mathlib.Core.Bool.{Bool, true, false, _&&_}
+use mathlib.Core.List.{List, [], _∷_, _++_}
+use mathlib.Core.Logic.{_⊎_, inl, inr}
+use mathlib.Core.Path.{_≡_, refl, sym, ap, _∙_, subst}
+use native.Mathlib.Omega.{arith}
+use Rattle.laws.specs.Choose.{pick}
+use Rattle.packet.specs.Layout.{fieldsAt, fieldsIn, layout, numberAt, seg-offset, tag, untagged}
+use Rattle.packet.specs.Lengths.{lengthsFit}
+use Rattle.packet.specs.Reading.{headerIn, packetIn, readOf}
+use Rattle.packet.specs.Types.{rowOf}
+use Rattle.packet.specs.Values.{bytesAt}
+use Rattle.packet.specs.declared.table.Found.the-variants.{Row}
+use Rattle.packet.specs.declared.table.Shape.{Shape}
+use Rattle.packet.specs.declared.table.Shape.the-variants.{Cts, CtsData, Eager, LongCts, Medium}
+use Rattle.packet.specs.declared.table.TypeRow.{TypeRow}
+use Rattle.packet.specs.declared.types.Fields.{Fields}
+use Rattle.packet.specs.declared.types.Packet.{Packet}
+use Rattle.packet.specs.declared.types.Read.{Read}
+use Rattle.peer.specs.Coverage.{inside}
+use Rattle.peer.specs.Formed.{Formed}
+use Rattle.peer.specs.Incomings.{incomingOf, isEager, isLong, isRtm}
+use Rattle.wire.specs.LittleEndian.{leAt}
+use Rattle.laws.proofs.Choosing.{and-right, pick-false, pick-true}
+use Rattle.laws.proofs.Storing.{length-part}
+use Rattle.packet.proofs.Accepted.{ReadAs, as-read, dataFrom, packetOf}
+use Rattle.packet.proofs.Served.{served-read}
+use Rattle.packet.proofs.TableRule.{row-passes}
+
+-- ---- the types by their shapes
+
+abbrev halfOf : Shape → ℕ
+halfOf Cts = 1
+halfOf CtsData = 2
+halfOf Eager = 32
+halfOf Medium = 33
+halfOf LongCts = 34
+
+kind-half : (k : ℕ) (r : TypeRow) → rowOf k ≡ Row r → r .kind / 2 ≡ halfOf (r .shape)
+kind-half k r e = eqb-true _ _ (row-passes (λ (r : TypeRow). eqb (r .kind / 2) (halfOf (r .shape))) refl k r e)
+
+-- a type without an offset field is read with offset 0
+no-offset : (s : Shape) (t : Bool) (at : ℕ) (bs : List ℕ) → (s ≡ Eager) ⊎ (s ≡ LongCts) → numberAt (untagged s ++ pick t (tag ∷ []) []) at bs seg-offset ≡ 0
+unfolding numberAt pick
+no-offset s true at bs (inl e) = rw e
+no-offset s false at bs (inl e) = rw e
+no-offset s true at bs (inr e) = rw e
+no-offset s false at bs (inr e) = rw e
+
+-- ---- the packet
+
+module _ (limit : ℕ) (bs : List ℕ) (r : TypeRow) (a : ReadAs limit bs r) where
+  abbrev q : Packet
+  q = packetOf r (leAt 2 bs 2) bs
+
+  half : r .kind / 2 ≡ halfOf (r .shape)
+  half = kind-half (getD bs 0 0) r (a .row)
+
+  -- by its shape
+  shaped : (s : Shape) → r .shape ≡ s → Formed (incomingOf q) (length (bytesAt bs (q .«data»)))
+  unfolding incomingOf packetIn headerIn
+  shaped s e =
+      record {
+        size = sym (length-part bs at n (omega (arith, a .inside)));
+        inside = λ rtm. within s e rtm;
+        start = λ long. from s e long;
+      }
+    where
+      at : ℕ
+      at = dataFrom r (leAt 2 bs 2) bs
+
+      n : ℕ
+      n = length bs - at
+
+      v : Fields
+      v = fieldsIn (layout r) (fieldsAt r) bs
+
+      rule : (s : Shape) → r .shape ≡ s → lengthsFit s v n ≡ true
+      rule s e = ap (λ (x : Shape). lengthsFit x v n) (sym e) ∙ a .lengths
+
+      halved : (s : Shape) → r .shape ≡ s → r .kind / 2 ≡ halfOf s
+      halved s e = half ∙ ap halfOf e
+
+      offset : (s : Shape) → r .shape ≡ s → (s ≡ Eager) ⊎ (s ≡ LongCts) → v .«seg_offset» ≡ 0
+      offset s e d =
+          unfold fieldsIn layout in
+          ap (λ (x : Shape). numberAt (untagged x ++ pick (r .tagged) (tag ∷ []) []) (fieldsAt r) bs seg-offset) e ∙ no-offset s (r .tagged) (fieldsAt r) bs d
+
+      len : (s : Shape) → r .shape ≡ s → (halfOf s ≡ 32 → ⊥) → pick (isEager (r .kind)) n (v .«msg_length») ≡ v .«msg_length»
+      len s e d = pick-false n (v .«msg_length») (ne-eqb (r .kind / 2) 32 (λ x. d (sym (halved s e) ∙ x)))
+
+      within : (s : Shape) → r .shape ≡ s → isRtm (r .kind) ≡ true → v .«seg_offset» + n ≤ pick (isEager (r .kind)) n (v .«msg_length»)
+      within Cts e rtm = absurd (omega (arith, leb-true 64 (r .kind) rtm, halved Cts e))
+      within CtsData e rtm = absurd (omega (arith, leb-true 64 (r .kind) rtm, halved CtsData e))
+      within Eager e rtm =
+          rw (pick-true n (v .«msg_length») (eq-eqb (r .kind / 2) 32 (halved Eager e)), offset Eager e (inl refl)) (omega arith)
+      within Medium e rtm =
+          let fit : (leb 1 n && leb (v .«seg_offset» + n) (v .«msg_length»)) ≡ true = unfold lengthsFit in rule Medium e in
+          rw (len Medium e (λ x. omega arith)) (leb-true _ _ (and-right (leb 1 n) _ fit))
+      within LongCts e rtm =
+          let fit : (leb 1 n && leb n (v .«msg_length»)) ≡ true = unfold lengthsFit in rule LongCts e in
+          rw (len LongCts e (λ x. omega arith), offset LongCts e (inr refl)) (omega (arith, leb-true n (v .«msg_length») (and-right (leb 1 n) _ fit)))
+
+      from : (s : Shape) → r .shape ≡ s → isLong (r .kind) ≡ true → v .«seg_offset» ≡ 0
+      from Cts e long = absurd (omega (arith, eqb-true (r .kind / 2) 34 long, halved Cts e))
+      from CtsData e long = absurd (omega (arith, eqb-true (r .kind / 2) 34 long, halved CtsData e))
+      from Eager e long = offset Eager e (inl refl)
+      from Medium e long = absurd (omega (arith, eqb-true (r .kind / 2) 34 long, halved Medium e))
+      from LongCts e long = offset LongCts e (inr refl)
+
+pub read-formed : (limit : ℕ) (bs : List ℕ) (q : Packet) → readOf false limit bs ≡ Read.Packet q → Formed (incomingOf q) (length (bytesAt bs (q .«data»)))
+read-formed limit bs q e = go (as-read limit bs q (served-read limit bs q e))
+  where
+    go : (r : TypeRow) × ReadAs limit bs r × (q ≡ packetOf r (leAt 2 bs 2) bs) → Formed (incomingOf q) (length (bytesAt bs (q .«data»)))
+    go w = subst (λ (x : Packet). Formed (incomingOf x) (length (bytesAt bs (x .«data»)))) (sym (w .2)) (shaped limit bs (w .0) (w .1) (w .0 .shape) refl)

@@ -1,0 +1,280 @@
+-- One step of the peer and of the plain receiver: the same answer, and they go on agreeing.
+use Prim.Native.Nat.{ℕ, zero, suc, _+_, _*_, _≤_, _<_}
+use borrow.Author.Tests.{leb-false, lt-ltb, le-ltb}
+use lib.Dec.{ltb}
+use lib.ListN.{length, set, replicate, List·getD-eq-default}
+use lib.Seq.{getD-set-same, getD-set-other}
+use mathlib.Core.Bool.{true, false}
+use mathlib.Core.List.{List, []}
+use mathlib.Core.Logic.{inr}
+use mathlib.Core.Path.{_≡_, refl, sym, ap, ap₂, _∙_, subst}
+use native.Mathlib.Decide.{decLt, ℕ-discrete}
+use native.Mathlib.Omega.{arith}
+use Rattle.packet.specs.Reading.{readOf}
+use Rattle.packet.specs.Values.{bytesAt}
+use Rattle.packet.specs.declared.types.Read.{Read}
+use Rattle.packet.specs.declared.types.Refusal.{Refusal}
+use Rattle.peer.specs.Calls.{Call, cancel, cancelAt, cancelEffect, countOlder, countPosted, packet, packetEffect, peerStep, placed, placedIn, post, postEffect, readEffect, renumbered, renumberedPhase, report, reportAt, reportEffect}
+use Rattle.peer.specs.Coverage.{covers}
+use Rattle.peer.specs.Effects.{Effect, quiet, refuse, withPhase}
+use Rattle.peer.specs.Expected.{expected}
+use Rattle.peer.specs.Incomings.{incomingOf, isLong}
+use Rattle.peer.specs.Judging.{judge}
+use Rattle.peer.specs.Matching.{vacancy}
+use Rattle.peer.specs.Numbers.{shortReply}
+use Rattle.peer.specs.Plain.{Entry, Plain, enter, enterCancel, enterPost, enterRead, enterSegment, entryAt, freshPlain, noEntry, put, waiting}
+use Rattle.peer.specs.State.{clash, freeSlot, freshPeer, phaseAt, phaseFits, slotCount, slotWith}
+use Rattle.peer.specs.declared.types.Answer.{Answer}
+use Rattle.peer.specs.declared.types.Inbound.{Inbound}
+use Rattle.peer.specs.declared.types.Peer.{Peer}
+use Rattle.peer.specs.declared.types.Phase.{Phase}
+use Rattle.peer.specs.declared.types.Receive.{Receive}
+use Rattle.peer.specs.declared.types.Slot.{Slot}
+use Rattle.peer.specs.declared.types.Vacancy.{Vacancy}
+use Rattle.laws.proofs.Choosing.{branch}
+use Rattle.peer.proofs.Accepts.{packet-entered}
+use Rattle.peer.proofs.Ages.{length-renumbered, older-below, order-kept, phase-renumbered}
+use Rattle.peer.proofs.Agreement.{Agrees, step-answer}
+use Rattle.peer.proofs.CoverageLaws.{Bits, Content, Wrote}
+use Rattle.peer.proofs.Entered.{agrees-kept, agrees-set, freed}
+use Rattle.peer.proofs.PacketsRead.{read-formed}
+use Rattle.peer.proofs.Roles.{role-lengths, roles-renumbered, roles-set}
+use Rattle.peer.proofs.Slots.{Stands, phase-other, phase-same, stands-at, vacant}
+use Rattle.peer.proofs.Valid.{Valid}
+use Rattle.peer.proofs.Verdicts.{judged}
+
+-- ---- a receive is posted
+
+module _ (p : Peer) (ws : List ℕ) (mem : ℕ → ℕ) (l : Plain) (r : Receive) (i : ℕ) (a : Agrees p ws mem l) (free : Stands (p .slots) 0 i Phase.Free) where
+  ss : List Slot
+  ss = set (renumbered (p .slots) (p .slots)) i (slotWith (Phase.Posted r (countPosted (p .slots))))
+
+  e : Entry
+  e = record { role = waiting r; serial = l .posts; segments = []; rtm = 0; grants = [] }
+
+  es : List Entry
+  es = set (l .entries) i e
+
+  inSlots : i < length (p .slots)
+  inSlots = stands-at (p .slots) i Phase.Free free .0
+
+  here : (j : ℕ) → j ≡ i → (phaseAt ss j ≡ Phase.Posted r (countPosted (p .slots))) × (entryAt es j .serial ≡ l .posts)
+  unfolding ss es e
+  here j x = (
+    ap (phaseAt (set (renumbered (p .slots) (p .slots)) i (slotWith (Phase.Posted r (countPosted (p .slots)))))) x
+        ∙ phase-same (renumbered (p .slots) (p .slots)) i (Phase.Posted r (countPosted (p .slots))) (omega (arith, inSlots, length-renumbered (p .slots) (p .slots))),
+    ap (λ (k : ℕ). entryAt es k .serial) x
+        ∙ ap (λ (y : Entry). y .serial) (getD-set-same (l .entries) i e noEntry (omega (arith, inSlots, role-lengths (p .slots) (l .entries) (a .same)))),
+  )
+
+  there : (j : ℕ) → (j ≡ i → ⊥) → (phaseAt ss j ≡ renumberedPhase (p .slots) (phaseAt (p .slots) j)) × (entryAt es j ≡ entryAt (l .entries) j)
+  unfolding ss es
+  there j x = (
+    phase-other (renumbered (p .slots) (p .slots)) i j (Phase.Posted r (countPosted (p .slots))) x ∙ phase-renumbered (p .slots) (p .slots) j,
+    getD-set-other (l .entries) i j e noEntry x,
+  )
+
+  -- a posted receive other than the new one was there, with another age
+  was-posted : (f : Phase) (s : Receive) (b : ℕ) → renumberedPhase (p .slots) f ≡ Phase.Posted s b
+      → (c : ℕ) × (f ≡ Phase.Posted s c) × (b ≡ countOlder c (p .slots))
+  was-posted Phase.Free s b x = absurd (let z : _≡_ {A = ℕ} 0 1 = cc in omega arith)
+  was-posted (Phase.Open o) s b x = absurd (let z : _≡_ {A = ℕ} 0 1 = cc in omega arith)
+  was-posted (Phase.Posted q c) s b x =
+      let is : q ≡ s = cc in
+      let age : b ≡ countOlder c (p .slots) = cc in
+      (c, ap (λ (y : Receive). Phase.Posted y c) is, age)
+
+  was-open : (f : Phase) (o : Inbound) → renumberedPhase (p .slots) f ≡ Phase.Open o → f ≡ Phase.Open o
+  was-open Phase.Free o x = x
+  was-open (Phase.Open q) o x = x
+  was-open (Phase.Posted q c) o x = absurd (let z : _≡_ {A = ℕ} 0 1 = cc in omega arith)
+
+  in-slots : (j : ℕ) (s : Receive) (c : ℕ) → phaseAt (p .slots) j ≡ Phase.Posted s c → j < length (p .slots)
+  in-slots j s c x = elim (decLt j (length (p .slots))) as (λ d. j < length (p .slots)) [
+    | yes h ↦ h
+    | no h ↦
+        let gone : phaseAt (p .slots) j ≡ Phase.Free = ap (λ (t : Slot). t .phase) (List·getD-eq-default (p .slots) freeSlot (omega (arith, h))) in
+        absurd (let z : _≡_ {A = ℕ} 0 1 = cc in omega arith)
+  ]
+
+  -- the age and the number of posts before of a posted receive
+  data Dated (j : ℕ) (b : ℕ) : Type 0 where
+    now : j ≡ i → b ≡ countPosted (p .slots) → entryAt es j .serial ≡ l .posts → Dated j b
+    before : (s : Receive) (c : ℕ) → phaseAt (p .slots) j ≡ Phase.Posted s c → b ≡ countOlder c (p .slots) → entryAt es j .serial ≡ entryAt (l .entries) j .serial → Dated j b
+
+  dated : (j : ℕ) (s : Receive) (b : ℕ) → phaseAt ss j ≡ Phase.Posted s b → Dated j b
+  dated j s b x = go (ℕ-discrete j i)
+    where
+      go : Dec (j ≡ i) → Dated j b
+      go (yes y) = now y (let k : Phase.Posted r (countPosted (p .slots)) ≡ Phase.Posted s b = sym (here j y .0) ∙ x in cc) (here j y .1)
+      go (no y) =
+          let w = was-posted (phaseAt (p .slots) j) s b (sym (there j y .0) ∙ x) in
+          before s (w .0) (w .1) (w .2) (ap (λ (z : Entry). z .serial) (there j y .1))
+
+  order : (j k b d : ℕ) → Dated j b → Dated k d → ltb b d ≡ ltb (entryAt es j .serial) (entryAt es k .serial)
+  order j k b d (now x y z) (now x′ y′ z′) = le-ltb b d (omega arith) ∙ sym (le-ltb (entryAt es j .serial) (entryAt es k .serial) (omega arith))
+  order j k b d (now x y z) (before s c x′ y′ z′) =
+      le-ltb b d (omega (arith, older-below (p .slots) k s c (in-slots k s c x′) x′))
+      ∙ sym (le-ltb (entryAt es j .serial) (entryAt es k .serial) (omega (arith, a .past k s c x′)))
+  order j k b d (before s c x y z) (now x′ y′ z′) =
+      lt-ltb b d (omega (arith, older-below (p .slots) j s c (in-slots j s c x) x))
+      ∙ sym (lt-ltb (entryAt es j .serial) (entryAt es k .serial) (omega (arith, a .past j s c x)))
+  order j k b d (before s c x y z) (before s′ c′ x′ y′ z′) =
+      ap₂ ltb y y′ ∙ order-kept (p .slots) j k s s′ c c′ (in-slots j s c x) x ∙ a .ordered j k s s′ c c′ x x′ ∙ sym (ap₂ ltb z z′)
+
+  past : (j b : ℕ) → Dated j b → entryAt es j .serial < l .posts + 1
+  past j b (now x y z) = omega arith
+  past j b (before s c x y z) = omega (arith, a .past j s c x)
+
+  open-there : (j : ℕ) (o : Inbound) → phaseAt ss j ≡ Phase.Open o → (phaseAt (p .slots) j ≡ Phase.Open o) × (entryAt es j ≡ entryAt (l .entries) j)
+  open-there j o x = go (ℕ-discrete j i)
+    where
+      go : Dec (j ≡ i) → (phaseAt (p .slots) j ≡ Phase.Open o) × (entryAt es j ≡ entryAt (l .entries) j)
+      go (yes y) =
+          let k : Phase.Posted r (countPosted (p .slots)) ≡ Phase.Open o = sym (here j y .0) ∙ x in
+          absurd (let z : _≡_ {A = ℕ} 0 1 = cc in omega arith)
+      go (no y) = (was-open (phaseAt (p .slots) j) o (sym (there j y .0) ∙ x), there j y .1)
+
+  posted-agrees : Agrees (record { next = p .next; slots = ss }) ws mem (record { next = l .next; posts = l .posts + 1; entries = es })
+  posted-agrees =
+      record {
+        next = a .next;
+        same = unfold ss es in roles-set (renumbered (p .slots) (p .slots)) (l .entries) i _ e (roles-renumbered (p .slots) (p .slots) ∙ a .same) (unfold e in refl);
+        ordered = λ j k s t b d x y. order j k b d (dated j s b x) (dated k t d y);
+        past = λ j s b x. past j b (dated j s b x);
+        bits = λ j o x.
+            let w = open-there j o x in
+            subst (λ (y : Entry). Bits ws (o .receive .start) (o .message .length) (y .segments)) (sym (w .1)) (a .bits j o (w .0));
+        below = λ j o x.
+            let w = open-there j o x in
+            subst (λ (y : Entry). isLong (o .message .kind) ≡ true → (k : ℕ) → covers (y .segments) k ≡ true → k < o .message .granted) (sym (w .1))
+            (a .below j o (w .0));
+        content = λ j o x.
+            let w = open-there j o x in
+            subst (λ (y : Entry). Content mem (o .receive .start) (o .message .length) (y .segments)) (sym (w .1)) (a .content j o (w .0));
+      }
+
+  pub placed-agrees : Agrees (placed p r i) ws mem (enterPost l r (Answer.Posted i))
+  unfolding placed enterPost ss es e
+  placed-agrees = posted-agrees
+
+-- ---- every call
+
+-- a step answers what is expected, and what it leaves agrees with the history it is entered into, where the area's bytes are `mem′` after it
+pub record Stepped (area limit : ℕ) (p : Peer) (ws : List ℕ) (mem′ : ℕ → ℕ) (l : Plain) (c : Call) : Type 0 where
+  pub answer : peerStep area limit p ws c .answer ≡ expected area limit l c
+  pub agrees : Agrees (peerStep area limit p ws c .peer) (peerStep area limit p ws c .words) mem′ (enter limit l c (expected area limit l c))
+
+module _ (area limit : ℕ) (p : Peer) (ws : List ℕ) (mem mem′ : ℕ → ℕ) (l : Plain) (v : Valid area (p .slots)) (eight : length (p .slots) ≡ slotCount)
+    (big : area ≤ 64 * length ws) (agrees : Agrees p ws mem l) where
+  Fine : (Answer → Plain) → Effect → Type 0
+  Fine put f = Wrote area mem mem′ (f .at) (f .bytes) → Agrees (f .peer) (f .words) mem′ (put (f .answer))
+
+  -- nothing is written
+  same : Wrote area mem mem′ 0 [] → Agrees p ws mem′ l
+  same w = agrees-kept area p ws mem mem′ l v (λ y h. w .kept y h (inr (omega arith))) agrees
+
+  entered-post : (r : Receive) → Fine (enterPost l r) (postEffect area p ws r)
+  unfolding Fine postEffect enterPost
+  entered-post r =
+      branch (Fine (enterPost l r)) _ _ _ (λ x w. same w) (λ x.
+      branch (Fine (enterPost l r)) _ _ _ (λ y w. same w) (λ y. place (vacancy 0 (p .slots)) refl))
+    where
+      place : (y : Vacancy) → vacancy 0 (p .slots) ≡ y → Fine (enterPost l r) (placedIn p ws r y)
+      place Vacancy.Full e = unfold placedIn in λ w. same w
+      place (Vacancy.Slot i) e = unfold placedIn in λ w. placed-agrees p ws mem′ l r i (same w) (vacant 0 (p .slots) i e)
+
+  entered-packet : (bs : List ℕ) (room : ℕ) → Fine (enterRead l bs (readOf false limit bs)) (packetEffect limit p ws bs room)
+  unfolding Fine packetEffect
+  entered-packet bs room =
+      branch (Fine (enterRead l bs (readOf false limit bs))) _ _ _ (λ x. kept (readOf false limit bs) shortReply) (λ x. read (readOf false limit bs) refl)
+    where
+      kept : (d : Read) (k : Refusal) → Fine (enterRead l bs d) (refuse p ws k)
+      kept (Read.Refused m) k = unfold enterRead in λ w. same w
+      kept (Read.Packet q) k = unfold enterRead enterSegment in λ w. same w
+
+      read : (d : Read) → readOf false limit bs ≡ d → Fine (enterRead l bs d) (readEffect limit p ws bs d)
+      read (Read.Refused k) e = unfold readEffect in kept (Read.Refused k) k
+      read (Read.Packet q) e =
+          unfold enterRead readEffect in
+          λ w. packet-entered area limit p ws mem mem′ l (incomingOf q) (bytesAt bs (q .«data»)) v (read-formed limit bs q e) big agrees (judge p ws (incomingOf q))
+          (judged area p ws (incomingOf q) (length (bytesAt bs (q .«data»))) v (read-formed limit bs q e)) w
+
+  entered-cancel : (i : ℕ) → Fine (enterCancel l) (cancelEffect p ws i)
+  unfolding Fine cancelEffect enterCancel
+  entered-cancel i =
+      branch (Fine (enterCancel l)) _ _ _ (λ x w. same w) (λ x. at (phaseAt (p .slots) i) (omega (arith, leb-false slotCount i x)))
+    where
+      gone : i < length (p .slots) → Fine (enterCancel l) (quiet (withPhase p i Phase.Free) ws (Answer.Cancelled i))
+      gone h w = agrees-set p ws ws mem′ mem′ l i Phase.Free noEntry (p .next) (l .next) (same w) (freed p ws mem′ l i h (same w)) (agrees .next)
+
+      at : (f : Phase) → i < length (p .slots) → Fine (enterCancel l) (cancelAt p ws i f)
+      at Phase.Free h = unfold cancelAt in λ w. same w
+      at (Phase.Posted r b) h = unfold cancelAt in gone h
+      at (Phase.Open o) h = unfold cancelAt in gone h
+
+  entered-report : (i : ℕ) → Fine (λ (a : Answer). l) (reportEffect p ws i)
+  unfolding Fine reportEffect
+  entered-report i = branch (Fine (λ (a : Answer). l)) _ _ _ (λ x w. same w) (λ x. at (phaseAt (p .slots) i))
+    where
+      at : (f : Phase) → Fine (λ (a : Answer). l) (reportAt p ws f)
+      at Phase.Free = unfold reportAt in λ w. same w
+      at (Phase.Posted r b) = unfold reportAt in λ w. same w
+      at (Phase.Open o) = unfold reportAt in λ w. same w
+
+  entered : (c : Call) → Wrote area mem mem′ (peerStep area limit p ws c .at) (peerStep area limit p ws c .bytes)
+      → Agrees (peerStep area limit p ws c .peer) (peerStep area limit p ws c .words) mem′ (enter limit l c (peerStep area limit p ws c .answer))
+  unfolding peerStep enter Fine
+  entered (post r) = entered-post r
+  entered (packet bs room) = entered-packet bs room
+  entered (cancel i) = entered-cancel i
+  entered (report i) = entered-report i
+
+  pub stepped : (c : Call) → Wrote area mem mem′ (peerStep area limit p ws c .at) (peerStep area limit p ws c .bytes) → Stepped area limit p ws mem′ l c
+  stepped c w =
+      let answer = step-answer area limit p ws mem l c v big agrees in
+      record {
+        answer = answer;
+        agrees = subst (λ (x : Answer). Agrees (peerStep area limit p ws c .peer) (peerStep area limit p ws c .words) mem′ (enter limit l c x)) answer (entered c w);
+      }
+
+-- ---- a fresh peer, and a fresh history
+
+-- every slot of a fresh peer is free
+pub fresh-free : (n i : ℕ) → phaseAt (replicate n freeSlot) i ≡ Phase.Free
+fresh-free zero i = refl
+fresh-free (suc n) zero = refl
+fresh-free (suc n) (suc i) = fresh-free n i
+
+pub fresh-agrees : (ws : List ℕ) (mem : ℕ → ℕ) → Agrees freshPeer ws mem freshPlain
+unfolding freshPeer
+fresh-agrees ws mem =
+    record {
+      next = refl;
+      same = refl;
+      ordered = λ j k r s a b x. absurd (posted j r a x);
+      past = λ i r a x. absurd (posted i r a x);
+      bits = λ i o x. absurd (opened-none i o x);
+      below = λ i o x. absurd (opened-none i o x);
+      content = λ i o x. absurd (opened-none i o x);
+    }
+  where
+    posted : (i : ℕ) (r : Receive) (a : ℕ) → phaseAt (replicate slotCount freeSlot) i ≡ Phase.Posted r a → ⊥
+    posted i r a x =
+        let e : Phase.Free ≡ Phase.Posted r a = sym (fresh-free slotCount i) ∙ x in
+        let z : _≡_ {A = ℕ} 0 1 = cc in
+        omega arith
+
+    opened-none : (i : ℕ) (o : Inbound) → phaseAt (replicate slotCount freeSlot) i ≡ Phase.Open o → ⊥
+    opened-none i o x =
+        let e : Phase.Free ≡ Phase.Open o = sym (fresh-free slotCount i) ∙ x in
+        let z : _≡_ {A = ℕ} 0 1 = cc in
+        omega arith
+
+pub fresh-valid : (area : ℕ) → Valid area (freshPeer .slots)
+unfolding freshPeer
+fresh-valid area =
+    record {
+      each = λ j. ap (phaseFits area) (fresh-free slotCount j) ∙ (unfold phaseFits in refl);
+      pairs = λ j k p q n. ap (λ (f : Phase). clash f (phaseAt (replicate slotCount freeSlot) k)) (fresh-free slotCount j) ∙ (unfold clash in refl);
+    }

@@ -1,0 +1,145 @@
+-- What each verdict on a packet says of the peer and of the map: one walk through the tests.
+use Prim.Native.Nat.{ℕ, _+_, _/_, _≤_, _<_}
+use borrow.Author.Tests.{ltb-true, ltb-false, leb-true, leb-false, eqb-true}
+use lib.Dec.{eqb}
+use lib.ListN.{length}
+use mathlib.Core.Bool.{true, false, _&&_}
+use mathlib.Core.List.{List}
+use mathlib.Core.Logic.{_⊎_, inl, inr}
+use mathlib.Core.Path.{_≡_, refl, sym, ap, _∙_}
+use native.Mathlib.Omega.{arith}
+use Rattle.bitmap.specs.Map.{touched}
+use Rattle.peer.specs.Formed.{Formed}
+use Rattle.peer.specs.Incomings.{isLong, isMedium, isRtm}
+use Rattle.peer.specs.Judging.{judge, judgeAgain, judgeData, judgeFit, judgeFound, judgeMore, judgeNew}
+use Rattle.peer.specs.Matching.{ahead, findOpen, oldest, sameMessage}
+use Rattle.peer.specs.State.{phaseAt, phaseFits}
+use Rattle.peer.specs.declared.types.Fit.{Fit}
+use Rattle.peer.specs.declared.types.Found.{Found}
+use Rattle.peer.specs.declared.types.Inbound.{Inbound}
+use Rattle.peer.specs.declared.types.Incoming.{Incoming}
+use Rattle.peer.specs.declared.types.Peer.{Peer}
+use Rattle.peer.specs.declared.types.Phase.{Phase}
+use Rattle.peer.specs.declared.types.Receive.{Receive}
+use Rattle.peer.specs.declared.types.Verdict.{Verdict}
+use Rattle.laws.proofs.Choosing.{and-left, and-right, branch}
+use Rattle.peer.proofs.Slots.{Fitting, found-open, oldest-fits, stands-at}
+use Rattle.peer.proofs.Valid.{Valid, Within, open-within}
+
+-- the packet is matched to the oldest receive that it fits: its id is the next one, and open nowhere
+
+pub record Matched (p : Peer) (h : Incoming) (i : ℕ) (r : Receive) : Type 0 where
+  pub age : ℕ
+  pub rtm : isRtm (h .kind) ≡ true
+  pub unopened : findOpen (h .id) 0 (p .slots) ≡ Found.Nothing
+  pub inOrder : ahead (h .id) (p .next) ≡ 0
+  pub chosen : oldest h 0 Fit.Unfit (p .slots) ≡ Fit.To i r age
+
+pub record Begins (p : Peer) (h : Incoming) (i : ℕ) (r : Receive) : Type 0 where
+  pub matched : Matched p h i r
+  pub inCapacity : h .length ≤ r .capacity
+
+pub record CutOff (p : Peer) (h : Incoming) (i : ℕ) : Type 0 where
+  pub receive : Receive
+  pub matched : Matched p h i receive
+  pub tooLong : receive .capacity < h .length
+
+-- the packet belongs to an open message, of which it brings bytes that are not in yet
+pub record Continues (p : Peer) (ws : List ℕ) (h : Incoming) (i : ℕ) (o : Inbound) : Type 0 where
+  pub found : findOpen (h .id) 0 (p .slots) ≡ Found.At i o
+  pub inLength : h .offset + h .size ≤ o .message .length
+  pub inGrant : isLong (o .message .kind) ≡ true → h .offset + h .size ≤ o .message .granted
+  pub unmarked : touched ws (o .receive .start + h .offset) (h .size) ≡ false
+
+abbrev pub Judged : Peer → List ℕ → Incoming → Verdict → Type 0
+Judged p ws h (Verdict.Refuse k) = Unit {0}
+Judged p ws h (Verdict.Truncate i) = CutOff p h i
+Judged p ws h (Verdict.Begin i r) = Begins p h i r
+Judged p ws h (Verdict.More i o) = Continues p ws h i o
+
+module _ (area : ℕ) (p : Peer) (ws : List ℕ) (h : Incoming) (n : ℕ) (v : Valid area (p .slots)) (form : Formed h n) where
+  -- a segment of an open message lies in it
+  pub again-inside : (o : Inbound) → isRtm (h .kind) ≡ true → sameMessage (o .message) h ≡ true
+      → (h .offset + h .size ≤ o .message .length) × (isLong (o .message .kind) ≡ true → ⊥)
+  unfolding sameMessage
+  again-inside o rtm x =
+      let med : isMedium (h .kind) ≡ true = and-left _ (eqb (h .kind) (o .message .kind) && (eqb (h .length) (o .message .length) && eqb (h .tag) (o .message .tag))) x in
+      let y = and-right (isMedium (h .kind)) _ x in
+      let kind : h .kind ≡ o .message .kind = eqb-true _ _ (and-left _ (eqb (h .length) (o .message .length) && eqb (h .tag) (o .message .tag)) y) in
+      let z = and-right (eqb (h .kind) (o .message .kind)) _ y in
+      let len : h .length ≡ o .message .length = eqb-true _ _ (and-left _ (eqb (h .tag) (o .message .tag)) z) in (
+        omega (arith, form .inside rtm),
+        λ long. omega (arith, eqb-true (h .kind / 2) 33 med, eqb-true (o .message .kind / 2) 34 long, ap (λ (k : ℕ). k / 2) kind),
+      )
+
+  pub found-within : (i : ℕ) (o : Inbound) → findOpen (h .id) 0 (p .slots) ≡ Found.At i o → Within area o
+  found-within i o e =
+      let at = stands-at (p .slots) i (Phase.Open o) (found-open (h .id) 0 (p .slots) i o e .0) in
+      open-within area o (ap (phaseFits area) (sym (at .1)) ∙ v .each i)
+
+  J : Verdict → Type 0
+  J = Judged p ws h
+
+  judged-more : (i : ℕ) (o : Inbound) → findOpen (h .id) 0 (p .slots) ≡ Found.At i o → h .offset + h .size ≤ o .message .length
+      → (isLong (o .message .kind) ≡ true → h .offset + h .size ≤ o .message .granted) → J (judgeMore ws i o h)
+  unfolding J judgeMore
+  judged-more i o e l g =
+      branch (Judged p ws h) _ _ _ (λ x. tt)
+      (λ x. record { found = e; inLength = l; inGrant = g; unmarked = x })
+
+  judged-again : (i : ℕ) (o : Inbound) → findOpen (h .id) 0 (p .slots) ≡ Found.At i o → isRtm (h .kind) ≡ true → J (judgeAgain ws i o h)
+  unfolding J judgeAgain
+  judged-again i o e rtm =
+      branch (Judged p ws h) _ _ _
+      (λ x. let w = again-inside o rtm x in judged-more i o e (w .0) (λ long. absurd (w .1 long)))
+      (λ x. tt)
+
+  judged-data : (i : ℕ) (o : Inbound) → findOpen (h .id) 0 (p .slots) ≡ Found.At i o → J (judgeData ws i o h)
+  unfolding J judgeData
+  judged-data i o e =
+      branch (Judged p ws h) _ _ _
+      (λ long. branch (Judged p ws h) _ _ _
+      (λ x.
+      let g : h .offset + h .size ≤ o .message .granted = leb-true _ _ x in
+      judged-more i o e (omega (arith, found-within i o e .inLength)) (λ y. g))
+      (λ x. tt))
+      (λ x. tt)
+
+  judged-fit : (f : Fit) → oldest h 0 Fit.Unfit (p .slots) ≡ f → isRtm (h .kind) ≡ true → findOpen (h .id) 0 (p .slots) ≡ Found.Nothing
+      → ahead (h .id) (p .next) ≡ 0 → J (judgeFit h f)
+  unfolding J judgeFit
+  judged-fit Fit.Unfit e rtm unopen next = tt
+  judged-fit (Fit.To i r a) e rtm unopen next =
+      let m : Matched p h i r = record { age = a; rtm = rtm; unopened = unopen; inOrder = next; chosen = e } in
+      branch (Judged p ws h) _ _ _
+      (λ x. record { receive = r; matched = m; tooLong = ltb-true _ _ x })
+      (λ x. record { matched = m; inCapacity = ltb-false _ _ x })
+
+  judged-new : isRtm (h .kind) ≡ true → findOpen (h .id) 0 (p .slots) ≡ Found.Nothing → J (judgeNew p h)
+  unfolding J judgeNew
+  judged-new rtm unopen =
+      branch (Judged p ws h) _ _ _ (λ x. tt) (λ x.
+      branch (Judged p ws h) _ _ _ (λ y. tt) (λ y.
+      judged-fit (oldest h 0 Fit.Unfit (p .slots)) refl rtm unopen (omega (arith, leb-false 1 (ahead (h .id) (p .next)) y))))
+
+  pub judged : Judged p ws h (judge p ws h)
+  unfolding judge judgeFound J
+  judged = go (findOpen (h .id) 0 (p .slots)) refl
+    where
+      go : (f : Found) → findOpen (h .id) 0 (p .slots) ≡ f → Judged p ws h (judgeFound p ws h f)
+      go (Found.At i o) e =
+          branch (Judged p ws h) _ _ _ (λ x. judged-again i o e x) (λ x. judged-data i o e)
+      go Found.Nothing e =
+          branch (Judged p ws h) _ _ _ (λ x. judged-new x e) (λ x. tt)
+
+-- what a verdict's slot holds
+
+pub chosen-at : (p : Peer) (h : Incoming) (i : ℕ) (r : Receive) (m : Matched p h i r) → (i < length (p .slots)) × (phaseAt (p .slots) i ≡ Phase.Posted r (m .age))
+chosen-at p h i r m = go (oldest-fits h 0 Fit.Unfit (p .slots) i r (m .age) (m .chosen))
+  where
+    go : (Fit.Unfit ≡ Fit.To i r (m .age)) ⊎ Fitting h (p .slots) 0 i r (m .age) → (i < length (p .slots)) × (phaseAt (p .slots) i ≡ Phase.Posted r (m .age))
+    go (inl x) = let z : _≡_ {A = ℕ} 0 1 = cc in absurd (omega arith)
+    go (inr w) = stands-at (p .slots) i (Phase.Posted r (m .age)) (w .stands)
+
+pub continued-at : (p : Peer) (ws : List ℕ) (h : Incoming) (i : ℕ) (o : Inbound) → Continues p ws h i o → (i < length (p .slots)) × (phaseAt (p .slots) i ≡ Phase.Open o)
+continued-at p ws h i o c = stands-at (p .slots) i (Phase.Open o) (found-open (h .id) 0 (p .slots) i o (c .found) .0)

@@ -1,0 +1,218 @@
+-- What demand 2 says of a peer's calls, from its history alone. Each claim is about every call after every history.
+use Prim.Native.Nat.{ℕ, _+_, _-_, _/_, _≤_, _<_}
+use mathlib.Core.Path.{_≡_}
+use mathlib.Core.List.{List, [], _∷_}
+use mathlib.Core.Bool.{Bool, true, false}
+use lib.ListN.{length, getD}
+use Rattle.laws.specs.Choose.{pick}
+use Rattle.packet.specs.declared.types.Packet.{Packet}
+use Rattle.packet.specs.declared.types.Read.{Read}
+use Rattle.packet.specs.Reading.{readOf}
+use Rattle.peer.specs.declared.types.Answer.{Answer}
+use Rattle.peer.specs.declared.types.Inbound.{Inbound}
+use Rattle.peer.specs.declared.types.Receive.{Receive}
+use Rattle.peer.specs.Calls.{Call, packet}
+use Rattle.peer.specs.Coverage.{Segment, covers, inside, allOf}
+use Rattle.peer.specs.Expected.{expected, targetOfCall, expectedBytes}
+use Rattle.peer.specs.Incomings.{incomingOf, isLong}
+use Rattle.peer.specs.Matching.{ahead, fits}
+use Rattle.peer.specs.Plain.{waiting, receiving, Plain, Target, entryAt, freshPlain, enter}
+
+-- the plain receiver after a history: a list of calls, each with the answer that 01 demands
+unfoldable pub plainAfter : ℕ → ℕ → Plain → List Call → Plain
+plainAfter area limit l [] = l
+plainAfter area limit l (c ∷ cs) = plainAfter area limit (enter limit l c (expected area limit l c)) cs
+
+abbrev pub history : ℕ → ℕ → List Call → Plain
+history area limit calls = plainAfter area limit freshPlain calls
+
+-- ---- done exactly when covered
+
+-- the message that a packet's segment is accepted into, with the segment: whether its accepted segments cover every byte
+pub record Covered (t : Target) (o : Inbound) (complete : Bool) : Type 0 where
+  pub role : t .entry .role ≡ receiving o
+  pub covered : allOf (covers (t .entry .segments)) 0 (o .message .length) ≡ complete
+
+-- the answer names that message
+pub record Finished (t : Target) (slot id n : ℕ) : Type 0 where
+  pub message : Inbound
+  pub covered : Covered t message true
+  pub slotIs : slot ≡ t .index
+  pub idIs : id ≡ message .message .id
+  pub lengthIs : n ≡ message .message .length
+
+pub record Unfinished (t : Target) : Type 0 where
+  pub message : Inbound
+  pub covered : Covered t message false
+
+abbrev pub DoneClaim : Target → Answer → Type 0
+DoneClaim t (Answer.Refused k) = Unit {0}
+DoneClaim t (Answer.Posted i) = Unit {0}
+DoneClaim t (Answer.Cancelled i) = Unit {0}
+DoneClaim t Answer.Stored = Unfinished t
+DoneClaim t (Answer.Granted n) = Unfinished t
+DoneClaim t (Answer.Done slot id n cq) = Finished t slot id n
+DoneClaim t (Answer.Truncated slot id n) = Unit {0}
+DoneClaim t (Answer.Missing c o) = Unit {0}
+
+-- "reported done exactly then ..: at its match if empty, otherwise at the packet with which accepted segments have covered every byte"
+unfoldable pub DoneWhenCovered : Type 0
+DoneWhenCovered =
+    (area limit : ℕ) (calls : List Call) (c : Call)
+    → DoneClaim (targetOfCall limit (history area limit calls) c) (expected area limit (history area limit calls) c)
+
+-- ---- message order, and the receive posted first
+
+-- the packet q begins a message: its id is the next one, and of the receives that it fits the one in entry `t .index` was posted first
+pub record InOrder (l : Plain) (q : Packet) (t : Target) : Type 0 where
+  pub next : ahead (incomingOf q .id) (l .next) ≡ 0
+  pub receive : Receive
+  pub waits : entryAt (l .entries) (t .index) .role ≡ waiting receive
+  pub fit : fits (incomingOf q) receive ≡ true
+  pub first : (j : ℕ) (r : Receive) → entryAt (l .entries) j .role ≡ waiting r → fits (incomingOf q) r ≡ true
+      → entryAt (l .entries) (t .index) .serial ≤ entryAt (l .entries) j .serial
+
+-- the answer takes the packet: it accepts its segment, or truncates its message
+abbrev pub takes : Answer → Bool
+takes (Answer.Refused k) = false
+takes (Answer.Posted i) = false
+takes (Answer.Cancelled i) = false
+takes Answer.Stored = true
+takes (Answer.Granted n) = true
+takes (Answer.Done slot id n cq) = true
+takes (Answer.Truncated slot id n) = true
+takes (Answer.Missing c o) = false
+
+-- "messages are matched in message order to the oldest fitting receive"
+unfoldable pub MatchedInOrder : Type 0
+MatchedInOrder =
+    (area limit : ℕ) (calls : List Call) (bs : List ℕ) (room : ℕ) (q : Packet)
+    → readOf false limit bs ≡ Read.Packet q
+    → takes (expected area limit (history area limit calls) (packet bs room)) ≡ true
+    → targetOfCall limit (history area limit calls) (packet bs room) .matched ≡ true
+    → InOrder (history area limit calls) q (targetOfCall limit (history area limit calls) (packet bs room))
+
+-- ---- once
+
+abbrev pub isDone : Target → Answer → Bool
+isDone t (Answer.Refused k) = false
+isDone t (Answer.Posted i) = false
+isDone t (Answer.Cancelled i) = false
+isDone t Answer.Stored = false
+isDone t (Answer.Granted n) = false
+isDone t (Answer.Done slot id n cq) = true
+isDone t (Answer.Truncated slot id n) = false
+isDone t (Answer.Missing c o) = false
+
+-- the packet is taken by a match now
+abbrev pub isMatch : Target → Answer → Bool
+isMatch t a = pick (takes a) (t .matched) false
+
+-- the receives, each by the number of posts before it, that the answers of a history name by t, in order
+unfoldable pub receivesOf : (Target → Answer → Bool) → ℕ → ℕ → Plain → List Call → List ℕ
+receivesOf named area limit l [] = []
+receivesOf named area limit l (c ∷ cs) =
+    let rest : List ℕ = receivesOf named area limit (enter limit l c (expected area limit l c)) cs in
+    pick (named (targetOfCall limit l c) (expected area limit l c)) (entryAt (l .entries) (targetOfCall limit l c .index) .serial ∷ rest) rest
+
+-- no number stands at two places
+abbrev pub Distinct : List ℕ → Type 0
+Distinct ns = (i j : ℕ) → i < length ns → j < length ns → getD ns i 0 ≡ getD ns j 0 → i ≡ j
+
+-- "and once": each match takes a receive of its own, and of each a done is answered at most once
+unfoldable pub Once : Type 0
+Once =
+    (area limit : ℕ) (calls : List Call)
+    → Distinct (receivesOf isMatch area limit freshPlain calls) × Distinct (receivesOf isDone area limit freshPlain calls)
+
+-- ---- the bytes of a done message
+
+abbrev pub segmentAt : List Segment → ℕ → Segment
+segmentAt gs i = getD gs i (record { offset = 0; bytes = [] })
+
+-- b is the byte at offset o of the one segment of gs that covers o
+pub record ByteFrom (gs : List Segment) (o b : ℕ) : Type 0 where
+  pub index : ℕ
+  pub inList : index < length gs
+  pub covered : inside (segmentAt gs index) o ≡ true
+  pub byte : b ≡ getD (segmentAt gs index .bytes) (o - segmentAt gs index .offset) 0
+  pub only : (k : ℕ) → k < length gs → inside (segmentAt gs k) o ≡ true → k ≡ index
+
+abbrev pub BytesClaim : Target → Answer → Type 0
+BytesClaim t (Answer.Refused k) = Unit {0}
+BytesClaim t (Answer.Posted i) = Unit {0}
+BytesClaim t (Answer.Cancelled i) = Unit {0}
+BytesClaim t Answer.Stored = Unit {0}
+BytesClaim t (Answer.Granted n) = Unit {0}
+BytesClaim t (Answer.Done slot id n cq) =
+    (length (expectedBytes (t .entry .segments) (Answer.Done slot id n cq)) ≡ n)
+    × ((o : ℕ) → o < n → ByteFrom (t .entry .segments) o (getD (expectedBytes (t .entry .segments) (Answer.Done slot id n cq)) o 0))
+BytesClaim t (Answer.Truncated slot id n) = Unit {0}
+BytesClaim t (Answer.Missing c o) = Unit {0}
+
+-- a done message holds, at every offset, the byte of the one accepted segment that covers it
+unfoldable pub BytesBySegments : Type 0
+BytesBySegments =
+    (area limit : ℕ) (calls : List Call) (c : Call)
+    → BytesClaim (targetOfCall limit (history area limit calls) c) (expected area limit (history area limit calls) c)
+
+-- ---- what is written
+
+-- the bytes that a call puts into the area from `at` on are the data of its own segment, in the segment's own range of its message's buffer
+pub record SegmentIn (area : ℕ) (t : Target) (at : ℕ) (bytes : List ℕ) : Type 0 where
+  pub message : Inbound
+  pub segment : Segment
+  pub earlier : List Segment
+  pub role : t .entry .role ≡ receiving message
+  pub latest : t .entry .segments ≡ segment ∷ earlier
+  pub place : at ≡ message .receive .start + segment .offset
+  pub content : bytes ≡ segment .bytes
+  pub inMessage : segment .offset + length (segment .bytes) ≤ message .message .length
+  pub inBuffer : message .message .length ≤ message .receive .capacity
+  pub inArea : message .receive .start + message .receive .capacity ≤ area
+
+-- "Each accepted segment puts its own data into its own range of its own buffer and changes no other arena byte"
+abbrev pub WriteClaim : ℕ → Target → Answer → ℕ → List ℕ → Type 0
+WriteClaim area t (Answer.Refused k) at bytes = bytes ≡ []
+WriteClaim area t (Answer.Posted i) at bytes = bytes ≡ []
+WriteClaim area t (Answer.Cancelled i) at bytes = bytes ≡ []
+WriteClaim area t Answer.Stored at bytes = SegmentIn area t at bytes
+WriteClaim area t (Answer.Granted n) at bytes = SegmentIn area t at bytes
+WriteClaim area t (Answer.Done slot id n cq) at bytes = SegmentIn area t at bytes
+WriteClaim area t (Answer.Truncated slot id n) at bytes = bytes ≡ []
+WriteClaim area t (Answer.Missing c o) at bytes = bytes ≡ []
+
+-- ---- grants
+
+abbrev pub total : List ℕ → ℕ
+total [] = 0
+total (n ∷ ns) = n + total ns
+
+-- x / d, rounded up
+abbrev pub roundUp : ℕ → ℕ → ℕ
+roundUp x d = (x + d - 1) / d
+
+-- "When a long message is done, its RTM data plus the recv_length of every CTS written for it equals the length"
+pub record GrantsAdd (t : Target) (n : ℕ) : Type 0 where
+  pub adds : (o : Inbound) → t .entry .role ≡ receiving o → isLong (o .message .kind) ≡ true → t .entry .rtm + total (t .entry .grants) ≡ n
+
+-- "CTS count is at most (length − RTM data)/(L − 32), rounded up", the CTS of this answer for n bytes included
+pub record FewGrants (limit : ℕ) (t : Target) (n : ℕ) : Type 0 where
+  pub few : (o : Inbound) → t .entry .role ≡ receiving o → length (n ∷ t .entry .grants) ≤ roundUp (o .message .length - t .entry .rtm) (limit - 32)
+
+abbrev pub GrantClaim : ℕ → Target → Answer → Type 0
+GrantClaim limit t (Answer.Refused k) = Unit {0}
+GrantClaim limit t (Answer.Posted i) = Unit {0}
+GrantClaim limit t (Answer.Cancelled i) = Unit {0}
+GrantClaim limit t Answer.Stored = Unit {0}
+GrantClaim limit t (Answer.Granted n) = FewGrants limit t n
+GrantClaim limit t (Answer.Done slot id n cq) = GrantsAdd t n
+GrantClaim limit t (Answer.Truncated slot id n) = Unit {0}
+GrantClaim limit t (Answer.Missing c o) = Unit {0}
+
+-- at every limit that a set-up takes
+unfoldable pub GrantsBounded : Type 0
+GrantsBounded =
+    (area limit : ℕ) (calls : List Call) (c : Call)
+    → 64 ≤ limit
+    → GrantClaim limit (targetOfCall limit (history area limit calls) c) (expected area limit (history area limit calls) c)

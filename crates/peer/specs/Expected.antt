@@ -1,0 +1,167 @@
+-- The answer that 01 demands of a call after a history: every refusal from 5 on, in its order, and every other answer with its numbers.
+use Prim.Native.Nat.{ℕ, suc, _+_}
+use mathlib.Core.List.{List, [], _∷_}
+use mathlib.Core.Bool.{Bool, false, _&&_, _||_}
+use lib.Dec.{leb, ltb}
+use Rattle.laws.specs.Choose.{pick}
+use Rattle.bitmap.specs.Offsets.{someOf, countOf, firstNot}
+use Rattle.packet.specs.Cts.{ctsBytes}
+use Rattle.packet.specs.declared.types.Read.{Read}
+use Rattle.packet.specs.Reading.{readOf}
+use Rattle.packet.specs.Values.{bytesAt}
+use Rattle.peer.specs.declared.types.Receive.{Receive}
+use Rattle.peer.specs.declared.types.Inbound.{Inbound}
+use Rattle.peer.specs.declared.types.Incoming.{Incoming}
+use Rattle.peer.specs.declared.types.Found.{Found}
+use Rattle.peer.specs.declared.types.Fit.{Fit}
+use Rattle.peer.specs.declared.types.Vacancy.{Vacancy}
+use Rattle.peer.specs.declared.types.Answer.{Answer}
+use Rattle.peer.specs.Calls.{Call, post, packet, cancel, report}
+use Rattle.peer.specs.Coverage.{Segment, covers, allOf, bytesFrom}
+use Rattle.peer.specs.Effects.{opened, grantOf}
+use Rattle.peer.specs.Incomings.{incomingOf, isRtm, isLong}
+use Rattle.peer.specs.Matching.{ahead, sameMessage}
+use Rattle.peer.specs.Numbers.{shortReply, outsideArea, early, noReceive, differs, late, repeated, beyondGrant, noSlot, overlaps, badSlot}
+use Rattle.peer.specs.Plain.{Role, idle, waiting, receiving, Plain, entryAt, roles, openIn, firstPosted, segmentOf, Target, targetOf}
+use Rattle.peer.specs.State.{slotCount, overlap}
+
+-- ---- post: "11, 19, 18"
+
+-- 19: "post overlaps a used range of this peer"
+unfoldable pub anyOverlap : Receive → List Role → Bool
+anyOverlap r [] = false
+anyOverlap r (idle ∷ us) = anyOverlap r us
+anyOverlap r (waiting s ∷ us) = overlap r s || anyOverlap r us
+anyOverlap r (receiving o ∷ us) = overlap r (o .receive) || anyOverlap r us
+
+-- "A post takes the lowest free slot"
+unfoldable pub lowestIdle : ℕ → List Role → Vacancy
+lowestIdle i [] = Vacancy.Full
+lowestIdle i (idle ∷ us) = Vacancy.Slot i
+lowestIdle i (waiting r ∷ us) = lowestIdle (suc i) us
+lowestIdle i (receiving o ∷ us) = lowestIdle (suc i) us
+
+-- 18: "no free slot"
+abbrev pub expectPlace : Vacancy → Answer
+expectPlace Vacancy.Full = Answer.Refused noSlot
+expectPlace (Vacancy.Slot i) = Answer.Posted i
+
+unfoldable pub expectPost : ℕ → Plain → Receive → Answer
+expectPost area l r =
+    pick (ltb area (r .start + r .capacity)) (Answer.Refused outsideArea)
+    (pick (anyOverlap r (roles (l .entries))) (Answer.Refused overlaps)
+    (expectPlace (lowestIdle 0 (roles (l .entries)))))
+
+-- ---- packet
+
+-- a segment of the message o in slot i is accepted, which with it has the segments gs: done where "accepted segments have covered every
+-- byte"; granted more if it is a long one "not done by its RTM, or whose granted bytes are all in while length remains"; else stored
+unfoldable pub expectTaken : ℕ → ℕ → Inbound → List Segment → Answer
+expectTaken limit i o gs =
+    pick (allOf (covers gs) 0 (o .message .length)) (Answer.Done i (o .message .id) (o .message .length) (o .message .«cq_data»))
+    (pick (isLong (o .message .kind) && (allOf (covers gs) 0 (o .message .granted) && ltb (o .message .granted) (o .message .length)))
+    (Answer.Granted (grantOf limit (o .message)))
+    Answer.Stored)
+
+-- 16: "segment shares a byte with one already accepted"
+unfoldable pub expectMore : ℕ → Plain → Incoming → List ℕ → ℕ → Inbound → Answer
+expectMore limit l h bytes i o =
+    pick (someOf (covers (entryAt (l .entries) i .segments)) (h .offset) (h .size)) (Answer.Refused repeated)
+    (expectTaken limit i o (segmentOf h bytes ∷ entryAt (l .entries) i .segments))
+
+-- "RTMs: if open, 14, 16"
+unfoldable pub expectAgain : ℕ → Plain → Incoming → List ℕ → ℕ → Inbound → Answer
+expectAgain limit l h bytes i o = pick (sameMessage (o .message) h) (expectMore limit l h bytes i o) (Answer.Refused differs)
+
+-- "CTSDATA: 15, 17, 16"
+unfoldable pub expectData : ℕ → Plain → Incoming → List ℕ → ℕ → Inbound → Answer
+expectData limit l h bytes i o =
+    pick (isLong (o .message .kind))
+    (pick (ltb (o .message .granted) (h .offset + h .size)) (Answer.Refused beyondGrant) (expectMore limit l h bytes i o))
+    (Answer.Refused late)
+
+-- "matches the oldest fitting receive"; "Length above capacity: answer truncated (slot, id, length)"
+unfoldable pub expectFit : ℕ → Incoming → List ℕ → Fit → Answer
+expectFit limit h bytes Fit.Unfit = Answer.Refused noReceive
+expectFit limit h bytes (Fit.To i r serial) =
+    pick (ltb (r .capacity) (h .length)) (Answer.Truncated i (h .id) (h .length))
+    (expectTaken limit i (opened r h) (segmentOf h bytes ∷ []))
+
+-- "if not open, 15, 12, 13": "0 matches ..; 1 to 2^31−1 is early; above that, late"
+unfoldable pub expectNew : ℕ → Plain → Incoming → List ℕ → Answer
+expectNew limit l h bytes =
+    pick (ltb 2147483647 (ahead (h .id) (l .next))) (Answer.Refused late)
+    (pick (ltb 0 (ahead (h .id) (l .next))) (Answer.Refused early)
+    (expectFit limit h bytes (firstPosted h 0 Fit.Unfit (l .entries))))
+
+unfoldable pub expectFound : ℕ → Plain → Incoming → List ℕ → Found → Answer
+expectFound limit l h bytes (Found.At i o) = pick (isRtm (h .kind)) (expectAgain limit l h bytes i o) (expectData limit l h bytes i o)
+expectFound limit l h bytes Found.Nothing = pick (isRtm (h .kind)) (expectNew limit l h bytes) (Answer.Refused late)
+
+-- the reader's refusals come first
+unfoldable pub expectRead : ℕ → Plain → List ℕ → Read → Answer
+expectRead limit l bs (Read.Refused k) = Answer.Refused k
+expectRead limit l bs (Read.Packet q) =
+    expectFound limit l (incomingOf q) (bytesAt bs (q .«data»)) (openIn (incomingOf q .id) 0 (roles (l .entries)))
+
+-- ---- cancel and report: "20"
+
+abbrev pub expectCancel : ℕ → Role → Answer
+expectCancel i idle = Answer.Refused badSlot
+expectCancel i (waiting r) = Answer.Cancelled i
+expectCancel i (receiving o) = Answer.Cancelled i
+
+-- "the received count is the number of the message's bytes so far covered, and the first missing offset is the lowest not covered"
+abbrev pub expectReport : List Segment → Role → Answer
+expectReport gs idle = Answer.Refused badSlot
+expectReport gs (waiting r) = Answer.Refused badSlot
+expectReport gs (receiving o) = Answer.Missing (countOf (covers gs) 0 (o .message .length)) (firstNot (covers gs) 0 (o .message .length))
+
+-- ---- the answer
+
+unfoldable pub expected : ℕ → ℕ → Plain → Call → Answer
+expected area limit l (post r) = expectPost area l r
+expected area limit l (packet bs room) = pick (ltb room 24) (Answer.Refused shortReply) (expectRead limit l bs (readOf false limit bs))
+expected area limit l (cancel i) = pick (leb slotCount i) (Answer.Refused badSlot) (expectCancel i (entryAt (l .entries) i .role))
+expected area limit l (report i) =
+    pick (leb slotCount i) (Answer.Refused badSlot) (expectReport (entryAt (l .entries) i .segments) (entryAt (l .entries) i .role))
+
+-- ---- what else a call yields
+
+-- the entry that a packet's segment goes to, with the segment
+abbrev pub targetOfRead : Plain → List ℕ → Read → Target
+targetOfRead l bs (Read.Refused k) = Rattle.peer.specs.Plain.nowhere
+targetOfRead l bs (Read.Packet q) = targetOf l (incomingOf q) (bytesAt bs (q .«data»))
+
+unfoldable pub targetOfCall : ℕ → Plain → Call → Target
+targetOfCall limit l (post r) = Rattle.peer.specs.Plain.nowhere
+targetOfCall limit l (packet bs room) = targetOfRead l bs (readOf false limit bs)
+targetOfCall limit l (cancel i) = Rattle.peer.specs.Plain.nowhere
+targetOfCall limit l (report i) = Rattle.peer.specs.Plain.nowhere
+
+-- "a CTS in the first 24 reply bytes" for the message, if the answer is granted; "no other answer touches the reply buffer"
+abbrev pub ctsFor : Role → ℕ → List ℕ
+ctsFor idle n = []
+ctsFor (waiting r) n = []
+ctsFor (receiving o) n = ctsBytes (o .message .«send_id») (o .message .id) n
+
+abbrev pub expectedReply : Role → Answer → List ℕ
+expectedReply u (Answer.Refused k) = []
+expectedReply u (Answer.Posted i) = []
+expectedReply u (Answer.Cancelled i) = []
+expectedReply u Answer.Stored = []
+expectedReply u (Answer.Granted n) = ctsFor u n
+expectedReply u (Answer.Done i id n cq) = []
+expectedReply u (Answer.Truncated i id n) = []
+expectedReply u (Answer.Missing c o) = []
+
+-- the bytes of a message that is answered done, by its accepted segments
+abbrev pub expectedBytes : List Segment → Answer → List ℕ
+expectedBytes gs (Answer.Refused k) = []
+expectedBytes gs (Answer.Posted i) = []
+expectedBytes gs (Answer.Cancelled i) = []
+expectedBytes gs Answer.Stored = []
+expectedBytes gs (Answer.Granted n) = []
+expectedBytes gs (Answer.Done i id n cq) = bytesFrom gs 0 n
+expectedBytes gs (Answer.Truncated i id n) = []
+expectedBytes gs (Answer.Missing c o) = []

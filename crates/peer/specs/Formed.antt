@@ -1,0 +1,12 @@
+-- What a packet that was read keeps to.
+use Prim.Native.Nat.{ℕ, _+_, _≤_}
+use mathlib.Core.Path.{_≡_}
+use mathlib.Core.Bool.{true}
+use Rattle.peer.specs.declared.types.Incoming.{Incoming}
+use Rattle.peer.specs.Incomings.{isRtm, isLong}
+
+-- a packet with n bytes of data: an RTM's segment lies in its message, and a long message begins at its start
+pub record Formed (h : Incoming) (n : ℕ) : Type 0 where
+  pub size : h .size ≡ n
+  pub inside : isRtm (h .kind) ≡ true → h .offset + h .size ≤ h .length
+  pub start : isLong (h .kind) ≡ true → h .offset ≡ 0

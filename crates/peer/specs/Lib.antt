@@ -1,0 +1,14 @@
+pub mod State
+pub mod Numbers
+pub mod Incomings
+pub mod Matching
+pub mod Judging
+pub mod Effects
+pub mod Calls
+pub mod Coverage
+pub mod Plain
+pub mod Expected
+pub mod Formed
+pub mod Claims
+pub mod Starts
+pub mod Refusing

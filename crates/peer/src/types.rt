@@ -1,0 +1,121 @@
+// The state of one peer, what a packet says, and what a call answers.
+use packet::CqData;
+use packet::Refusal;
+
+// What a post asks for: a range of the peer's area, for messages of a kind and a tag.
+pub struct Receive {
+    pub tagged: bool,
+    pub tag: u64,
+    pub ignore: u64,
+    pub start: usize,
+    pub capacity: usize,
+}
+
+// What a packet says of its message, and of the segment that it carries.
+pub struct Incoming {
+    pub kind: u8,
+    pub id: u32,
+    pub tag: u64,
+    pub length: usize,
+    pub offset: usize,
+    pub size: usize,
+    pub send_id: u32,
+    pub credit_request: u32,
+    pub cq_data: CqData,
+}
+
+// An open message, as the matching packet began it. CTSDATA may reach up to `granted`.
+pub struct Message {
+    pub kind: u8,
+    pub id: u32,
+    pub tag: u64,
+    pub length: usize,
+    pub granted: usize,
+    pub send_id: u32,
+    pub credit_request: u32,
+    pub cq_data: CqData,
+}
+
+// An open message in its receive.
+pub struct Inbound {
+    pub receive: Receive,
+    pub message: Message,
+}
+
+// What a slot is used for. Of two posted receives the one with the lower age was posted first.
+pub enum Phase {
+    Free,
+    Posted(Receive, u64),
+    Open(Inbound),
+}
+
+pub struct Slot {
+    pub phase: Phase,
+}
+
+pub struct Peer {
+    pub next: u32,
+    pub slots: [Slot; 8],
+}
+
+// The open message that a packet belongs to.
+pub enum Found {
+    At(usize, Inbound),
+    Nothing,
+}
+
+// The oldest receive that a packet fits, with its age.
+pub enum Fit {
+    To(usize, Receive, u64),
+    Unfit,
+}
+
+// The lowest free slot.
+pub enum Vacancy {
+    Slot(usize),
+    Full,
+}
+
+// What is to be done with a packet.
+pub enum Verdict {
+    Refuse(Refusal),
+    Truncate(usize),
+    Begin(usize, Receive),
+    More(usize, Inbound),
+}
+
+// How far an open message is: every byte is in, all that was granted is, or neither.
+pub enum Progress {
+    Whole,
+    Due,
+    Partial,
+}
+
+pub enum Answer {
+    Refused(Refusal),
+    Posted(usize),
+    Cancelled(usize),
+    Stored,
+    Granted(usize),
+    Done {
+        slot: usize,
+        id: u32,
+        length: usize,
+        cq_data: CqData,
+    },
+    Truncated {
+        slot: usize,
+        id: u32,
+        length: usize,
+    },
+    Missing {
+        received: usize,
+        first: usize,
+    },
+}
+
+// The peer after a call, and the call's answer.
+pub struct Step {
+    pub peer: Peer,
+    pub answer: Answer,
+}
