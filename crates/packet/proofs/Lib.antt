@@ -10,3 +10,6 @@ pub mod ReadBack
 pub mod WriteBack
 pub mod RoundTrips
 pub mod Served
+pub mod BitWords
+pub mod WordsHold
+pub mod OrderHolds

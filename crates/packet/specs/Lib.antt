@@ -12,3 +12,4 @@ pub mod Rules
 pub mod Values
 pub mod RoundTrip
 pub mod Cts
+pub mod InWords

@@ -22,3 +22,6 @@ pub mod HistoryBytes
 pub mod HistoryGrants
 pub mod HistorySerials
 pub mod HistoryOnce
+pub mod OffsetsHold
+pub mod WordsHold
+pub mod FieldsHold

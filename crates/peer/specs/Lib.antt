@@ -12,3 +12,4 @@ pub mod Formed
 pub mod Claims
 pub mod Starts
 pub mod Refusing
+pub mod InWords

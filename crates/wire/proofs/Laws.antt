@@ -104,7 +104,7 @@ bytes-wide m n x h = rw (bytes-halves m n x, mod-eq-of-lt h, div-eq-of-lt h, byt
 pub le-behind-wide : (m n x : ℕ) (a c : List ℕ) (at : ℕ) → x < 256 ^ m → length a ≡ at → leAt m (a ++ (leBytes (m + n) x ++ c)) at ≡ x
 le-behind-wide m n x a c at h p = rw (bytes-wide m n x h, append-assoc) (le-behind m x a (replicate n 0 ++ c) at h p)
 
-le-at-fits : (n : ℕ) (l : List ℕ) (at : ℕ) → ((i : ℕ) → getD l i 0 < 256) → leAt n l at < 256 ^ n
+pub le-at-fits : (n : ℕ) (l : List ℕ) (at : ℕ) → ((i : ℕ) → getD l i 0 < 256) → leAt n l at < 256 ^ n
 unfolding leAt part
 le-at-fits n l at f = le-fits n (part l at n) (simp length-take (omega arith)) (part-all (λ b. b < 256) 0 l at n f)
 

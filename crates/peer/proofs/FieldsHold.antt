@@ -1,0 +1,123 @@
+-- What a packet that was read says stands where 01's table puts it: the statement of specs/InWords.antt on a packet's fields.
+use Prim.Native.Nat.{ℕ, _-_, _%_}
+use borrow.Author.Tests.{eqb-true, not-true}
+use lib.Dec.{leb, eqb}
+use lib.ListN.{length, getD}
+use mathlib.Core.Bool.{Bool, false, not, _||_}
+use mathlib.Core.List.{List, [], _∷_, _++_}
+use mathlib.Core.Logic.{⊎-elim}
+use mathlib.Core.Path.{_≡_, refl, sym, ap, _∙_, subst}
+use native.Mathlib.Omega.{arith}
+use Rattle.laws.specs.Choose.{pick}
+use Rattle.packet.specs.Layout.{fieldsAt, fieldsIn, layout, numberAt, tag, untagged}
+use Rattle.packet.specs.Lengths.{lengthsFit}
+use Rattle.packet.specs.Reading.{headerIn, packetIn, readOf}
+use Rattle.packet.specs.Types.{row, rowIn, rowOf, rows}
+use Rattle.packet.specs.declared.table.Found.the-variants.{Row}
+use Rattle.packet.specs.declared.table.Shape.{Shape}
+use Rattle.packet.specs.declared.table.Shape.the-variants.{Cts, CtsData, Eager, LongCts, Medium}
+use Rattle.packet.specs.declared.table.TypeRow.{TypeRow}
+use Rattle.packet.specs.declared.types.Packet.{Packet}
+use Rattle.packet.specs.declared.types.Read.{Read}
+use Rattle.peer.specs.InWords.{ReadAsTheTableSays, Told}
+use Rattle.peer.specs.Incomings.{incomingOf}
+use Rattle.peer.specs.declared.types.Incoming.{Incoming}
+use Rattle.wire.specs.LittleEndian.{leAt}
+use Rattle.laws.proofs.Choosing.{and-right, or-cases}
+use Rattle.packet.proofs.Accepted.{ReadAs, as-read, dataFrom, packetOf}
+use Rattle.packet.proofs.Served.{served-read}
+use Rattle.packet.proofs.TableRule.{row-kind, row-passes}
+
+-- an even type is not tagged, and is read with tag 0
+even-plain : (k : ℕ) (r : TypeRow) → rowOf k ≡ Row r → k % 2 ≡ 0 → r .tagged ≡ false
+even-plain k r e x =
+    ⊎-elim (λ y. absurd (omega (arith, eqb-true (r .kind % 2) 1 y, row-kind k r e))) (not-true (r .tagged))
+    (or-cases (eqb (r .kind % 2) 1) (not (r .tagged)) (row-passes (λ q. eqb (q .kind % 2) 1 || not (q .tagged)) refl k r e))
+
+no-tag : (s : Shape) (at : ℕ) (bs : List ℕ) → numberAt (untagged s ++ pick false (tag ∷ []) []) at bs tag ≡ 0
+unfolding numberAt pick
+no-tag Cts at bs = refl
+no-tag CtsData at bs = refl
+no-tag Eager at bs = refl
+no-tag Medium at bs = refl
+no-tag LongCts at bs = refl
+
+module _ {g h : Incoming} (p : g ≡ h) where
+  id-of : g .id ≡ h .id
+  id-of = ap (λ (x : Incoming). x .id) p
+
+  length-of : g .length ≡ h .length
+  length-of = ap (λ (x : Incoming). x .length) p
+
+  size-of : g .size ≡ h .size
+  size-of = ap (λ (x : Incoming). x .size) p
+
+  offset-of : g .offset ≡ h .offset
+  offset-of = ap (λ (x : Incoming). x .offset) p
+
+  send-id-of : g .«send_id» ≡ h .«send_id»
+  send-id-of = ap (λ (x : Incoming). x .«send_id») p
+
+  credit-of : g .«credit_request» ≡ h .«credit_request»
+  credit-of = ap (λ (x : Incoming). x .«credit_request») p
+
+  tag-of : g .tag ≡ h .tag
+  tag-of = ap (λ (x : Incoming). x .tag) p
+
+-- the rows of the table in their order
+abbrev rowAt : ℕ → TypeRow
+rowAt i = getD rows i (row 0 Cts 0 0 0 false false 0 0)
+
+module _ (limit : ℕ) (bs : List ℕ) (q : Packet) (e : readOf false limit bs ≡ Read.Packet q) where
+  -- a packet of the type k is read as the row of this type has it
+  read-by-row : (k : ℕ) (r : TypeRow) → rowOf k ≡ Row r → getD bs 0 0 ≡ k
+      → ReadAs limit bs r × (incomingOf q ≡ incomingOf (packetOf r (leAt 2 bs 2) bs))
+  read-by-row k r x y =
+      let (s, a, p) = as-read limit bs q (served-read limit bs q e) in
+      let same : s ≡ r = cc (a .row, x, y) in
+      (subst (ReadAs limit bs) same a, ap incomingOf p ∙ ap (λ (z : TypeRow). incomingOf (packetOf z (leAt 2 bs 2) bs)) same)
+
+  as-row : (k i : ℕ) → rowOf k ≡ Row (rowAt i) → getD bs 0 0 ≡ k → incomingOf q ≡ incomingOf (packetOf (rowAt i) (leAt 2 bs 2) bs)
+  as-row k i x y = read-by-row k (rowAt i) x y .1
+
+  kind-read : incomingOf q .kind ≡ getD bs 0 0
+  unfolding incomingOf packetIn headerIn
+  kind-read =
+      let (r, a, p) = as-read limit bs q (served-read limit bs q e) in
+      ap (λ (x : Packet). x .header .kind) p ∙ row-kind (getD bs 0 0) r (a .row)
+
+  size-read : getD bs 0 0 ≡ 4 → incomingOf q .size ≡ leAt 8 bs 8
+  unfolding rowOf rowIn pick incomingOf packetIn headerIn fieldsIn numberAt layout lengthsFit
+  size-read x =
+      let (a, p) = read-by-row 4 (rowAt 1) refl x in
+      let n : ℕ = length bs - dataFrom (rowAt 1) (leAt 2 bs 2) bs in
+      size-of p ∙ eqb-true n (leAt 8 bs 8) (and-right (leb 1 n) (eqb n (leAt 8 bs 8)) (a .lengths))
+
+  tag-read : getD bs 0 0 % 2 ≡ 0 → incomingOf q .tag ≡ 0
+  unfolding incomingOf packetIn headerIn fieldsIn layout
+  tag-read x =
+      let (r, a, p) = as-read limit bs q (served-read limit bs q e) in
+      ap (λ (y : Packet). y .header .fields .tag) p
+      ∙ ap (λ (t : Bool). numberAt (untagged (r .shape) ++ pick t (tag ∷ []) []) (fieldsAt r) bs tag) (even-plain (getD bs 0 0) r (a .row) x)
+      ∙ no-tag (r .shape) (fieldsAt r) bs
+
+  told : Told bs (incomingOf q)
+  unfolding rowOf rowIn pick incomingOf packetIn headerIn fieldsIn numberAt layout
+  told =
+      record {
+        kind = kind-read;
+        ctsdata = λ x. let p = as-row 4 1 refl x in (id-of p, size-read x, offset-of p);
+        eager = ⊎-elim (λ x. let p = as-row 64 2 refl x in (id-of p, length-of p ∙ sym (size-of p), offset-of p))
+            (λ x. let p = as-row 65 3 refl x in (id-of p, length-of p ∙ sym (size-of p), offset-of p));
+        medium = ⊎-elim (λ x. let p = as-row 66 4 refl x in (id-of p, length-of p, offset-of p))
+            (λ x. let p = as-row 67 5 refl x in (id-of p, length-of p, offset-of p));
+        long = ⊎-elim (λ x. let p = as-row 68 6 refl x in (id-of p, length-of p, offset-of p, send-id-of p, credit-of p))
+            (λ x. let p = as-row 69 7 refl x in (id-of p, length-of p, offset-of p, send-id-of p, credit-of p));
+        eagerTag = λ x. tag-of (as-row 65 3 refl x);
+        tag = ⊎-elim (λ x. tag-of (as-row 67 5 refl x)) (λ x. tag-of (as-row 69 7 refl x));
+        noTag = tag-read;
+      }
+
+pub read-as-the-table-says : ReadAsTheTableSays
+unfolding ReadAsTheTableSays
+read-as-the-table-says = told

@@ -1,0 +1,270 @@
+-- The tests that engine and plain receiver share say what 01 says: the statements of specs/InWords.antt but for those on offsets and on a packet's fields.
+use Prim.Native.Nat.{ℕ, zero, suc, _+_, _*_, _/_, _%_, _^_, _<_, min, max}
+use borrow.Author.Tests.{ltb-true, leb-true, eqb-true, eqb-false, not-true, lt-ltb, le-ltb, le-leb, eq-eqb, ne-eqb}
+use lib.Bits.{bitOr, or-step, or-shr}
+use lib.Dec.{leb, ltb, eqb}
+use lib.ListN.{getD}
+use mathlib.Core.Bool.{Bool, true, false, not, _&&_, true≢false}
+use mathlib.Core.List.{List, [], _∷_}
+use mathlib.Core.Logic.{_⊎_, _↔_, _≢_, inl, inr, ⊎-elim}
+use mathlib.Core.Path.{_≡_, refl, sym, ap, ap₂, _∙_, subst}
+use native.Mathlib.Decide.{decLt, ℕ-discrete}
+use native.Mathlib.Omega.{arith}
+use Rattle.packet.specs.InWords.{bitOf}
+use Rattle.peer.specs.InWords.{AheadIsTheDistance, EagerIs64And65, EmptyOverlapsNothing, FoundIsTheLowestOpen, LongIs68And69, MediumIs66And67, NothingFoundIsNoneOpen, OpenUnder, OtherMessageDiffers, OverlapIsASharedByte, PlainFitsPlain, RtmIs64To69, SameMessageIsAllEqual, TaggedFitsOutsideIgnore, UnfitIsNoneWaiting}
+use Rattle.peer.specs.Matching.{ahead, fits, older, sameMessage, sameOutside}
+use Rattle.peer.specs.Plain.{Entry, Role, entryAt, firstHere, firstPosted, idle, openIn, receiving, waiting}
+use Rattle.peer.specs.State.{overlap}
+use Rattle.peer.specs.declared.types.Fit.{Fit}
+use Rattle.peer.specs.declared.types.Found.{Found}
+use Rattle.peer.specs.declared.types.Inbound.{Inbound}
+use Rattle.peer.specs.declared.types.Incoming.{Incoming}
+use Rattle.peer.specs.declared.types.Receive.{Receive}
+use Rattle.laws.proofs.Choosing.{branch, clashing, pick-either, pick-false, pick-true, tested}
+use Rattle.packet.proofs.BitWords.{same-bits}
+use Rattle.packet.proofs.TableRule.{row-kind, row-passes}
+use Rattle.packet.proofs.WordsHold.{both-tests, eq-words}
+use Rattle.peer.proofs.EntrySearch.{foremost}
+
+-- ---- ranges
+
+pub overlap-is-a-shared-byte : OverlapIsASharedByte
+unfolding OverlapIsASharedByte overlap
+overlap-is-a-shared-byte r s = (
+  λ e.
+      let l : max (r .start) (s .start) < min (r .start + r .capacity) (s .start + s .capacity) = ltb-true _ _ e in
+      (max (r .start) (s .start), (omega arith, omega arith), (omega arith, omega arith)),
+  λ w. lt-ltb (max (r .start) (s .start)) (min (r .start + r .capacity) (s .start + s .capacity)) (omega arith),
+)
+
+pub empty-overlaps-nothing : EmptyOverlapsNothing
+unfolding EmptyOverlapsNothing overlap
+empty-overlaps-nothing r s e = (
+  le-ltb (max (r .start) (s .start)) (min (r .start + r .capacity) (s .start + s .capacity)) (omega arith),
+  le-ltb (max (s .start) (r .start)) (min (s .start + s .capacity) (r .start + r .capacity)) (omega arith),
+)
+
+-- ---- types
+
+-- a type by its half
+by-half : (k n : ℕ) → (eqb (k / 2) n ≡ true) ↔ ((k ≡ n * 2) ⊎ (k ≡ n * 2 + 1))
+by-half k n = (λ e. go (eqb-true (k / 2) n e) (ℕ-discrete (k % 2) 0), λ w. eq-eqb (k / 2) n (⊎-elim (λ x. omega arith) (λ x. omega arith) w))
+  where
+    go : k / 2 ≡ n → Dec (k % 2 ≡ 0) → (k ≡ n * 2) ⊎ (k ≡ n * 2 + 1)
+    go x (yes y) = inl (omega arith)
+    go x (no y) = inr (omega (arith, y))
+
+pub eager-is-64-and-65 : EagerIs64And65
+unfolding EagerIs64And65
+eager-is-64-and-65 k = by-half k 32
+
+pub medium-is-66-and-67 : MediumIs66And67
+unfolding MediumIs66And67
+medium-is-66-and-67 k = by-half k 33
+
+pub long-is-68-and-69 : LongIs68And69
+unfolding LongIs68And69
+long-is-68-and-69 k = by-half k 34
+
+pub rtm-is-64-to-69 : RtmIs64To69
+unfolding RtmIs64To69
+rtm-is-64-to-69 k r e = (
+  λ t. (leb-true 64 k t, omega (arith, row-kind k r e, leb-true (r .kind) 69 (row-passes (λ q. leb (q .kind) 69) refl k r e))),
+  λ w. le-leb 64 k (w .0),
+)
+
+-- ---- matching
+
+pub plain-fits-plain : PlainFitsPlain
+unfolding PlainFitsPlain fits
+plain-fits-plain h r e =
+    let p = pick-false (r .tagged && sameOutside (r .ignore) (h .tag) (r .tag)) (not (r .tagged)) (ne-eqb (h .kind % 2) 1 (λ x. omega arith)) in
+    (λ t. not-true (r .tagged) (sym p ∙ t), λ x. p ∙ rw x)
+
+-- bit k of two numbers, each with the bits of a third
+or-bit : (a b k : ℕ) → bitOf (bitOr a b) k ≡ max (bitOf a k) (bitOf b k)
+or-bit a b k = rw (or-shr a b k) (omega (arith, or-step (a / 2 ^ k) (b / 2 ^ k)))
+
+same-outside : (ignore a b : ℕ) → (sameOutside ignore a b ≡ true) ↔ ((k : ℕ) → bitOf ignore k ≡ 0 → bitOf a k ≡ bitOf b k)
+unfolding sameOutside
+same-outside ignore a b = (
+  λ e k z.
+      let same : bitOr a ignore ≡ bitOr b ignore = eqb-true _ _ e in
+      omega (arith, or-bit a ignore k, or-bit b ignore k, ap (λ (x : ℕ). bitOf x k) same),
+  λ w. eq-eqb _ _ (same-bits (bitOr a ignore) (bitOr b ignore) (λ k. bits w k (ℕ-discrete (bitOf ignore k) 0))),
+)
+  where
+    bits : ((k : ℕ) → bitOf ignore k ≡ 0 → bitOf a k ≡ bitOf b k) → (k : ℕ) → Dec (bitOf ignore k ≡ 0)
+        → bitOf (bitOr a ignore) k ≡ bitOf (bitOr b ignore) k
+    bits w k (yes z) = omega (arith, or-bit a ignore k, or-bit b ignore k, w k z)
+    bits w k (no z) = omega (arith, or-bit a ignore k, or-bit b ignore k, z)
+
+pub tagged-fits-outside-ignore : TaggedFitsOutsideIgnore
+unfolding TaggedFitsOutsideIgnore fits
+tagged-fits-outside-ignore h r e =
+    let p = pick-true (r .tagged && sameOutside (r .ignore) (h .tag) (r .tag)) (not (r .tagged)) (eq-eqb (h .kind % 2) 1 e) in
+    let own : (r .tagged ≡ true) ↔ (r .tagged ≡ true) = (λ t. t, λ t. t) in
+    let w = both-tests own (same-outside (r .ignore) (h .tag) (r .tag)) in
+    (λ t. w .0 (sym p ∙ t), λ x. p ∙ w .1 x)
+
+pub ahead-is-the-distance : AheadIsTheDistance
+unfolding AheadIsTheDistance ahead
+ahead-is-the-distance id next a b = (omega arith, omega arith, λ d l e. omega arith)
+
+-- 14
+
+pub same-message-is-all-equal : SameMessageIsAllEqual
+unfolding SameMessageIsAllEqual sameMessage
+same-message-is-all-equal m h =
+    let rest = both-tests (eq-words (h .length) (m .length)) (eq-words (h .tag) (m .tag)) in
+    let w = both-tests (by-half (h .kind) 33) (both-tests (eq-words (h .kind) (m .kind)) rest) in
+    (λ e. let x = w .0 e in (x .0, x .1 .0, x .1 .1 .0, x .1 .1 .1), λ x. w .1 (x .0, (x .1, (x .2, x .3))))
+
+pub other-message-differs : OtherMessageDiffers
+unfolding OtherMessageDiffers SameMessageIsAllEqual
+other-message-differs m h = (
+  given (ℕ-discrete (h .kind) (m .kind)) (ℕ-discrete (h .length) (m .length)) (ℕ-discrete (h .tag) (m .tag)) (ℕ-discrete (h .kind) 66)
+      (ℕ-discrete (h .kind) 67),
+  λ w. ⊎-elim (λ x. absurd (asked w (same-message-is-all-equal m h .0 x))) (λ x. x) (tested (sameMessage m h)),
+)
+  where
+    R : Type 0
+    R = (h .kind ≢ m .kind) ⊎ ((h .length ≢ m .length) ⊎ ((h .tag ≢ m .tag) ⊎ ((h .kind ≢ 66) × (h .kind ≢ 67))))
+
+    S : Type 0
+    S = ((h .kind ≡ 66) ⊎ (h .kind ≡ 67)) × (h .kind ≡ m .kind) × (h .length ≡ m .length) × (h .tag ≡ m .tag)
+
+    given : Dec (h .kind ≡ m .kind) → Dec (h .length ≡ m .length) → Dec (h .tag ≡ m .tag) → Dec (h .kind ≡ 66) → Dec (h .kind ≡ 67)
+        → sameMessage m h ≡ false → R
+    given (no a) b c d e f = inl a
+    given (yes a) (no b) c d e f = inr (inl b)
+    given (yes a) (yes b) (no c) d e f = inr (inr (inl c))
+    given (yes a) (yes b) (yes c) (yes d) e f = clashing (sameMessage m h) (same-message-is-all-equal m h .1 (inl d, a, b, c)) f
+    given (yes a) (yes b) (yes c) (no d) (yes e) f = clashing (sameMessage m h) (same-message-is-all-equal m h .1 (inr e, a, b, c)) f
+    given (yes a) (yes b) (yes c) (no d) (no e) f = inr (inr (inr (d, e)))
+
+    asked : R → S → ⊥
+    asked (inl x) s = x (s .1)
+    asked (inr (inl x)) s = x (s .2)
+    asked (inr (inr (inl x))) s = x (s .3)
+    asked (inr (inr (inr x))) s = ⊎-elim (x .0) (x .1) (s .0)
+
+-- ---- the open message under an id
+
+-- what a search of the roles from place k on yields
+abbrev Lowest : List Role → ℕ → ℕ → Inbound → Type 0
+Lowest us id i o = OpenUnder us id i o × ((j : ℕ) (m : Inbound) → j < i → OpenUnder us id j m → ⊥)
+
+abbrev Searched : List Role → ℕ → ℕ → Found → Type 0
+Searched us id k (Found.At i o) = (j : ℕ) × (i ≡ k + j) × Lowest us id j o
+Searched us id k Found.Nothing = (j : ℕ) (m : Inbound) → OpenUnder us id j m → ⊥
+
+-- one role more, that is not open under the id
+passed-over : (u : Role) (us : List Role) (id k : ℕ) (f : Found) → ((m : Inbound) → OpenUnder (u ∷ us) id 0 m → ⊥) → Searched us id (suc k) f
+    → Searched (u ∷ us) id k f
+passed-over u us id k (Found.At i o) ne (j, e, (w, least)) = (suc j, omega arith, (w, lower))
+  where
+    lower : (x : ℕ) (m : Inbound) → x < suc j → OpenUnder (u ∷ us) id x m → ⊥
+    lower zero m l y = ne m y
+    lower (suc x) m l y = least x m (omega arith) y
+passed-over u us id k Found.Nothing ne rest = none-here
+  where
+    none-here : (x : ℕ) (m : Inbound) → OpenUnder (u ∷ us) id x m → ⊥
+    none-here zero m y = ne m y
+    none-here (suc x) m y = rest x m y
+
+searched : (id k : ℕ) (us : List Role) → Searched us id k (openIn id k us)
+unfolding openIn
+searched id k [] = λ j m y. let z : _≡_ {A = ℕ} 0 1 = cc (y .0) in omega arith
+searched id k (idle ∷ us) =
+    passed-over idle us id k (openIn id (suc k) us) (λ m y. let z : _≡_ {A = ℕ} 0 1 = cc (y .0) in omega arith) (searched id (suc k) us)
+searched id k (waiting r ∷ us) =
+    passed-over (waiting r) us id k (openIn id (suc k) us) (λ m y. let z : _≡_ {A = ℕ} 0 1 = cc (y .0) in omega arith) (searched id (suc k) us)
+searched id k (receiving o ∷ us) =
+    branch (Searched (receiving o ∷ us) id k) (eqb (o .message .id) id) (Found.At k o) (openIn id (suc k) us)
+    (λ x. (0, omega arith, ((refl, eqb-true (o .message .id) id x), λ j m l. absurd (omega arith))))
+    (λ x. passed-over (receiving o) us id k (openIn id (suc k) us) (other x) (searched id (suc k) us))
+  where
+    other : eqb (o .message .id) id ≡ false → (m : Inbound) → OpenUnder (receiving o ∷ us) id 0 m → ⊥
+    other x m y =
+        let same : o ≡ m = cc (y .0) in
+        eqb-false (o .message .id) id x (ap (λ (z : Inbound). z .message .id) same ∙ y .1)
+
+module _ (us : List Role) (id : ℕ) where
+  lowest-at : (i : ℕ) (o : Inbound) → openIn id 0 us ≡ Found.At i o → Lowest us id i o
+  lowest-at i o e =
+      let (j, x, w) = subst (Searched us id 0) e (searched id 0 us) in
+      let same : j ≡ i = omega arith in
+      subst (λ (n : ℕ). Lowest us id n o) same w
+
+  at-lowest : (f : Found) → openIn id 0 us ≡ f → (i : ℕ) (o : Inbound) → Lowest us id i o → f ≡ Found.At i o
+  at-lowest (Found.At j m) e i o w = go (lowest-at j m e) (decLt i j) (decLt j i)
+    where
+      go : Lowest us id j m → Dec (i < j) → Dec (j < i) → Found.At j m ≡ Found.At i o
+      go v (yes x) y = absurd (v .1 i o x (w .0))
+      go v (no x) (yes y) = absurd (w .1 j m y (v .0))
+      go v (no x) (no y) =
+          let place : j ≡ i = omega (arith, x, y) in
+          let role : receiving m ≡ receiving o = sym (v .0 .0) ∙ ap (λ (n : ℕ). getD us n idle) place ∙ w .0 .0 in
+          let same : m ≡ o = cc in
+          ap₂ Found.At place same
+  at-lowest Found.Nothing e i o w = absurd (subst (Searched us id 0) e (searched id 0 us) i o (w .0))
+
+pub found-is-the-lowest-open : FoundIsTheLowestOpen
+unfolding FoundIsTheLowestOpen
+found-is-the-lowest-open us id i o = (lowest-at us id i o, at-lowest us id (openIn id 0 us) refl i o)
+
+pub nothing-found-is-none-open : NothingFoundIsNoneOpen
+unfolding NothingFoundIsNoneOpen
+nothing-found-is-none-open us id = (λ e. subst (Searched us id 0) e (searched id 0 us), λ w. none-at (openIn id 0 us) (searched id 0 us) w)
+  where
+    none-at : (f : Found) → Searched us id 0 f → ((j : ℕ) (m : Inbound) → OpenUnder us id j m → ⊥) → f ≡ Found.Nothing
+    none-at (Found.At i o) (j, e, (x, least)) w = absurd (w j o x)
+    none-at Found.Nothing s w = refl
+
+-- ---- the receive that a packet fits
+
+abbrev isFit : Fit → Bool
+isFit Fit.Unfit = false
+isFit (Fit.To i r serial) = true
+
+module _ (h : Incoming) where
+  -- a receive that fits is kept, or another
+  older-fits : (best : Fit) (i : ℕ) (r : Receive) (s : ℕ) → isFit (older best i r s) ≡ true
+  unfolding older
+  older-fits Fit.Unfit i r s = refl
+  older-fits (Fit.To j q t) i r s = pick-either (λ (f : Fit). isFit f ≡ true) (ltb s t) refl refl
+
+  here-stays : (best : Fit) (i : ℕ) (u : Role) (s : ℕ) → isFit best ≡ true → isFit (firstHere h best i u s) ≡ true
+  unfolding firstHere
+  here-stays best i idle s e = e
+  here-stays best i (waiting r) s e = pick-either (λ (f : Fit). isFit f ≡ true) (fits h r) (older-fits best i r s) e
+  here-stays best i (receiving o) s e = e
+
+  stays-fit : (i : ℕ) (best : Fit) (es : List Entry) → isFit best ≡ true → isFit (firstPosted h i best es) ≡ true
+  unfolding firstPosted
+  stays-fit i best [] e = e
+  stays-fit i best (x ∷ es) e = stays-fit (suc i) (firstHere h best i (x .role) (x .serial)) es (here-stays best i (x .role) (x .serial) e)
+
+  waiting-fits : (i : ℕ) (best : Fit) (es : List Entry) (j : ℕ) (r : Receive) → entryAt es j .role ≡ waiting r → fits h r ≡ true
+      → isFit (firstPosted h i best es) ≡ true
+  unfolding firstPosted firstHere
+  waiting-fits i best [] j r e t = let z : _≡_ {A = ℕ} 0 1 = cc in absurd (omega arith)
+  waiting-fits i best (x ∷ es) zero r e t =
+      stays-fit (suc i) (firstHere h best i (x .role) (x .serial)) es
+      (ap (λ (u : Role). isFit (firstHere h best i u (x .serial))) e
+      ∙ ap isFit (pick-true (older best i r (x .serial)) best t)
+      ∙ older-fits best i r (x .serial))
+  waiting-fits i best (x ∷ es) (suc j) r e t = waiting-fits (suc i) (firstHere h best i (x .role) (x .serial)) es j r e t
+
+pub unfit-is-none-waiting : UnfitIsNoneWaiting
+unfolding UnfitIsNoneWaiting
+unfit-is-none-waiting h es = (
+  λ e j r w t. true≢false (sym (waiting-fits h 0 Fit.Unfit es j r w t) ∙ ap isFit e),
+  λ w. go (firstPosted h 0 Fit.Unfit es) refl w,
+)
+  where
+    go : (f : Fit) → firstPosted h 0 Fit.Unfit es ≡ f → ((j : ℕ) (r : Receive) → entryAt es j .role ≡ waiting r → fits h r ≡ true → ⊥)
+        → f ≡ Fit.Unfit
+    go Fit.Unfit e w = refl
+    go (Fit.To i r serial) e w = let m = foremost h es i r serial e in absurd (w i r (m .waits) (m .fit))
