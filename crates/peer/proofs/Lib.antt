@@ -25,3 +25,7 @@ pub mod HistoryOnce
 pub mod OffsetsHold
 pub mod WordsHold
 pub mod FieldsHold
+pub mod Comparing
+pub mod SlotTurns
+pub mod CtsWritten
+pub mod Asking

@@ -1,4 +1,15 @@
 // One peer: its slots, and what each call does to them.
+mod calls;
+mod checking;
+mod effects;
+mod incoming;
+mod judging;
+mod kinds;
+mod matching;
+mod posting;
+mod refusals;
+mod segment;
+mod state;
 mod types;
 
 pub use types::Answer;

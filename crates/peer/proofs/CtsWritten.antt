@@ -1,0 +1,54 @@
+-- The CTS of a grant, as the packet writer writes it: it is never refused.
+use Prim.Native.Nat.{ℕ, _≤_}
+use borrow.Author.Tests.{le-leb}
+use lib.ListN.{length}
+use mathlib.Core.Bool.{false}
+use mathlib.Core.List.{List, []}
+use mathlib.Core.Path.{_≡_, refl, ap, _∙_}
+use native.Mathlib.Omega.{arith}
+use Rattle.laws.specs.Choose.{pick}
+use Rattle.laws.specs.Parts.{storeAt}
+use Rattle.packet.specs.Cts.{ctsBytes, ctsHeader}
+use Rattle.packet.specs.Flags.{connidBit, cqDataBit, flagsFit, flagsOf, rawAddressBit}
+use Rattle.packet.specs.Layout.{fieldBytes, layout}
+use Rattle.packet.specs.Lengths.{lengthsFit}
+use Rattle.packet.specs.Options.{connidBytes, cqDataBytes, multiuseBytes, rawAddressBytes}
+use Rattle.packet.specs.Types.{row, rowIn, rowOf}
+use Rattle.packet.specs.Writing.{baseBytes, mandatoryBytes, packetBytes, writeOf}
+use Rattle.packet.specs.declared.table.Shape.the-variants.{Cts}
+use Rattle.packet.specs.declared.table.TypeRow.{TypeRow}
+use Rattle.packet.specs.declared.types.Written.{Written}
+use Rattle.wire.specs.LittleEndian.{leBytes}
+use Rattle.packet.proofs.Accepted.{WrittenAs, write-as}
+use Rattle.packet.specs.Writing as writing
+
+cts-length : (send recv n : ℕ) → length (ctsBytes send recv n) ≡ 24
+unfolding ctsBytes packetBytes mandatoryBytes baseBytes multiuseBytes fieldBytes layout rawAddressBytes cqDataBytes connidBytes leBytes pick
+cts-length send recv n = refl
+
+-- its type's row
+abbrev ctsRow : TypeRow
+ctsRow = row 3 Cts 24 4 0 false false 0x0 0x8000
+
+written-as : (send recv n : ℕ) (out : List ℕ) → 24 ≤ length out → 1 ≤ n → WrittenAs (ctsHeader send recv n) [] [] out ctsRow
+unfolding ctsBytes
+written-as send recv n out room one =
+    record {
+      row = unfold rowOf rowIn pick in refl;
+      flags = unfold flagsFit flagsOf rawAddressBit cqDataBit connidBit pick in refl;
+      lengths = unfold lengthsFit in le-leb 1 n one;
+      allowed = omega (arith, cts-length send recv n);
+      room = omega (arith, cts-length send recv n);
+    }
+
+pub cts-written : (send recv n : ℕ) (out : List ℕ) → 24 ≤ length out → 1 ≤ n
+    → writeOf (ctsHeader send recv n) [] [] out ≡ record { answer = Written.Length 24; out = storeAt out 0 (ctsBytes send recv n) }
+unfolding ctsBytes
+cts-written send recv n out room one =
+    write-as (ctsHeader send recv n) [] [] out ctsRow (written-as send recv n out room one)
+    ∙ ap (λ (k : ℕ). record { answer = Written.Length k; out = storeAt out 0 (ctsBytes send recv n) }) (cts-length send recv n)
+
+-- what the writer leaves in the buffer
+pub cts-left : (send recv n : ℕ) (out : List ℕ) (a : Written) (l : List ℕ) → 24 ≤ length out → 1 ≤ n
+    → record { answer = a; out = l } ≡ writeOf (ctsHeader send recv n) [] [] out → l ≡ storeAt out 0 (ctsBytes send recv n)
+cts-left send recv n out a l room one e = ap (λ (x : writing.Outcome). x .out) (e ∙ cts-written send recv n out room one)

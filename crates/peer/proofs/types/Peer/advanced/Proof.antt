@@ -1,0 +1,13 @@
+-- `peer::types::Peer::advanced` meets its contract.
+use borrow.Author.Needs.{needs}
+use Rattle.peer.proofs.types.Peer.advanced.Statement.{statement}
+use Rattle.peer.proofs.types.Peer.advanced.Tie as tie
+
+wrapping-add-u32-requires : tie.Need-wrapping-add-u32-requires
+wrapping-add-u32-requires c κs = search needs
+
+returns : tie.Need-returns
+returns c = rw (c .wrapping-add-u32 .ensures)
+
+pub advanced-spec : {M : Type 1} → statement M
+advanced-spec = tie.close (tie.spec wrapping-add-u32-requires returns)

@@ -1,0 +1,41 @@
+-- `peer::types::Slot::renumbered` meets its contract.
+use borrow.Author.Needs.{needs}
+use Rattle.peer.proofs.types.Slot.renumbered.Statement.{statement}
+use Rattle.peer.proofs.types.Slot.renumbered.Tie as tie
+
+enum-told : tie.Need-enum-told
+enum-told c = search needs
+
+enum-known-phase : tie.Need-enum-known-phase
+enum-known-phase c = search needs
+
+count-older-requires : tie.Need-count-older-requires
+count-older-requires c κs = search needs
+
+posted-requires : tie.Need-posted-requires
+posted-requires c κs = search needs
+
+enum-told-2 : tie.Need-enum-told-2
+enum-told-2 c = search needs
+
+returns : tie.Need-returns
+returns c = rw (c .enum-told .given .1)
+
+returns-2 : tie.Need-returns-2
+returns-2 c = rw (c .before .before .before .phase .given .1, c .posted .ensures, c .before .count-older .ensures)
+
+returns-3 : tie.Need-returns-3
+returns-3 c = rw (c .enum-told2 .given .1)
+
+pub renumbered-spec : {M : Type 1} → statement M
+renumbered-spec =
+    tie.close
+    (tie.spec
+    enum-told
+    enum-known-phase
+    count-older-requires
+    posted-requires
+    enum-told-2
+    returns
+    returns-2
+    returns-3)
