@@ -1,1 +1,3 @@
 pub mod Worlds
+pub mod Walking
+pub mod Turns

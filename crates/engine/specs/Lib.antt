@@ -1,2 +1,4 @@
 pub mod SetUp
 pub mod Steps
+pub mod Gates
+pub mod Left

@@ -1,6 +1,16 @@
-// The receive engine: set-up, and the calls that lend it arena, map and reply buffer.
+// The receive engine: set-up, and the calls that lend it arena, map and reply buffer. No call asks
+// anything of its caller, and each states its whole result by a definition of specs/.
+mod calls;
+mod checks;
+mod lending;
+mod setting_up;
 mod types;
 
+pub use calls::cancel;
+pub use calls::packet;
+pub use calls::post;
+pub use calls::report;
+pub use setting_up::set_up;
 pub use types::Engine;
 pub use types::Outcome;
 pub use types::Ready;

@@ -28,3 +28,14 @@ pub struct Outcome {
     pub engine: Engine,
     pub answer: Answer,
 }
+
+// Whether a call goes through to its peer.
+pub enum Gate {
+    Open,
+    Shut(Refusal),
+}
+
+impl Engine {
+    // The peers that an engine has room for.
+    pub const PEERS: usize = 8;
+}

@@ -1,0 +1,166 @@
+-- One peer's step in its own part, put back into the whole.
+use Prim.Native.Nat.{ℕ, zero, suc, _+_, _-_, _*_, _/_, _^_, _≤_, _<_}
+use borrow.Rule.Slice.PartMut.{putMid}
+use lib.ListN.{length, getD, take, drop, set, length-take, length-drop, replicate, length-replicate, getD-replicate, drop-of-length-le}
+use lib.Seq.{length-take-le, take-all, getD-append-add, getD-drop, drop-drop, paste, paste-zero, paste-suc}
+use mathlib.Core.Bool.{true}
+use mathlib.Core.List.{List, [], append-assoc, map, append-nil}
+use mathlib.Core.Path.{_≡_, sym, ap, ap₂, _∙_}
+use native.Mathlib.Omega.{arith}
+use Rattle.bitmap.specs.Map.{cleared}
+use Rattle.engine.specs.Left.{Left, Lent, Owned, leaves, leavesAt, world}
+use Rattle.engine.specs.Steps.{World, peerTurn, putBack, refusedTurn, withPeer, wordsOf}
+use Rattle.engine.specs.declared.types.Engine.{Engine}
+use Rattle.laws.specs.Parts.{part, storeAt}
+use Rattle.packet.specs.declared.types.Refusal.{Refusal}
+use Rattle.peer.specs.Calls.{Call, packet, packetEffect, peerStep}
+use Rattle.peer.specs.Effects.{Effect, quiet}
+use Rattle.peer.specs.State.{freshPeer, peerFits, slotCount}
+use Rattle.peer.specs.declared.types.Answer.{Answer}
+use Rattle.peer.specs.declared.types.Peer.{Peer}
+use Rattle.bitmap.proofs.BitLaws.{length-cleared}
+use Rattle.bitmap.proofs.Stores.{clear-split, clear-whole}
+use Rattle.engine.proofs.Walking.{getD-any, set-own}
+use Rattle.laws.proofs.Storing.{length-part, store-nothing, store-own, store-part}
+use Rattle.peer.proofs.Asking.{lent-part}
+use Rattle.peer.proofs.HistoryFacts.{outcome}
+use Rattle.peer.proofs.Kept.{Kept, step-kept}
+use Rattle.peer.proofs.Valid.{fits-valid}
+use Rattle.peer.specs.Left as own
+
+-- a step that changes nothing but the peer
+pub quiet-turn : (w : World) (p : ℕ) (q : Peer) (a : Answer) → p * (w .engine .area / 64) + w .engine .area / 64 ≤ length (w .map)
+    → putBack w p (quiet q (wordsOf w p) a) ≡ record { world = record { engine = withPeer (w .engine) p q; arena = w .arena; map = w .map }; answer = a; reply = [] }
+unfolding putBack
+quiet-turn w p q a h =
+    rw (store-nothing (w .arena) (p * w .engine .area + 0), store-own (w .map) (p * (w .engine .area / 64)) (w .engine .area / 64) h)
+
+-- a packet's step
+abbrev pub putIn : Engine → ℕ → Lent → Left
+putIn e p l =
+    record {
+      outcome = record { engine = withPeer e p (l .step .peer); answer = l .step .answer };
+      arena = l .arena;
+      map = l .map;
+      reply = l .reply;
+    }
+
+pub quiet-call : (w : World) (p : ℕ) (c : Call) (d q : Peer) (a : Answer) → p < length (w .engine .peers)
+    → p * (w .engine .area / 64) + w .engine .area / 64 ≤ length (w .map)
+    → quiet q (wordsOf w p) a ≡ peerStep (w .engine .area) (w .engine .limit) (getD (w .engine .peers) p d) (wordsOf w p) c
+    → peerTurn w p c ≡ record { world = record { engine = withPeer (w .engine) p q; arena = w .arena; map = w .map }; answer = a; reply = [] }
+unfolding peerTurn
+quiet-call w p c d q a h m e =
+    ap (λ (x : Peer). putBack w p (peerStep (w .engine .area) (w .engine .limit) x (wordsOf w p) c)) (getD-any (w .engine .peers) p freshPeer d h)
+    ∙ ap (putBack w p) (sym e) ∙ quiet-turn w p q a m
+
+-- a peer that is put back as it was
+pub same-peer : (e : Engine) (p : ℕ) (d : Peer) → p < length (e .peers) → withPeer e p (getD (e .peers) p d) ≡ e
+same-peer e p d h = ap (λ (ps : List Peer). record { peers = ps; n = e .n; area = e .area; limit = e .limit }) (set-own (e .peers) p d h)
+
+pub packet-call : (w : World) (p : ℕ) (d : Peer) (bs reply : List ℕ) (l : Lent) → p < length (w .engine .peers)
+    → l ≡ leavesAt (w .engine .area) p (w .arena) (w .map) reply (packetEffect (w .engine .limit) (getD (w .engine .peers) p d) (wordsOf w p) bs (length reply))
+    → putIn (w .engine) p l ≡ leaves reply (peerTurn w p (packet bs (length reply)))
+unfolding peerTurn putBack peerStep
+packet-call w p d bs reply l h e =
+    ap (putIn (w .engine) p)
+    (e ∙ ap (λ (x : Peer). leavesAt (w .engine .area) p (w .arena) (w .map) reply (packetEffect (w .engine .limit) x (wordsOf w p) bs (length reply)))
+    (getD-any (w .engine .peers) p d freshPeer h))
+
+-- a refused call leaves what it is lent
+pub left-refused : (e : Engine) (arena map reply : List ℕ) (k : Refusal)
+    → _≡_ {A = Left} (record { outcome = record { engine = e; answer = Answer.Refused k }; arena = arena; map = map; reply = reply })
+    (leaves reply (refusedTurn (world e arena map) k))
+left-refused e arena map reply k = rw (store-nothing reply 0)
+
+-- ---- a part that was lent on
+
+pub length-lent : {A : Type 0} (l : List A) (b n : ℕ) → b + n ≤ length l → length (take (b + n - b) (drop b l)) ≡ n
+length-lent l b n h = simp (length-take, length-drop) (omega arith)
+
+-- a part that kept its length, put back
+pub put-part : (l s : List ℕ) (b n : ℕ) → length s ≡ n → putMid b (b + n - b) l s ≡ storeAt l b s
+unfolding storeAt
+put-part l s b n e =
+    let z : b + n - b ≡ length s = omega arith in
+    rw (z, drop-drop) (sym (append-assoc (take b l) s _))
+
+-- a store in a part of the arena that was lent on
+pub put-store : (l : List ℕ) (b n at : ℕ) (s : List ℕ) → b + n ≤ length l → at + length s ≤ n
+    → putMid b (b + n - b) l (storeAt (take (b + n - b) (drop b l)) at s) ≡ storeAt l (b + at) s
+put-store l b n at s h k =
+    let z : b + n - b ≡ n = omega arith in
+    rw z (store-part l b n at s h k)
+
+-- ---- a packet's step, put into the whole
+
+packet-kept : (area limit : ℕ) (q : Peer) (ws bs : List ℕ) (room : ℕ) → peerFits area q ≡ true → length (q .slots) ≡ slotCount
+    → Kept area q ws (packetEffect limit q ws bs room)
+packet-kept area limit q ws bs room e n = unfold peerStep in step-kept area limit q ws (packet bs room) (fits-valid area q e) n
+
+module _ (area limit p : ℕ) (q : Peer) (arena map reply bs : List ℕ) (o : Owned area limit p (length arena) (length map) q) (eight : length (q .slots) ≡ slotCount) where
+  abbrev base : ℕ
+  base = p * area
+
+  abbrev size : ℕ
+  size = area / 64
+
+  abbrev first : ℕ
+  first = p * (area / 64)
+
+  abbrev effect : Effect
+  effect = packetEffect limit q (part map first size) bs (length reply)
+
+  pub packet-put : (l : own.Left)
+      → l ≡ own.leaves (take (base + area - base) (drop base arena)) reply (packetEffect limit q (take (first + size - first) (drop first map)) bs (length reply))
+      → _≡_ {A = Lent}
+      (record { step = l .step; arena = putMid base (base + area - base) arena (l .area); map = putMid first (first + size - first) map (l .words); reply = l .reply })
+      (leavesAt area p arena map reply effect)
+  packet-put l e =
+      let k = packet-kept area limit q (part map first size) bs (length reply) (o .mapped .fits) eight in
+      let n : length (effect .words) ≡ size = k .words ∙ length-part map first size (o .mapped .inMap) in
+      let e′ : l ≡ own.leaves (take (base + area - base) (drop base arena)) reply effect =
+      e ∙ ap (λ (ws : List ℕ). own.leaves (take (base + area - base) (drop base arena)) reply (packetEffect limit q ws bs (length reply))) (lent-part map first size) in
+      rw (e′, put-store arena base area (effect .at) (effect .bytes) (o .inArena) (k .inArea), put-part map (effect .words) first size n)
+
+-- ---- the map, cleared whole
+
+-- one word
+cleared-word : (m : List ℕ) (k : ℕ) → getD m k 0 < 2 ^ 64 → k < length m → cleared m (64 * k) 64 ≡ set m k 0
+cleared-word m k f h =
+    let at : 64 * k / 64 ≡ k = omega arith in
+    sym (clear-whole m (64 * k) (omega arith) (rw at f) (rw at h)) ∙ ap (λ (j : ℕ). set m j 0) at
+
+module _ (m : List ℕ) (f : (i : ℕ) → getD m i 0 < 2 ^ 64) where
+  abbrev zeros : List ℕ
+  zeros = replicate (length m) 0
+
+  -- as far as k words are cleared, the next is as it was
+  next-word : (k : ℕ) → k < length m → getD (paste m 0 zeros k) k 0 ≡ getD m k 0
+  next-word k h =
+      let n : length (take k zeros) ≡ k = length-take-le k zeros (omega (arith, length-replicate {A = ℕ} (length m) 0)) in
+      ap (λ (j : ℕ). getD (paste m 0 zeros k) j 0) (omega (arith, n))
+      ∙ getD-append-add (take k zeros) (drop (0 + k) m) 0 0 ∙ getD-drop (0 + k) m 0 0 ∙ ap (λ (j : ℕ). getD m j 0) (omega arith)
+
+  cleared-words : (k : ℕ) → k ≤ length m → cleared m 0 (64 * k) ≡ paste m 0 zeros k
+  unfolding cleared
+  cleared-words zero h = paste-zero m 0 zeros
+  cleared-words (suc k) h =
+      let so = cleared-words k (omega arith) in
+      let next : getD (cleared m 0 (64 * k)) k 0 ≡ getD m k 0 = ap (λ (l : List ℕ). getD l k 0) so ∙ next-word k (omega arith) in
+      let from : 0 + 64 * k ≡ 64 * k = omega arith in
+      let size : 64 * suc k - 64 * k ≡ 64 = omega arith in
+      let at : k ≡ 0 + k = omega arith in
+      clear-split m 0 (64 * k) (64 * suc k) (omega arith)
+      ∙ ap₂ (cleared (cleared m 0 (64 * k))) from size
+      ∙ cleared-word (cleared m 0 (64 * k)) k (rw next (f k)) (omega (arith, length-cleared m 0 (64 * k)))
+      ∙ ap (λ (l : List ℕ). set l k 0) so
+      ∙ ap₂ (set (paste m 0 zeros k)) at (sym (getD-replicate (length m) k 0 0 (omega arith)))
+      ∙ paste-suc m 0 zeros k 0 (omega arith) (omega (arith, length-replicate {A = ℕ} (length m) 0))
+
+  pub cleared-all : cleared m 0 (64 * length m) ≡ zeros
+  cleared-all =
+      let n : length zeros ≡ length m = length-replicate {A = ℕ} (length m) 0 in
+      let end : length m ≤ 0 + length m = omega arith in
+      cleared-words (length m) (omega arith)
+      ∙ rw (take-all (length m) zeros (omega arith), drop-of-length-le m end) (append-nil zeros)

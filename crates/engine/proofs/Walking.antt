@@ -1,0 +1,176 @@
+-- The checks of a call: the numbers, the walk over the peers, and the gate in front of the peer's own step.
+use Prim.Native.Nat.{ℕ, zero, suc, _+_, _*_, _/_, _%_, _≤_, _<_}
+use borrow.Author.Tests.{ltb-true, leb-true}
+use lib.Dec.{leb, ltb, eqb}
+use lib.ListN.{length, getD, take, drop, set, drop-of-length-le}
+use lib.Pow.{high, low}
+use lib.Seq.{length-take-le, drop-cons, getD-take}
+use mathlib.Core.Bool.{Bool, true, false, _&&_}
+use mathlib.Core.List.{List, [], _∷_, map}
+use mathlib.Core.Path.{_≡_, refl, sym, ap, _∙_}
+use native.Mathlib.Nat.{mul-le-mul}
+use native.Mathlib.Numerals.{add-one}
+use native.Mathlib.Omega.{arith}
+use Rattle.engine.specs.Gates.{Small, gateOf, throughGate}
+use Rattle.engine.specs.Left.{Owned}
+use Rattle.engine.specs.SetUp.{allPeersFit, engineFits, lentFits, numbersFit, peerCount}
+use Rattle.engine.specs.Steps.{World, badLent, badPeer, badState, callTurn, peerTurn, refusedTurn}
+use Rattle.engine.specs.declared.types.Engine.{Engine}
+use Rattle.engine.specs.declared.types.Gate.{Gate}
+use Rattle.laws.specs.Choose.{pick}
+use Rattle.packet.specs.declared.types.Refusal.{Refusal}
+use Rattle.peer.specs.Calls.{Call}
+use Rattle.peer.specs.Matching.{fits}
+use Rattle.peer.specs.State.{peerFits}
+use Rattle.peer.specs.declared.types.Peer.{Peer}
+use Rattle.engine.proofs.Worlds.{lent-lengths, part-inside, sized}
+use Rattle.laws.proofs.Choosing.{and-left, and-right, pick-first}
+
+-- ---- the numbers
+
+pub small : (n area limit : ℕ) → numbersFit n area limit ≡ true → Small n area
+unfolding numbersFit
+small n area limit e =
+    let a = and-right (leb 1 n) _ e in
+    let b = and-right (leb n peerCount) _ a in
+    let d = and-right (leb 64 area) _ b in
+    record {
+      few = leb-true n peerCount (and-left _ (leb 64 area && (leb area 8192 && (eqb (area % 64) 0 && (leb 64 limit && leb limit 8192)))) a);
+      short = leb-true area 8192 (and-left _ (eqb (area % 64) 0 && (leb 64 limit && leb limit 8192)) d);
+    }
+
+pub arena-small : (n area : ℕ) → Small n area → n * area ≤ 65536
+arena-small n area s = mul-le-mul (s .few) (s .short)
+
+pub map-small : (n area : ℕ) → Small n area → n * (area / 64) ≤ 1024
+map-small n area s =
+    let w : area / 64 ≤ 128 = omega (arith, s .short) in
+    mul-le-mul (s .few) w
+
+-- ---- lists
+
+pub getD-any : {A : Type 0} (l : List A) (i : ℕ) (d e : A) → i < length l → getD l i d ≡ getD l i e
+getD-any [] i d e h = absurd (omega arith)
+getD-any (x ∷ l) zero d e h = refl
+getD-any (x ∷ l) (suc i) d e h = getD-any l i d e (omega arith)
+
+pub set-own : {A : Type 0} (l : List A) (i : ℕ) (d : A) → i < length l → set l i (getD l i d) ≡ l
+set-own [] i d h = refl
+set-own (x ∷ l) zero d h = refl
+set-own {A = A} (x ∷ l) (suc i) d h = ap (λ (m : List A). x ∷ m) (set-own l i d (omega arith))
+
+-- ---- the walk over the peers
+
+module _ (area n : ℕ) (ps : List Peer) (i : ℕ) where
+  peers-turn : (d : Peer) → i < n → n ≤ length ps → allPeersFit area (drop i (take n ps)) ≡ (peerFits area (getD ps i d) && allPeersFit area (drop (i + 1) (take n ps)))
+  unfolding allPeersFit
+  peers-turn d h k =
+      let l : i < length (take n ps) = simp (length-take-le n ps k) (omega arith) in
+      let e : getD (take n ps) i d ≡ getD ps i d = getD-take n ps i d h in
+      rw (add-one, drop-cons (take n ps) i d l, e)
+
+  peers-end : n ≤ i → n ≤ length ps → allPeersFit area (drop i (take n ps)) ≡ true
+  unfolding allPeersFit
+  peers-end h k =
+      let l : length (take n ps) ≤ i = simp (length-take-le n ps k) (omega arith) in
+      rw (drop-of-length-le (take n ps) l)
+
+-- the state can be, as far as the walk has come to peer i with `fits`
+abbrev pub Walked : Engine → ℕ → Bool → Type 0
+Walked e i fits = engineFits e ≡ (fits && allPeersFit (e .area) (drop i (take (e .n) (e .peers))))
+
+module _ (e : Engine) where
+  pub walk-start : (fits : Bool) → fits ≡ numbersFit (e .n) (e .area) (e .limit) → Walked e 0 fits
+  unfolding engineFits
+  walk-start fits x = rw x
+
+  pub walk-turn : (i : ℕ) (d : Peer) (fits next : Bool) → i < e .n → e .n ≤ length (e .peers) → fits ≡ true → next ≡ peerFits (e .area) (getD (e .peers) i d)
+      → Walked e i fits → Walked e (i + 1) next
+  walk-turn i d fits next h k x y w = w ∙ rw (x, y) (peers-turn (e .area) (e .n) (e .peers) i d h k)
+
+  pub walk-left : (i : ℕ) (fits : Bool) → fits ≡ false → Walked e i fits → engineFits e ≡ fits
+  walk-left i fits x w = w ∙ rw x
+
+  pub walk-end : (i : ℕ) (fits : Bool) → fits ≡ true → e .n ≤ i → e .n ≤ length (e .peers) → Walked e i fits → engineFits e ≡ fits
+  walk-end i fits x h k w = w ∙ rw (x, peers-end (e .area) (e .n) (e .peers) i h k)
+
+  -- what the check says of the numbers and of each peer
+  pub fit-numbers : engineFits e ≡ true → numbersFit (e .n) (e .area) (e .limit) ≡ true
+  unfolding engineFits
+  fit-numbers x = and-left _ (allPeersFit (e .area) (take (e .n) (e .peers))) x
+
+  pub fit-peer : (p : ℕ) (d : Peer) → engineFits e ≡ true → p < e .n → e .n ≤ length (e .peers) → peerFits (e .area) (getD (e .peers) p d) ≡ true
+  unfolding engineFits
+  fit-peer p d x h k =
+      ap (peerFits (e .area)) (sym (getD-take (e .n) (e .peers) p d h))
+      ∙ each (take (e .n) (e .peers)) p (simp (length-take-le (e .n) (e .peers) k) (omega arith))
+      (and-right (numbersFit (e .n) (e .area) (e .limit)) _ x)
+    where
+      each : (ps : List Peer) (j : ℕ) → j < length ps → allPeersFit (e .area) ps ≡ true → peerFits (e .area) (getD ps j d) ≡ true
+      each [] j l y = absurd (omega arith)
+      each (q ∷ ps) zero l y = unfold allPeersFit in and-left (peerFits (e .area) q) (allPeersFit (e .area) ps) y
+      each (q ∷ ps) (suc j) l y = each ps j (omega arith) (unfold allPeersFit in and-right (peerFits (e .area) q) (allPeersFit (e .area) ps) y)
+
+-- ---- the gate
+
+pub gate-turn : (w : World) (p : ℕ) (c : Call)
+    → callTurn w p c ≡ throughGate w p c (gateOf (engineFits (w .engine)) (w .engine .n) (w .engine .area) (length (w .arena)) (length (w .map)) p)
+unfolding callTurn gateOf
+gate-turn w p c =
+    go (engineFits (w .engine)) (lentFits (w .engine .n) (w .engine .area) (length (w .arena)) (length (w .map))) (ltb p (w .engine .n))
+  where
+    go : (a b d : Bool)
+        → pick a (pick b (pick d (peerTurn w p c) (refusedTurn w badPeer)) (refusedTurn w badLent)) (refusedTurn w badState)
+        ≡ throughGate w p c (pick a (pick b (pick d Gate.Open (Gate.Shut badPeer)) (Gate.Shut badLent)) (Gate.Shut badState))
+    go false b d = unfold pick throughGate in refl
+    go true false d = unfold pick throughGate in refl
+    go true true false = unfold pick throughGate in refl
+    go true true true = unfold pick throughGate in refl
+
+pub record Passed (fits : Bool) (n area arena map p : ℕ) : Type 0 where
+  pub state : fits ≡ true
+  pub lent : lentFits n area arena map ≡ true
+  pub peer : p < n
+
+pub gate-open : (fits : Bool) (n area arena map p : ℕ) → gateOf fits n area arena map p ≡ Gate.Open → Passed fits n area arena map p
+unfolding gateOf
+gate-open fits n area arena map p e =
+    let (state, e) = pick-first _ _ _ _ shut e in
+    let (lent, e) = pick-first _ _ _ _ shut e in
+    let (peer, e) = pick-first _ _ _ _ shut e in
+    record { state = state; lent = lent; peer = ltb-true p n peer }
+  where
+    shut : {k : Refusal} → Gate.Shut k ≡ Gate.Open → ⊥
+    shut x = let z : _≡_ {A = ℕ} 0 1 = cc in omega arith
+
+-- the peer behind an open gate owns its part of arena and map
+pub owned : (e : Engine) (fits : Bool) (arena map p : ℕ) (d : Peer) → length (e .peers) ≡ peerCount → engineFits e ≡ fits → gateOf fits (e .n) (e .area) arena map p ≡ Gate.Open
+    → Owned (e .area) (e .limit) p arena map (getD (e .peers) p d)
+owned e fits arena map p d eight x g =
+    let o = gate-open fits (e .n) (e .area) arena map p g in
+    let state : engineFits e ≡ true = x ∙ o .state in
+    let numbers = fit-numbers e state in
+    let s = small (e .n) (e .area) (e .limit) numbers in
+    let z = sized (e .n) (e .area) (e .limit) numbers in
+    let (a, m) = lent-lengths (e .n) (e .area) arena map (o .lent) in
+    record {
+      mapped = record {
+        fits = fit-peer e p d state (o .peer) (omega (arith, eight, s .few));
+        whole = z .whole;
+        short = s .short;
+        inMap = omega (arith, part-inside (e .n) p (e .area / 64) (o .peer));
+        mapSmall = omega (arith, map-small (e .n) (e .area) s);
+      };
+      low = z .limitLow;
+      high = z .limitHigh;
+      inArena = omega (arith, part-inside (e .n) p (e .area) (o .peer));
+      arenaSmall = omega (arith, arena-small (e .n) (e .area) s);
+    }
+
+-- a call, by what its gate says
+pub through : (w : World) (p : ℕ) (c : Call) (fits : Bool) (g h : Gate) → engineFits (w .engine) ≡ fits
+    → g ≡ gateOf fits (w .engine .n) (w .engine .area) (length (w .arena)) (length (w .map)) p → g ≡ h → callTurn w p c ≡ throughGate w p c h
+through w p c fits g h x y z =
+    gate-turn w p c
+    ∙ ap (λ (f : Bool). throughGate w p c (gateOf f (w .engine .n) (w .engine .area) (length (w .arena)) (length (w .map)) p)) x
+    ∙ ap (throughGate w p c) (sym y ∙ z)

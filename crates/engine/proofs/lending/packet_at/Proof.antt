@@ -1,0 +1,93 @@
+-- `engine::lending::packet_at` meets its contract: what the peer stores in its own part is stored in the whole.
+use Prim.Native.Nat.{_*_, _/_}
+use borrow.Author.Needs.{needs}
+use lib.ListN.{length}
+use lib.Pow.{high, low}
+use mathlib.Core.Path.{_≡_}
+use native.Mathlib.Omega.{arith}
+use Rattle.peer.specs.Matching.{fits}
+use Rattle.engine.proofs.Turns.{length-lent, packet-put}
+use Rattle.engine.proofs.Walking.{small}
+use Rattle.peer.proofs.Comparing.{length-mapped}
+use Rattle.engine.proofs.lending.packet_at.Statement.{statement}
+use Rattle.engine.proofs.lending.packet_at.Tie as tie
+
+mul-base : tie.Need-mul-base
+mul-base c = search needs
+
+add-end : tie.Need-add-end
+add-end c = search needs
+
+mul-first : tie.Need-mul-first
+mul-first c = search needs
+
+add-last : tie.Need-add-last
+add-last c = search needs
+
+sub-packet : tie.Need-sub-packet
+sub-packet c = search needs
+
+part-packet-start : tie.Need-part-packet-start
+part-packet-start c = search needs
+
+part-packet-end : tie.Need-part-packet-end
+part-packet-end c = search needs
+
+mul-packet : tie.Need-mul-packet
+mul-packet c = search needs
+
+sub-packet-2 : tie.Need-sub-packet-2
+sub-packet-2 c = search needs
+
+part-packet-start-2 : tie.Need-part-packet-start-2
+part-packet-start-2 c = search needs
+
+part-packet-end-2 : tie.Need-part-packet-end-2
+part-packet-end-2 c = search needs
+
+packet-requires : tie.Need-packet-requires
+packet-requires c κs =
+    let s = c .before .before .before .before .before .before .before in
+    let a = s .args in
+    let m = s .pre in
+    let w : 64 * (a .area / 64) ≡ a .area = omega (arith, m .mapped .whole) in
+    rw (length-lent (a .arena .now) (a .p * a .area) (a .area) (m .inArena), length-lent (a .map .now) (a .p * (a .area / 64)) (a .area / 64) (m .mapped .inMap))
+    (record { low = m .low; high = m .high }, record { whole = w; small = m .mapped .short; fits = m .mapped .fits })
+
+same-length : tie.Need-same-length
+same-length c = search needs
+
+same-length-2 : tie.Need-same-length-2
+same-length-2 c = search needs
+
+same-length-3 : tie.Need-same-length-3
+same-length-3 c = search needs
+
+returns : tie.Need-returns
+returns c =
+    let s = c .before .before .before .before .before .before .before .before .before .before .before .before .before .before in
+    let a = s .args in
+    let m = s .pre in
+    let len : length (a .there .slots) ≡ 8 = search length-mapped in
+    packet-put (a .area) (a .limit) (a .p) (a .there) (a .arena .now) (a .map .now) (a .reply .now) (a .bytes .now) m len _ (c .before .before .before .before .before .before .packet .ensures)
+
+pub packet-at-spec : {M : Type 1} → statement M
+packet-at-spec =
+    tie.close
+    (tie.spec
+    mul-base
+    add-end
+    mul-first
+    add-last
+    sub-packet
+    part-packet-start
+    part-packet-end
+    mul-packet
+    sub-packet-2
+    part-packet-start-2
+    part-packet-end-2
+    packet-requires
+    same-length
+    same-length-2
+    same-length-3
+    returns)

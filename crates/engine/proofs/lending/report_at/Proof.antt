@@ -1,0 +1,55 @@
+-- `engine::lending::report_at` meets its contract.
+use Prim.Native.Nat.{_*_, _/_}
+use borrow.Author.Needs.{needs}
+use mathlib.Core.Path.{_≡_}
+use native.Mathlib.Omega.{arith}
+use Rattle.peer.specs.Matching.{fits}
+use Rattle.engine.proofs.Turns.{length-lent}
+use Rattle.engine.proofs.Walking.{small}
+use Rattle.peer.proofs.Asking.{lent-part}
+use Rattle.engine.proofs.lending.report_at.Statement.{statement}
+use Rattle.engine.proofs.lending.report_at.Tie as tie
+
+mul-first : tie.Need-mul-first
+mul-first c = search needs
+
+add-last : tie.Need-add-last
+add-last c = search needs
+
+mul-report : tie.Need-mul-report
+mul-report c = search needs
+
+sub-report : tie.Need-sub-report
+sub-report c = search needs
+
+part-report-start : tie.Need-part-report-start
+part-report-start c = search needs
+
+part-report-end : tie.Need-part-report-end
+part-report-end c = search needs
+
+report-requires : tie.Need-report-requires
+report-requires c κs =
+    let s = c .before .before in
+    let a = s .args in
+    let m = s .pre in
+    let w : 64 * (a .area / 64) ≡ a .area = omega (arith, m .whole) in
+    rw (length-lent (a .map .now) (a .p * (a .area / 64)) (a .area / 64) (m .inMap), w) (record { whole = w; small = m .short; fits = m .fits })
+
+returns : tie.Need-returns
+returns c =
+    let a = c .before .before .before .args in
+    rw (lent-part (a .map .now) (a .p * (a .area / 64)) (a .area / 64)) at (c .report .ensures)
+
+pub report-at-spec : {M : Type 1} → statement M
+report-at-spec =
+    tie.close
+    (tie.spec
+    mul-first
+    add-last
+    mul-report
+    sub-report
+    part-report-start
+    part-report-end
+    report-requires
+    returns)

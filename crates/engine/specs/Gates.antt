@@ -1,0 +1,25 @@
+-- The checks 2, 3 and 4 of a call, as a gate in front of the peer's own step.
+use Prim.Native.Nat.{ℕ, _≤_}
+use mathlib.Core.Bool.{Bool}
+use lib.Dec.{ltb}
+use Rattle.laws.specs.Choose.{pick}
+use Rattle.peer.specs.Calls.{Call}
+use Rattle.engine.specs.declared.types.Gate.{Gate}
+use Rattle.engine.specs.SetUp.{lentFits, peerCount}
+use Rattle.engine.specs.Steps.{World, Turn, badState, badLent, badPeer, refusedTurn, peerTurn}
+
+-- the number of peers and an area are within the set-up's limits, so that their product is small
+pub record Small (n area : ℕ) : Type 0 where
+  pub few : n ≤ peerCount
+  pub short : area ≤ 8192
+
+-- by whether the state can be, the number of peers, the area, the lengths of arena and map, and the peer's number
+unfoldable pub gateOf : Bool → ℕ → ℕ → ℕ → ℕ → ℕ → Gate
+gateOf fits n area arena map p =
+    pick fits
+    (pick (lentFits n area arena map) (pick (ltb p n) Gate.Open (Gate.Shut badPeer)) (Gate.Shut badLent))
+    (Gate.Shut badState)
+
+unfoldable pub throughGate : World → ℕ → Call → Gate → Turn
+throughGate w p c Gate.Open = peerTurn w p c
+throughGate w p c (Gate.Shut k) = refusedTurn w k

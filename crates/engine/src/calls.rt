@@ -1,0 +1,137 @@
+// The four calls: the checks, then one peer's step, and the peer is put back. The state check walks
+// the peers here, where the engine already is: an engine is never handed on.
+use crate::checks;
+use crate::lending;
+use crate::types::Engine;
+use crate::types::Gate;
+use crate::types::Outcome;
+use peer::Answer;
+use peer::Receive;
+ghost use mathlib.Core.Path.{_≡_};
+ghost use lib.ListN.{length};
+ghost use Rattle.peer.specs.Calls.{post, packet, cancel, report};
+ghost use Rattle.engine.specs.Left.{world, silent, leaves};
+ghost use Rattle.engine.specs.Steps.{callTurn};
+
+// A receive is posted for a peer.
+pub fn post(mut engine: Engine, peer: usize, receive: Receive, arena: &[u8], map: &[u64]) -> Outcome
+    ensures { λ r. ⌜ silent r (now (arena .entry)) (now (map .entry)) ≡ callTurn (world engine (now (arena .entry)) (now (map .entry))) peer (post receive) ⌝ }
+{
+    let n = engine.n;
+    let area = engine.area;
+    let mut fits = checks::numbers_fit(n, area, engine.limit);
+    let mut i: usize = 0;
+    while fits && i < n {
+        let other = engine.peers[i];
+        fits = other.fits(area);
+        i += 1;
+    }
+    match checks::gate(fits, n, area, arena.len(), map.len(), peer) {
+        Gate::Shut(refusal) => Outcome {
+            engine,
+            answer: Answer::Refused(refusal),
+        },
+        Gate::Open => {
+            let there = engine.peers[peer];
+            let step = there.post(area, receive);
+            let after = step.peer;
+            let answer = step.answer;
+            engine.peers[peer] = after;
+            Outcome { engine, answer }
+        }
+    }
+}
+
+// A packet of a peer comes in.
+pub fn packet(
+    mut engine: Engine,
+    peer: usize,
+    bytes: &[u8],
+    arena: &mut [u8],
+    map: &mut [u64],
+    reply: &mut [u8],
+) -> Outcome
+    ensures { λ r. ⌜ record { outcome = r; arena = now (arena .exit); map = now (map .exit); reply = now (reply .exit) } ≡ leaves (now (reply .entry)) (callTurn (world engine (now (arena .entry)) (now (map .entry))) peer (packet (now (bytes .entry)) (length (now (reply .entry))))) ⌝ }
+{
+    let n = engine.n;
+    let area = engine.area;
+    let limit = engine.limit;
+    let mut fits = checks::numbers_fit(n, area, limit);
+    let mut i: usize = 0;
+    while fits && i < n {
+        let other = engine.peers[i];
+        fits = other.fits(area);
+        i += 1;
+    }
+    match checks::gate(fits, n, area, arena.len(), map.len(), peer) {
+        Gate::Shut(refusal) => Outcome {
+            engine,
+            answer: Answer::Refused(refusal),
+        },
+        Gate::Open => {
+            let there = engine.peers[peer];
+            let step = lending::packet_at(there, peer, area, limit, bytes, arena, map, reply);
+            let after = step.peer;
+            let answer = step.answer;
+            engine.peers[peer] = after;
+            Outcome { engine, answer }
+        }
+    }
+}
+
+// A slot of a peer is cancelled.
+pub fn cancel(mut engine: Engine, peer: usize, slot: usize, arena: &[u8], map: &[u64]) -> Outcome
+    ensures { λ r. ⌜ silent r (now (arena .entry)) (now (map .entry)) ≡ callTurn (world engine (now (arena .entry)) (now (map .entry))) peer (cancel slot) ⌝ }
+{
+    let n = engine.n;
+    let area = engine.area;
+    let mut fits = checks::numbers_fit(n, area, engine.limit);
+    let mut i: usize = 0;
+    while fits && i < n {
+        let other = engine.peers[i];
+        fits = other.fits(area);
+        i += 1;
+    }
+    match checks::gate(fits, n, area, arena.len(), map.len(), peer) {
+        Gate::Shut(refusal) => Outcome {
+            engine,
+            answer: Answer::Refused(refusal),
+        },
+        Gate::Open => {
+            let there = engine.peers[peer];
+            let step = there.cancel(slot);
+            let after = step.peer;
+            let answer = step.answer;
+            engine.peers[peer] = after;
+            Outcome { engine, answer }
+        }
+    }
+}
+
+// The missing-byte report of a slot of a peer. The engine is handed back as it came.
+pub fn report(engine: Engine, peer: usize, slot: usize, arena: &[u8], map: &[u64]) -> Outcome
+    ensures { λ r. ⌜ silent r (now (arena .entry)) (now (map .entry)) ≡ callTurn (world engine (now (arena .entry)) (now (map .entry))) peer (report slot) ⌝ }
+{
+    let n = engine.n;
+    let area = engine.area;
+    let mut fits = checks::numbers_fit(n, area, engine.limit);
+    let mut i: usize = 0;
+    while fits && i < n {
+        let other = engine.peers[i];
+        fits = other.fits(area);
+        i += 1;
+    }
+    match checks::gate(fits, n, area, arena.len(), map.len(), peer) {
+        Gate::Shut(refusal) => Outcome {
+            engine,
+            answer: Answer::Refused(refusal),
+        },
+        Gate::Open => {
+            let there = engine.peers[peer];
+            Outcome {
+                engine,
+                answer: lending::report_at(there, peer, slot, area, map),
+            }
+        }
+    }
+}

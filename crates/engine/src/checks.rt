@@ -1,0 +1,67 @@
+// The checks on numbers and lengths. Those that look at peers stand in the calls, where the engine is.
+use crate::types::Engine;
+use crate::types::Gate;
+use packet::Refusal;
+ghost use mathlib.Core.Path.{_≡_};
+ghost use mathlib.Core.Bool.{true};
+ghost use Rattle.engine.specs.Gates.{Small, gateOf};
+ghost use Rattle.engine.specs.SetUp.{numbersFit, lentFits};
+
+const BAD_STATE: Refusal = Refusal { number: 2 };
+
+const BAD_LENT: Refusal = Refusal { number: 3 };
+
+const BAD_PEER: Refusal = Refusal { number: 4 };
+
+// The limits of the three set-up numbers.
+pub(crate) fn numbers_fit(n: usize, area: usize, limit: usize) -> bool
+    ensures { λ r. ⌜ r ≡ numbersFit n area limit ⌝ }
+{
+    if n < 1 {
+        return false;
+    }
+    if Engine::PEERS < n {
+        return false;
+    }
+    if area < 64 {
+        return false;
+    }
+    if 8192 < area {
+        return false;
+    }
+    if area % 64 != 0 {
+        return false;
+    }
+    if limit < 64 {
+        return false;
+    }
+    limit <= 8192
+}
+
+// Whether arena and map have the lengths that the set-up numbers ask for.
+pub(crate) fn lent_fits(n: usize, area: usize, arena: usize, map: usize) -> bool
+    requires { ⌜ Small n area ⌝ }
+    ensures { λ r. ⌜ r ≡ lentFits n area arena map ⌝ }
+{
+    if arena != n * area {
+        return false;
+    }
+    map == n * (area / 64)
+}
+
+// The refusals 2, 3 and 4, in this order.
+pub(crate) fn gate(fits: bool, n: usize, area: usize, arena: usize, map: usize, peer: usize) -> Gate
+    requires { ⌜ (fits ≡ true → Small n area) ⌝ }
+    ensures { λ r. ⌜ r ≡ gateOf fits n area arena map peer ⌝ }
+{
+    if !fits {
+        return Gate::Shut(BAD_STATE);
+    }
+    if !lent_fits(n, area, arena, map) {
+        return Gate::Shut(BAD_LENT);
+    }
+    if n <= peer {
+        return Gate::Shut(BAD_PEER);
+    }
+    Gate::Open
+}
