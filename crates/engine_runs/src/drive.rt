@@ -33,48 +33,38 @@ pub(crate) fn title(text: &[u8]) {
     print::text(b"\n");
 }
 
+fn print_named(name: &[u8], x: usize) {
+    print::text(name);
+    print::number(x);
+}
+
+// Slot, id and length of a message.
+fn print_message(name: &[u8], slot: usize, id: u32, length: usize) {
+    print_named(name, slot);
+    print::number(id as usize);
+    print::number(length);
+}
+
 fn print_answer(answer: Answer) {
     match answer {
-        Answer::Refused(refusal) => {
-            print::text(b"refused");
-            print::number(refusal.number as usize);
-        }
-        Answer::Posted(slot) => {
-            print::text(b"posted");
-            print::number(slot);
-        }
-        Answer::Cancelled(slot) => {
-            print::text(b"cancelled");
-            print::number(slot);
-        }
+        Answer::Refused(refusal) => print_named(b"refused", refusal.number as usize),
+        Answer::Posted(slot) => print_named(b"posted", slot),
+        Answer::Cancelled(slot) => print_named(b"cancelled", slot),
         Answer::Stored => print::text(b"stored"),
-        Answer::Granted(n) => {
-            print::text(b"granted");
-            print::number(n);
-        }
+        Answer::Granted(n) => print_named(b"granted", n),
         Answer::Done {
             slot,
             id,
             length,
             cq_data,
         } => {
-            print::text(b"done");
-            print::number(slot);
-            print::number(id as usize);
-            print::number(length);
+            print_message(b"done", slot, id, length);
             print::cq_data(cq_data);
         }
-        Answer::Truncated { slot, id, length } => {
-            print::text(b"truncated");
-            print::number(slot);
-            print::number(id as usize);
-            print::number(length);
-        }
+        Answer::Truncated { slot, id, length } => print_message(b"truncated", slot, id, length),
         Answer::Missing { received, first } => {
-            print::text(b"received");
-            print::number(received);
-            print::text(b", first missing");
-            print::number(first);
+            print_named(b"received", received);
+            print_named(b", first missing", first);
         }
     }
 }
@@ -90,8 +80,7 @@ fn print_ready(answer: Ready) {
     match answer {
         Ready::Ready => print::text(b"set up\n"),
         Ready::Refused(refusal) => {
-            print::text(b"set-up refused");
-            print::number(refusal.number as usize);
+            print_named(b"set-up refused", refusal.number as usize);
             print::text(b"\n");
         }
     }

@@ -1,9 +1,9 @@
 // LONGCTS RTM, its grants, and CTSDATA.
 use crate::drive;
+use crate::drive::Run;
 
-// "Long, length 200, data 40, request 2, send_id 7: ..; later a grant of 32." "After the 128 grant: one byte at 167 stored, at 168: 17."
-fn two_packets() {
-    drive::title(b"long, two packets a grant");
+// "Long, length 200, data 40, request 2, send_id 7: .." "After the 128 grant: one byte at 167 stored, at 168: 17."
+fn first_grant() -> Run {
     let mut run = drive::start();
     run = drive::post(run, 1, 10, 200);
     run = drive::packet(
@@ -33,7 +33,12 @@ fn two_packets() {
           \xa8\x00\x00\x00\x00\x00\x00\x00\
           x",
     );
-    run = drive::report(run, 1, 0);
+    drive::report(run, 1, 0)
+}
+
+// The bytes that were granted, with one of them again, and the rest.
+fn granted_bytes(after: Run) -> Run {
+    let mut run = after;
     run = drive::packet(
         run,
         1,
@@ -70,23 +75,19 @@ fn two_packets() {
           \xa8\x00\x00\x00\x00\x00\x00\x00\
           dddddddddddddddddddddddddddddddd",
     );
+    run
+}
+
+// "later a grant of 32".
+fn two_packets() {
+    drive::title(b"long, two packets a grant");
+    let run = granted_bytes(first_grant());
     drive::show(run);
 }
 
-// "Request 0: 64, 64, 32."
-fn no_request() {
-    drive::title(b"long, no credit requested");
-    let mut run = drive::start();
-    run = drive::post(run, 1, 10, 200);
-    run = drive::packet(
-        run,
-        1,
-        b"\x44\x04\x04\x00\
-          \x00\x00\x00\x00\
-          \xc8\x00\x00\x00\x00\x00\x00\x00\
-          \x07\x00\x00\x00\x00\x00\x00\x00\
-          aaaaaaaaaaaaaaaaaaaaaaaaaaaaaaaaaaaaaaaa",
-    );
+// A packet's bytes for each grant.
+fn granted_by_one(after: Run) -> Run {
+    let mut run = after;
     run = drive::packet(
         run,
         1,
@@ -114,6 +115,24 @@ fn no_request() {
           \xa8\x00\x00\x00\x00\x00\x00\x00\
           dddddddddddddddddddddddddddddddd",
     );
+    run
+}
+
+// "Request 0: 64, 64, 32."
+fn no_request() {
+    drive::title(b"long, no credit requested");
+    let mut run = drive::start();
+    run = drive::post(run, 1, 10, 200);
+    run = drive::packet(
+        run,
+        1,
+        b"\x44\x04\x04\x00\
+          \x00\x00\x00\x00\
+          \xc8\x00\x00\x00\x00\x00\x00\x00\
+          \x07\x00\x00\x00\x00\x00\x00\x00\
+          aaaaaaaaaaaaaaaaaaaaaaaaaaaaaaaaaaaaaaaa",
+    );
+    run = granted_by_one(run);
     drive::show(run);
 }
 

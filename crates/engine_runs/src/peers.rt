@@ -1,9 +1,9 @@
 // Two peers: what one does changes nothing of the other.
 use crate::drive;
+use crate::drive::Run;
 
-// The same message to both, at the same place of their areas.
-fn apart() {
-    drive::title(b"two peers");
+// The same message to both, at the same place of their areas: one half each.
+fn halves() -> Run {
     let mut run = drive::start();
     run = drive::post(run, 0, 10, 4);
     run = drive::post(run, 1, 10, 4);
@@ -25,6 +25,13 @@ fn apart() {
           \x02\x00\x00\x00\x00\x00\x00\x00\
           gh",
     );
+    run
+}
+
+// A repeated half of the one does not count for it, and the other is done.
+fn apart() {
+    drive::title(b"two peers");
+    let mut run = halves();
     run = drive::packet(
         run,
         0,
