@@ -1,9 +1,9 @@
 -- Laws of `part` and `storeAt`: lengths, what is read back, stores side by side, and a store in a part that was lent on.
 use Prim.Native.Nat.{ℕ, _+_, _-_, _≤_, _<_}
 use borrow.Rule.Slice.PartMut.{putMid}
-use lib.ListN.{length, getD, take, drop, length-append, take-append-drop, length-take, length-drop, List·getD-eq-default}
+use lib.ListN.{length, getD, take, drop, set, length-append, take-append-drop, length-take, length-drop, List·getD-eq-default}
 use lib.Seq.{length-take-le, take-all, take-length, drop-append-le, getD-take, getD-drop, take-take, drop-drop, take-add, take-at, drop-at, sets, sets-eq, paste}
-use mathlib.Core.List.{List, [], _++_, append-assoc}
+use mathlib.Core.List.{List, [], _∷_, _++_, append-assoc}
 use mathlib.Core.Path.{_≡_, refl, sym}
 use native.Mathlib.Decide.{decLt}
 use native.Mathlib.Nat.{add-assoc, add-zero, le-refl}
@@ -23,6 +23,11 @@ module _ {A : Type 0} where
   pub store-nothing : (l : List A) (at : ℕ) → storeAt l at [] ≡ l
   unfolding storeAt
   store-nothing l at = simp (append-assoc, add-zero) (take-append-drop at l)
+
+  -- a store at the start
+  pub store-start : (l s : List A) (n : ℕ) → length s ≡ n → s ++ drop n l ≡ storeAt l 0 s
+  unfolding storeAt
+  store-start l s n e = let z : 0 + length s ≡ n = omega arith in rw z
 
   -- what stood behind stays
   pub drop-store : (l : List A) (at : ℕ) (s : List A) → at ≤ length l → drop (at + length s) (storeAt l at s) ≡ drop (at + length s) l
@@ -112,6 +117,14 @@ module _ {A : Type 0} where
   pub sets-store : (l : List A) (at : ℕ) (s : List A) → at + length s ≤ length l → sets l at s ≡ storeAt l at s
   unfolding storeAt
   sets-store l at s h = sets-eq s l at h
+
+  -- one element
+  pub set-store : (l : List A) (at : ℕ) (a : A) → at < length l → set l at a ≡ storeAt l at (a ∷ [])
+  set-store l at a h = sets-store l at (a ∷ []) (omega arith)
+
+  -- an element, and a store behind it
+  pub set-next : (l : List A) (at : ℕ) (a : A) (s : List A) → at + 1 + length s ≤ length l → storeAt (set l at a) (at + 1) s ≡ storeAt l at (a ∷ s)
+  set-next l at a s h = rw (set-store l at a (omega arith)) (store-next l at (a ∷ []) s (at + 1) refl h)
 
   -- the copy loop's result as a store
   pub paste-store : (l : List A) (at : ℕ) (s : List A) → paste l at s (length s) ≡ storeAt l at s

@@ -38,19 +38,6 @@ pub(crate) fn read_connid(flags: u16, bytes: &[u8], at: usize) -> Connid
     }
 }
 
-// Bytes are copied to their place.
-pub(crate) fn write_bytes(out: &mut [u8], at: usize, bytes: &[u8]) -> usize
-    requires { ⌜ at + length (now bytes) ≤ length (now out) ⌝ }
-    ensures { λ r. ⌜ (r ≡ at + length (now (bytes .entry))) × (now (out .exit) ≡ storeAt (now (out .entry)) at (now (bytes .entry))) ⌝ }
-{
-    let mut i: usize = 0;
-    while i < bytes.len() {
-        out[at + i] = bytes[i];
-        i += 1;
-    }
-    at + i
-}
-
 pub(crate) fn write_raw_address(out: &mut [u8], at: usize, there: bool, raw: &[u8]) -> usize
     requires { ⌜ at + length (rawAddressBytes there (now raw)) ≤ length (now out) ⌝ }
     requires { ⌜ (there ≡ true → length (now raw) < 2 ^ 32) ⌝ }
@@ -60,7 +47,7 @@ pub(crate) fn write_raw_address(out: &mut [u8], at: usize, there: bool, raw: &[u
         return at;
     }
     wire::write_u32(out, at, raw.len() as u32);
-    write_bytes(out, at + 4, raw)
+    wire::write_bytes(out, at + 4, raw)
 }
 
 pub(crate) fn write_cq_data(out: &mut [u8], at: usize, cq_data: CqData) -> usize

@@ -115,7 +115,7 @@ fn put(out: &mut [u8], row: TypeRow, header: Header, flags: u16, raw: &[u8], dat
     let after_cq = options::write_cq_data(out, after_raw, cq_data);
     let connid = header.connid;
     let data_at = options::write_connid(out, after_cq, row, connid);
-    options::write_bytes(out, data_at, data);
+    wire::write_bytes(out, data_at, data);
 }
 
 // A packet of a known type.

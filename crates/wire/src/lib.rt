@@ -1,4 +1,4 @@
-// Little-endian integers at an offset of a slice, read and written (01: "Integers on the wire are little-endian").
+// Little-endian integers at an offset of a slice, read and written (01: "Integers on the wire are little-endian"), and bytes.
 ghost use mathlib.Core.Path.{_≡_};
 ghost use Prim.Native.Nat.{_+_, _≤_};
 ghost use lib.ListN.{length};
@@ -48,4 +48,17 @@ pub fn write_u64(s: &mut [u8], at: usize, x: u64)
 {
     write_u32(s, at, (x % 4294967296) as u32);
     write_u32(s, at + 4, (x / 4294967296) as u32);
+}
+
+// Puts bytes at a place, and answers the place behind them.
+pub fn write_bytes(s: &mut [u8], at: usize, bytes: &[u8]) -> usize
+    requires { ⌜ at + length (now bytes) ≤ length (now s) ⌝ }
+    ensures { λ r. ⌜ (r ≡ at + length (now (bytes .entry))) × (now (s .exit) ≡ storeAt (now (s .entry)) at (now (bytes .entry))) ⌝ }
+{
+    let mut i: usize = 0;
+    while i < bytes.len() {
+        s[at + i] = bytes[i];
+        i += 1;
+    }
+    at + i
 }

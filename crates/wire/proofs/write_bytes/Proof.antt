@@ -1,4 +1,4 @@
--- `packet::options::write_bytes` meets its contract. The loop's invariant: the bytes passed stand in their place.
+-- `wire::write_bytes` meets its contract. The loop's invariant: the bytes passed stand in their place.
 use Prim.Native.Nat.{_+_, _-_, _≤_, _<_}
 use lib.ListN.{length, length-set}
 use lib.Seq.{paste, paste-zero, paste-suc}
@@ -6,26 +6,26 @@ use mathlib.Core.Path.{_≡_, refl}
 use native.Mathlib.Numerals.{add-one}
 use native.Mathlib.Omega.{arith}
 use Rattle.laws.proofs.Storing.{paste-store}
-use Rattle.packet.proofs.options.write_bytes.Statement.{statement}
-use Rattle.packet.proofs.options.write_bytes.Tie as tie
+use Rattle.wire.proofs.write_bytes.Statement.{statement}
+use Rattle.wire.proofs.write_bytes.Tie as tie
 
 abbrev Inv-loop : tie.InvT-loop
-Inv-loop out₀ at bytes i₀ out i = (i ≤ length bytes) × (length out ≡ length out₀) × (out ≡ paste out₀ at bytes i)
+Inv-loop s₀ at bytes i₀ s i = (i ≤ length bytes) × (length s ≡ length s₀) × (s ≡ paste s₀ at bytes i)
 
 abbrev μ-loop : tie.MeasureT-loop
-μ-loop out₀ at bytes i₀ out i = length bytes - i
+μ-loop s₀ at bytes i₀ s i = length bytes - i
 
 loop-holds : tie.Need-loop-holds Inv-loop μ-loop
-loop-holds c = (omega arith, refl, paste-zero (c .args .out .now) (c .args .at) (c .args .bytes .now))
+loop-holds c = (omega arith, refl, paste-zero (c .args .s .now) (c .args .at) (c .args .bytes .now))
 
-shared-slice-read-out : tie.Need-shared-slice-read-out Inv-loop μ-loop
-shared-slice-read-out c = omega arith
+shared-slice-read-s : tie.Need-shared-slice-read-s Inv-loop μ-loop
+shared-slice-read-s c = omega arith
 
-add-out : tie.Need-add-out Inv-loop μ-loop
-add-out c = omega arith
+add-s : tie.Need-add-s Inv-loop μ-loop
+add-s c = omega arith
 
-slice-write-out : tie.Need-slice-write-out Inv-loop μ-loop
-slice-write-out c = omega arith
+slice-write-s : tie.Need-slice-write-s Inv-loop μ-loop
+slice-write-s c = omega arith
 
 add-i : tie.Need-add-i Inv-loop μ-loop
 add-i c = omega arith
@@ -37,9 +37,9 @@ loop-again : tie.Need-loop-again Inv-loop μ-loop
 loop-again c =
     let a = c .before .before .before .args in
     let l = c .before .before .loop in
-    let hd : a .at + l .i < length (a .out .now) = omega arith in
+    let hd : a .at + l .i < length (a .s .now) = omega arith in
     let hs : l .i < length (a .bytes .now) = omega arith in
-    (omega arith, simp length-set (l .inv .1), rw (l .inv .2, add-one, paste-suc (a .out .now) (a .at) (a .bytes .now) (l .i) 0 hd hs))
+    (omega arith, simp length-set (l .inv .1), rw (l .inv .2, add-one, paste-suc (a .s .now) (a .at) (a .bytes .now) (l .i) 0 hd hs))
 
 add-result : tie.Need-add-result Inv-loop μ-loop
 add-result c = omega arith
@@ -51,7 +51,7 @@ returns : tie.Need-returns Inv-loop μ-loop
 returns c =
     let a = c .before .before .args in
     let e : c .before .loop .i ≡ length (a .bytes .now) = omega arith in
-    (rw e, rw (← paste-store (a .out .now) (a .at) (a .bytes .now), ← e, ← c .before .loop .inv .2))
+    (rw e, rw (← paste-store (a .s .now) (a .at) (a .bytes .now), ← e, ← c .before .loop .inv .2))
 
 pub write-bytes-spec : {M : Type 1} → statement M
 write-bytes-spec =
@@ -60,9 +60,9 @@ write-bytes-spec =
     Inv-loop
     μ-loop
     loop-holds
-    shared-slice-read-out
-    add-out
-    slice-write-out
+    shared-slice-read-s
+    add-s
+    slice-write-s
     add-i
     loop-less
     loop-again
