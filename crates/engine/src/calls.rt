@@ -26,20 +26,17 @@ pub fn post(mut engine: Engine, peer: usize, receive: Receive, arena: &[u8], map
         fits = other.fits(area);
         i += 1;
     }
-    match checks::gate(fits, n, area, arena.len(), map.len(), peer) {
-        Gate::Shut(refusal) => Outcome {
-            engine,
-            answer: Answer::Refused(refusal),
-        },
+    let answer = match checks::gate(fits, n, area, arena.len(), map.len(), peer) {
+        Gate::Shut(refusal) => Answer::Refused(refusal),
         Gate::Open => {
             let there = engine.peers[peer];
             let step = there.post(area, receive);
             let after = step.peer;
-            let answer = step.answer;
             engine.peers[peer] = after;
-            Outcome { engine, answer }
+            step.answer
         }
-    }
+    };
+    Outcome { engine, answer }
 }
 
 // A packet of a peer comes in.
@@ -63,20 +60,17 @@ pub fn packet(
         fits = other.fits(area);
         i += 1;
     }
-    match checks::gate(fits, n, area, arena.len(), map.len(), peer) {
-        Gate::Shut(refusal) => Outcome {
-            engine,
-            answer: Answer::Refused(refusal),
-        },
+    let answer = match checks::gate(fits, n, area, arena.len(), map.len(), peer) {
+        Gate::Shut(refusal) => Answer::Refused(refusal),
         Gate::Open => {
             let there = engine.peers[peer];
             let step = lending::packet_at(there, peer, area, limit, bytes, arena, map, reply);
             let after = step.peer;
-            let answer = step.answer;
             engine.peers[peer] = after;
-            Outcome { engine, answer }
+            step.answer
         }
-    }
+    };
+    Outcome { engine, answer }
 }
 
 // A slot of a peer is cancelled.
@@ -92,20 +86,17 @@ pub fn cancel(mut engine: Engine, peer: usize, slot: usize, arena: &[u8], map: &
         fits = other.fits(area);
         i += 1;
     }
-    match checks::gate(fits, n, area, arena.len(), map.len(), peer) {
-        Gate::Shut(refusal) => Outcome {
-            engine,
-            answer: Answer::Refused(refusal),
-        },
+    let answer = match checks::gate(fits, n, area, arena.len(), map.len(), peer) {
+        Gate::Shut(refusal) => Answer::Refused(refusal),
         Gate::Open => {
             let there = engine.peers[peer];
             let step = there.cancel(slot);
             let after = step.peer;
-            let answer = step.answer;
             engine.peers[peer] = after;
-            Outcome { engine, answer }
+            step.answer
         }
-    }
+    };
+    Outcome { engine, answer }
 }
 
 // The missing-byte report of a slot of a peer. The engine is handed back as it came.
@@ -121,17 +112,12 @@ pub fn report(engine: Engine, peer: usize, slot: usize, arena: &[u8], map: &[u64
         fits = other.fits(area);
         i += 1;
     }
-    match checks::gate(fits, n, area, arena.len(), map.len(), peer) {
-        Gate::Shut(refusal) => Outcome {
-            engine,
-            answer: Answer::Refused(refusal),
-        },
+    let answer = match checks::gate(fits, n, area, arena.len(), map.len(), peer) {
+        Gate::Shut(refusal) => Answer::Refused(refusal),
         Gate::Open => {
             let there = engine.peers[peer];
-            Outcome {
-                engine,
-                answer: lending::report_at(there, peer, slot, area, map),
-            }
+            lending::report_at(there, peer, slot, area, map)
         }
-    }
+    };
+    Outcome { engine, answer }
 }
