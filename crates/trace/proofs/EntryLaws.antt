@@ -1,0 +1,48 @@
+-- The bytes of a packet that is read from a trace stand within the trace.
+use Prim.Native.Nat.{ℕ, _+_}
+use borrow.Author.Tests.{leb-true}
+use lib.Dec.{eqb, leb}
+use lib.ListN.{length}
+use mathlib.Core.List.{List}
+use mathlib.Core.Path.{_≡_}
+use Rattle.laws.proofs.Choosing.{branch, pick-either}
+use Rattle.trace.specs.Entries.{Inside, cancelAt, entryAt, onNumber, onPair, packetAt, pairAt, postAt, postOf, receiveAt}
+use Rattle.trace.specs.Numbers.{numberAt}
+use Rattle.trace.specs.declared.types.Asked.{Asked}
+use Rattle.trace.specs.declared.types.Entry.{Entry}
+use Rattle.trace.specs.declared.types.Found.{Found}
+use Rattle.trace.specs.declared.types.Number.{Number}
+use Rattle.trace.specs.declared.types.Number.the-variants.{Is, Bad}
+use Rattle.trace.specs.declared.types.Pair.{Pair}
+
+abbrev Holds : ℕ → Found → Type 0
+Holds n Found.Bad = Unit {0}
+Holds n (Found.Entry e next) = Inside n e
+
+module _ (n : ℕ) where
+  on-number : (m : Number) (f : ℕ → ℕ → Found) → ((v next : ℕ) → Holds n (f v next)) → Holds n (onNumber m Found.Bad f)
+  on-number Bad f h = tt
+  on-number (Is v next) f h = h v next
+
+  on-pair : (m : Pair) (f : ℕ → ℕ → ℕ → Found) → ((a b next : ℕ) → Holds n (f a b next)) → Holds n (onPair m Found.Bad f)
+  on-pair Pair.Bad f h = tt
+  on-pair (Pair.Are a b next) f h = h a b next
+
+  post : (peer : ℕ) (a : Asked) → Holds n (postOf peer a)
+  post peer Asked.Bad = tt
+  post peer (Asked.For r next) = tt
+
+module _ (s : List ℕ) where
+  holds : (at : ℕ) → Holds (length s) (entryAt s at)
+  unfolding entryAt postAt packetAt cancelAt
+  holds at =
+      let P = Holds (length s) in
+      on-number (length s) (numberAt s at) _ (λ first next.
+      pick-either P (eqb first 1)
+      (on-pair (length s) (pairAt s next) _ (λ peer kind m. pick-either P (leb kind 1) (post (length s) peer (receiveAt s m kind)) tt))
+      (pick-either P (eqb first 2)
+      (on-pair (length s) (pairAt s next) _ (λ peer count m. branch P (leb (m + count) (length s)) _ _ (λ t. leb-true _ _ t) (λ t. tt)))
+      (pick-either P (eqb first 3) (on-pair (length s) (pairAt s next) _ (λ peer slot m. tt)) tt)))
+
+  pub entry-inside : (at : ℕ) (e : Entry) (next : ℕ) → entryAt s at ≡ Found.Entry e next → Inside (length s) e
+  entry-inside at e next h = rw h at (holds at)

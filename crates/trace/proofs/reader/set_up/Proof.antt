@@ -1,0 +1,19 @@
+-- `trace::reader::set_up` meets its contract: it takes a reader apart and calls `set_up_at` (`TakenApart.antt` has the walk).
+use contract.Running.{givenOf}
+use denote.Enum.Laws as EL
+use Rattle.trace.specs.Entries.{setUpAt}
+use Rattle.trace.proofs.TakenApart.{taken}
+use Rattle.trace.proofs.types.SetUp as S
+use Rattle.trace.proofs.types.SetUp.Laws as S′
+use Rattle.trace.proofs.reading.set_up_at.Symbol as callee
+use Rattle.trace.proofs.reading.set_up_at.Met as callee-thm
+use Rattle.trace.proofs.reader.set_up.Code as code
+use Rattle.trace.proofs.reader.set_up.Key.{name as #set-up}
+use Rattle.trace.proofs.reader.set_up.Statement as stated
+
+pub set-up-spec : {M : Type 1} → stated.statement M
+unfolding code.routine
+set-up-spec 𝓤 H 𝓜 𝓖 𝓡 =
+    taken S.the-row setUpAt S′.mir (λ r u is. EL.lawful S.the-type S′.the-laws 𝓤 H (𝓖 .A) (givenOf 𝓤 H 𝓜 𝓖) tt .typed r _ is .0)
+    𝓤 H 𝓜 𝓖 𝓡 code.env #set-up callee.name (code.unfolded 𝓤 H 𝓜 𝓡)
+    callee.routine code.calls-trace·reading·set-up-at (callee-thm.met 𝓤 H 𝓜 𝓖 𝓡)

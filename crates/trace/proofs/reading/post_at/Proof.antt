@@ -1,0 +1,56 @@
+-- `trace::reading::post_at` meets its contract: each arm is a case of `postAt`, by what `pair_at` and `receive_at` answer and the test of the kind.
+use borrow.Author.Needs.{needs}
+use borrow.Author.Tests.{le-leb, lt-leb}
+use Rattle.laws.specs.Choose.{pick}
+use Rattle.trace.specs.Entries.{postAt}
+use Rattle.trace.proofs.reading.post_at.Statement.{statement}
+use Rattle.trace.proofs.reading.post_at.Tie as tie
+
+pair-at-requires : tie.Need-pair-at-requires
+pair-at-requires c κs = search needs
+
+enum-told : tie.Need-enum-told
+enum-told c = search needs
+
+enum-known-peer : tie.Need-enum-known-peer
+enum-known-peer c = search needs
+
+returns : tie.Need-returns
+unfolding postAt pick
+returns c = rw (← c .before .before .before .before .pair-at .ensures, c .before .before .peer .given .1, lt-leb _ _ (c .if1 .taken))
+
+receive-at-requires : tie.Need-receive-at-requires
+receive-at-requires c κs = search needs
+
+enum-told-2 : tie.Need-enum-told-2
+enum-told-2 c = search needs
+
+enum-known-receive : tie.Need-enum-known-receive
+enum-known-receive c = search needs
+
+returns-2 : tie.Need-returns-2
+unfolding postAt
+returns-2 c = rw (← c .before .before .pair-at .ensures, c .enum-told .given .1)
+
+returns-3 : tie.Need-returns-3
+unfolding postAt pick
+returns-3 c = rw (← c .before .before .before .before .before .before .before .pair-at .ensures, c .before .before .before .before .before .peer .given .1, le-leb _ _ (c .before .before .before .if1 .left), ← c .before .before .receive-at .ensures, c .enum-told2 .given .1)
+
+returns-4 : tie.Need-returns-4
+unfolding postAt pick
+returns-4 c = rw (← c .before .before .before .before .before .before .before .before .pair-at .ensures, c .before .before .before .before .before .before .peer .given .1, le-leb _ _ (c .before .before .before .before .if1 .left), ← c .before .before .before .receive-at .ensures, c .before .receive .given .1)
+
+pub post-at-spec : {M : Type 1} → statement M
+post-at-spec =
+    tie.close
+    (tie.spec
+    pair-at-requires
+    enum-told
+    enum-known-peer
+    returns
+    receive-at-requires
+    enum-told-2
+    enum-known-receive
+    returns-2
+    returns-3
+    returns-4)

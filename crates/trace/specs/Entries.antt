@@ -1,0 +1,70 @@
+-- The entries of a trace (01, "Replay": "The trace is n, A, L, then entries: 1 post (peer, kind 0 plain or 1 tagged, tag, ignore, start,
+-- capacity); 2 packet (peer, byte count, bytes); 3 cancel (peer, slot)").
+use Prim.Native.Nat.{ℕ, _+_, _≤_}
+use mathlib.Core.List.{List}
+use lib.ListN.{length}
+use lib.Dec.{leb, eqb}
+use Rattle.laws.specs.Choose.{pick}
+use Rattle.trace.specs.declared.types.Number.{Number}
+use Rattle.trace.specs.declared.types.Number.the-variants.{Is, Bad}
+use Rattle.trace.specs.declared.types.Pair.{Pair}
+use Rattle.trace.specs.declared.types.SetUp.{SetUp}
+use Rattle.trace.specs.declared.types.Asked.{Asked}
+use Rattle.trace.specs.declared.types.Entry.{Entry}
+use Rattle.trace.specs.declared.types.Found.{Found}
+use Rattle.trace.specs.Numbers.{numberAt}
+
+-- a number is read, and the rest with it and the place behind it; a malformed one makes the whole bad
+abbrev pub onNumber : {A : Type 0} → Number → A → (ℕ → ℕ → A) → A
+onNumber Bad bad f = bad
+onNumber (Is v next) bad f = f v next
+
+-- two numbers
+unfoldable pub pairAt : List ℕ → ℕ → Pair
+pairAt s at = onNumber (numberAt s at) Pair.Bad (λ a next. onNumber (numberAt s next) Pair.Bad (λ b end. Pair.Are a b end))
+
+abbrev pub onPair : {A : Type 0} → Pair → A → (ℕ → ℕ → ℕ → A) → A
+onPair Pair.Bad bad f = bad
+onPair (Pair.Are a b next) bad f = f a b next
+
+-- "n, A, L"
+unfoldable pub setUpAt : List ℕ → ℕ → SetUp
+setUpAt s at = onPair (pairAt s at) SetUp.Bad (λ n area next. onNumber (numberAt s next) SetUp.Bad (λ limit end. SetUp.Are n area limit end))
+
+-- "tag, ignore, start, capacity" of a receive of a kind, 0 or 1
+unfoldable pub receiveAt : List ℕ → ℕ → ℕ → Asked
+receiveAt s at kind =
+    onPair (pairAt s at) Asked.Bad (λ tag ignore next.
+    onPair (pairAt s next) Asked.Bad (λ start capacity end.
+    Asked.For (record { tagged = eqb kind 1; tag = tag; ignore = ignore; start = start; capacity = capacity }) end))
+
+abbrev pub postOf : ℕ → Asked → Found
+postOf peer Asked.Bad = Found.Bad
+postOf peer (Asked.For receive next) = Found.Entry (Entry.Post peer receive) next
+
+-- "1 post (peer, kind 0 plain or 1 tagged, ..)"
+unfoldable pub postAt : List ℕ → ℕ → Found
+postAt s at = onPair (pairAt s at) Found.Bad (λ peer kind next. pick (leb kind 1) (postOf peer (receiveAt s next kind)) Found.Bad)
+
+-- "2 packet (peer, byte count, bytes)": where its bytes stand, and how many
+unfoldable pub packetAt : List ℕ → ℕ → Found
+packetAt s at =
+    onPair (pairAt s at) Found.Bad (λ peer count next.
+    pick (leb (next + count) (length s)) (Found.Entry (Entry.Packet peer next count) (next + count)) Found.Bad)
+
+-- "3 cancel (peer, slot)"
+unfoldable pub cancelAt : List ℕ → ℕ → Found
+cancelAt s at = onPair (pairAt s at) Found.Bad (λ peer slot next. Found.Entry (Entry.Cancel peer slot) next)
+
+-- the entry at a place and the place behind it, or bad: "a first number not 1 to 3, a kind not 0 or 1, a malformed number, bytes that
+-- end early"
+unfoldable pub entryAt : List ℕ → ℕ → Found
+entryAt s at =
+    onNumber (numberAt s at) Found.Bad (λ first next.
+    pick (eqb first 1) (postAt s next) (pick (eqb first 2) (packetAt s next) (pick (eqb first 3) (cancelAt s next) Found.Bad)))
+
+-- an entry whose bytes stand within a trace of n
+abbrev pub Inside : ℕ → Entry → Type 0
+Inside n (Entry.Post peer receive) = Unit {0}
+Inside n (Entry.Packet peer at count) = at + count ≤ n
+Inside n (Entry.Cancel peer slot) = Unit {0}
