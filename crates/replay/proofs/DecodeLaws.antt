@@ -1,0 +1,45 @@
+-- Laws of `decode`: one more entry, a bad one, the end, and how many calls there are.
+use Prim.Native.Nat.{ℕ, zero, suc, _≤_, _<_}
+use borrow.Author.Tests.{le-leb, lt-leb}
+use lib.Dec.{leb}
+use lib.ListN.{length}
+use mathlib.Core.List.{List}
+use mathlib.Core.Logic.{_⊎_, ⊎-elim}
+use mathlib.Core.Path.{_≡_, refl, _∙_}
+use native.Mathlib.Omega.{arith}
+use Rattle.laws.proofs.Choosing.{pick-either, pick-false, pick-true}
+use Rattle.trace.specs.Entries.{entryAt}
+use Rattle.trace.specs.declared.types.Entry.{Entry}
+use Rattle.trace.specs.declared.types.Found.{Found}
+use Rattle.replay.specs.Decoding.{Decoded, before, decode, endingAt, noMore, onFound, requestOf}
+use Rattle.replay.specs.declared.types.Ending.{Ending}
+
+module _ (k : ℕ) (s buffer : List ℕ) (at : ℕ) where
+  pub decode-entry : (e : Entry) (next : ℕ) → at < length s → entryAt s at ≡ Found.Entry e next
+      → decode (suc k) s buffer at ≡ before (requestOf s buffer e) (decode k s buffer next)
+  unfolding decode
+  decode-entry e next h f = pick-false _ _ (lt-leb (length s) at h) ∙ rw f
+
+  pub decode-bad : at < length s → entryAt s at ≡ Found.Bad → decode (suc k) s buffer at ≡ noMore (Ending.Bad at)
+  unfolding decode
+  decode-bad h f = pick-false _ _ (lt-leb (length s) at h) ∙ rw f
+
+-- no entry may be taken, or none is left
+pub decode-end : (k : ℕ) (s buffer : List ℕ) (at : ℕ) → (k ≡ 0) ⊎ (length s ≤ at) → decode k s buffer at ≡ noMore (endingAt at (length s))
+unfolding decode
+decode-end zero s buffer at h = refl
+decode-end (suc k) s buffer at h =
+    let l : length s ≤ at = ⊎-elim (λ e. absurd (omega arith)) (λ e. e) h in
+    pick-true _ _ (le-leb (length s) at l) ∙ rw (pick-true Ending.End Ending.Stopped (le-leb (length s) at l))
+
+-- "Replay takes at most a given number of entries"
+pub calls-few : (k : ℕ) (s buffer : List ℕ) (at : ℕ) → length (decode k s buffer at .calls) ≤ k
+unfolding decode
+calls-few zero s buffer at = omega arith
+calls-few (suc k) s buffer at =
+    pick-either (λ (d : Decoded). length (d .calls) ≤ suc k) (leb (length s) at) (omega arith) (found (entryAt s at) (calls-few k s buffer))
+  where
+    found : (f : Found) → ((next : ℕ) → length (decode k s buffer next .calls) ≤ k)
+        → length (onFound f (noMore (Ending.Bad at)) (λ e next. before (requestOf s buffer e) (decode k s buffer next)) .calls) ≤ suc k
+    found Found.Bad ih = omega arith
+    found (Found.Entry e next) ih = let l = ih next in omega arith

@@ -1,0 +1,166 @@
+-- Laws of the whole: the set-up's answer, the text made of the first line, the calls' lines and the last, its room, and what is put back of
+-- arena and map.
+use Prim.Native.Nat.{ℕ, _+_, _*_, _≤_}
+use borrow.Author.Tests.{leb-true}
+use lib.Dec.{leb}
+use lib.ListN.{length, drop, length-append, replicate}
+use mathlib.Core.Bool.{_&&_}
+use mathlib.Core.List.{List, [], _++_}
+use mathlib.Core.Path.{_≡_, refl, sym, subst, _∙_}
+use native.Mathlib.Omega.{arith}
+use Rattle.laws.specs.Parts.{storeAt}
+use Rattle.laws.proofs.Choosing.{branch, pick-either}
+use Rattle.laws.proofs.Storing.{length-store, store-next, store-start}
+use Rattle.text.specs.Lines.{bytesOf}
+use Rattle.text.proofs.LineLaws.{length-line}
+use Rattle.packet.specs.declared.types.Refusal.{Refusal}
+use Rattle.engine.specs.Left.{world}
+use Rattle.engine.specs.SetUp.{Prepared, engineOf, lentFits, notStarted, numbersFit, setUp}
+use Rattle.engine.specs.Steps.{World}
+use Rattle.engine.specs.declared.types.Ready.{Ready}
+use Rattle.trace.specs.Entries.{setUpAt}
+use Rattle.trace.specs.declared.types.SetUp.{SetUp}
+use Rattle.guarantees.specs.Runs.{freshWorld}
+use Rattle.replay.specs.Decoding.{Decoded, decode}
+use Rattle.replay.specs.Lines.{endingLine, setUpLine}
+use Rattle.replay.specs.Replaying.{Left, begun, hasRoom, linesOf, onReady, putBack, ran, replayOf, report, reported, started, told}
+use Rattle.replay.specs.declared.types.Ending.{Ending}
+use Rattle.replay.proofs.RunLaws.{ending-room, lines-room, tell-room}
+use Rattle.replay.proofs.DecodeLaws.{calls-few}
+
+-- ---- the set-up
+
+refused-or-ready : {k : Refusal} {C : Type 0} → Ready.Refused k ≡ Ready.Ready → C
+refused-or-ready e = let z : _≡_ {A = ℕ} 0 1 = cc in absurd (omega arith)
+
+module _ (n area limit : ℕ) (s : List ℕ) (next budget : ℕ) (arena map reply text : List ℕ) (x : Prepared)
+    (e : x ≡ setUp n area limit (length arena) map) where
+  -- what holds of a set-up that is ready, and of one that is refused, holds of this one
+  either : (P : Prepared → Type 0)
+      → P (record { started = record { answer = Ready.Ready; engine = engineOf n area limit }; map = replicate (length map) 0 })
+      → P (notStarted map) → P x
+  unfolding setUp
+  either P p q = subst P (sym e) (pick-either P (numbersFit n area limit && lentFits n area (length arena) (length map)) p q)
+
+  fresh : x .started .answer ≡ Ready.Ready → world (x .started .engine) arena (x .map) ≡ freshWorld n area limit arena map
+  unfolding freshWorld
+  fresh =
+      either (λ (y : Prepared). y .started .answer ≡ Ready.Ready → world (y .started .engine) arena (y .map) ≡ freshWorld n area limit arena map)
+      (λ r. refl) (λ r. refused-or-ready r)
+
+  untouched : (k : Refusal) → x .started .answer ≡ Ready.Refused k → x .map ≡ map
+  untouched k = either (λ (y : Prepared). y .started .answer ≡ Ready.Refused k → y .map ≡ map) (λ r. refused-or-ready (sym r)) (λ r. refl)
+
+  pub begun-ready : x .started .answer ≡ Ready.Ready
+      → begun n area limit s next budget arena map reply text ≡ reported (world (x .started .engine) arena (x .map)) reply text (decode budget s reply next)
+  unfolding begun
+  begun-ready r = rw (← e, r, fresh r)
+
+  pub begun-refused : (k : Refusal) → x .started .answer ≡ Ready.Refused k
+      → begun n area limit s next budget arena map reply text ≡ told arena (x .map) reply text (Ending.NotSetUp k)
+  unfolding begun
+  begun-refused k r = rw (← e, r, untouched k r)
+
+-- ---- the text
+
+pub set-up-room : length setUpLine ≤ 9
+set-up-room = let n = length-line (bytesOf "setup ok") [] in omega arith
+
+-- the whole text has room
+report-room : (w : World) (d : Decoded) (budget text : ℕ) → length (d .calls) ≤ budget → 64 + 80 * budget ≤ text → length (report w d) ≤ text
+report-room w d budget text few room =
+    let l = linesOf w (d .calls) in
+    let last = endingLine (length (d .calls)) (d .ending) in
+    let a = set-up-room in
+    let b = lines-room w (d .calls) in
+    let c = ending-room (length (d .calls)) (d .ending) in
+    rw (length-append setUpLine (l ++ last), length-append l last) (omega arith)
+
+module _ (w : World) (reply text : List ℕ) (d : Decoded) (budget : ℕ) (few : length (d .calls) ≤ budget) (room : 64 + 80 * budget ≤ length text)
+    (first : ℕ) (x : Left) (f : first ≡ 0 + length setUpLine) (e : x ≡ ran w reply (storeAt text 0 setUpLine) first d) where
+  abbrev last : List ℕ
+  last = endingLine (length (d .calls)) (d .ending)
+
+  -- the lines behind the first have room
+  inside : first + length (linesOf w (d .calls)) + length last ≤ length text
+  inside =
+      let a = set-up-room in
+      let b = lines-room w (d .calls) in
+      let c = ending-room (length (d .calls)) (d .ending) in
+      omega arith
+
+  pub last-room : x .replayed .written + length (endingLine (x .replayed .taken) (x .replayed .ending)) ≤ length (x .text)
+  last-room =
+      let l = linesOf w (d .calls) in
+      let i = inside in
+      let a = set-up-room in
+      let n : length (storeAt text 0 setUpLine) ≡ length text = length-store text 0 setUpLine (omega arith) in
+      let m : length (storeAt (storeAt text 0 setUpLine) first l) ≡ length text = length-store (storeAt text 0 setUpLine) first l (rw n (omega arith)) ∙ n in
+      rw e (rw m i)
+
+  -- the first line, the calls' lines and the last make the report
+  pub reported-by-parts : (written : ℕ) (text′ : List ℕ)
+      → written ≡ x .replayed .written + length (endingLine (x .replayed .taken) (x .replayed .ending))
+      → text′ ≡ storeAt (x .text) (x .replayed .written) (endingLine (x .replayed .taken) (x .replayed .ending))
+      → record {
+        replayed = record { taken = x .replayed .taken; written = written; ending = x .replayed .ending };
+        arena = x .arena;
+        map = x .map;
+        reply = x .reply;
+        text = text′;
+      }
+      ≡ reported w reply text d
+  unfolding reported
+  reported-by-parts written text′ p q =
+      let l = linesOf w (d .calls) in
+      let i = inside in
+      let a = set-up-room in
+      let n : length (storeAt text 0 setUpLine) ≡ length text = length-store text 0 setUpLine (omega arith) in
+      let g : first ≡ 0 + length setUpLine = f in
+      let y : storeAt (storeAt (storeAt text 0 setUpLine) first l) (first + length l) last ≡ storeAt text 0 (setUpLine ++ (l ++ last)) =
+      store-next (storeAt text 0 setUpLine) first l last (first + length l) refl (rw n i)
+      ∙ store-next text 0 setUpLine (l ++ last) first f (rw length-append (omega arith)) in
+      let z : first + length l + length last ≡ length (setUpLine ++ (l ++ last)) =
+      rw (length-append setUpLine (l ++ last), length-append l last) (omega arith) in
+      rw (p, q, e, y, z)
+
+-- ---- what was lent on
+
+-- the elements behind those that were lent on stay
+pub put-back : (arena map : List ℕ) (x : Left) (bytes words : ℕ) → length (x .arena) ≡ bytes → length (x .map) ≡ words
+    → record {
+      replayed = x .replayed;
+      arena = x .arena ++ drop bytes arena;
+      map = x .map ++ drop words map;
+      reply = x .reply;
+      text = x .text;
+    }
+    ≡ putBack arena map x
+put-back arena map x bytes words p q = rw (store-start arena (x .arena) bytes p, store-start map (x .map) words q)
+
+-- ---- the text lies within its buffer
+
+module _ (s : List ℕ) (budget : ℕ) (arena map reply text : List ℕ) where
+  begun-inside : 64 + 80 * budget ≤ length text → (n area limit next : ℕ) (a m : List ℕ)
+      → begun n area limit s next budget a m reply text .replayed .written ≤ length text
+  unfolding begun reported
+  begun-inside room n area limit next a m = ready (setUp n area limit (length a) m .started .answer)
+    where
+      ready : (r : Ready)
+          → onReady r (reported (freshWorld n area limit a m) reply text (decode budget s reply next)) (told a m reply text) .replayed .written ≤ length text
+      ready Ready.Ready = report-room (freshWorld n area limit a m) (decode budget s reply next) budget (length text) (calls-few budget s reply next) room
+      ready (Ready.Refused k) = tell-room (Ending.NotSetUp k) budget (length text) room
+
+  started-inside : 64 + 80 * budget ≤ length text → (u : SetUp) → started s budget arena map reply text u .replayed .written ≤ length text
+  unfolding started
+  started-inside room SetUp.Bad = tell-room (Ending.Bad 0) budget (length text) room
+  started-inside room (SetUp.Are n area limit next) = begun-inside room n area limit next _ _
+
+  written-inside : replayOf s budget arena map reply text .replayed .written ≤ length text
+  unfolding replayOf hasRoom endingLine
+  written-inside =
+      branch (λ (l : Left). l .replayed .written ≤ length text) (leb (64 + 80 * budget) (length text)) _ _
+      (λ t. started-inside (leb-true _ _ t) (setUpAt s 0)) (λ t. omega arith)
+
+  pub written-kept : (x : Left) → x ≡ replayOf s budget arena map reply text → length (x .text) ≡ length text → x .replayed .written ≤ length (x .text)
+  written-kept x e n = rw n (subst (λ (y : Left). y .replayed .written ≤ length text) (sym e) written-inside)

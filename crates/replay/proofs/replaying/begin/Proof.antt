@@ -1,0 +1,108 @@
+-- `replay::replaying::begin` meets its contract: the first line, the calls' lines and the last make the report.
+use borrow.Author.Needs.{needs}
+use Rattle.replay.proofs.replaying.begin.Statement.{statement}
+use Rattle.replay.proofs.replaying.begin.Tie as tie
+use lib.ListN.{length}
+use mathlib.Core.Path.{_≡_, sym, _∙_}
+use native.Mathlib.Omega.{arith}
+use Rattle.replay.proofs.DecodeLaws.{calls-few}
+use Rattle.replay.proofs.RunLaws.{tell-room}
+use Rattle.replay.proofs.WholeLaws.{begun-ready, begun-refused, last-room, reported-by-parts, set-up-room}
+
+set-up-requires : tie.Need-set-up-requires
+set-up-requires c κs = search needs
+
+enum-known-answer : tie.Need-enum-known-answer
+enum-known-answer c = search needs
+
+tell-requires : tie.Need-tell-requires
+tell-requires c κs = tell-room _ _ _ (c .before .before .before .before .before .before .before .before .before .before .before .before .before .before .before .pre)
+
+enum-told : tie.Need-enum-told
+enum-told c = search needs
+
+slice-aggregate-put-line : tie.Need-slice-aggregate-put-line
+slice-aggregate-put-line c = search needs
+
+slice-aggregate-put-line-2 : tie.Need-slice-aggregate-put-line-2
+slice-aggregate-put-line-2 c = search needs
+
+put-line-requires : tie.Need-put-line-requires
+put-line-requires c κs = let a = set-up-room in let p = c .before .before .before .before .before .before .before .before .before .before .before .before .before .before .before .before .pre in omega arith
+
+run-requires : tie.Need-run-requires
+run-requires c κs =
+    let s = c .before .before .before .before .before .before .before .before .before .before .before .before .before .before .before .before .before .before .before .before .before .before .before in
+    let w = c .before .before .before .before .before .before .put-line in
+    let a = set-up-room in
+    let p = s .pre in
+    let k : length (w .last .0) ≡ length (s .args .text .now) = w .kept .0 in
+    omega arith
+
+put-ending-requires : tie.Need-put-ending-requires
+put-ending-requires c κs =
+    let s = c .before .before .before .before .before .before .before .before .before .before .before .before .before .before .before .before .before .before .before .before .before .before .before .before .before .before .before .before .before .before .before .before .before in
+    let a = s .args in
+    let w = c .before .before .before .before .before .before .before .before .before .before .before .before .before .before .before .before .put-line in
+    let r = c .before .before .before .before .before .before .before .before .before .run in
+    last-room _ _ (a .text .now) _ (a .budget) (calls-few (a .budget) _ _ _) (s .pre) _ _ (w .ensures .0) (rw (w .ensures .1) at (r .ensures))
+
+same-length : tie.Need-same-length
+same-length c = search needs
+
+same-length-2 : tie.Need-same-length-2
+same-length-2 c = search needs
+
+same-length-3 : tie.Need-same-length-3
+same-length-3 c = search needs
+
+returns : tie.Need-returns
+returns c =
+    c .before .before .tell .ensures _ _ _
+    ∙ sym (begun-refused _ _ _ _ _ _ _ _ _ _ _ (c .before .before .before .before .before .before .before .before .before .before .set-up .ensures) _ (c .before .before .before .before .before .answer .given .1))
+
+same-length-4 : tie.Need-same-length-4
+same-length-4 c = search needs
+
+same-length-5 : tie.Need-same-length-5
+same-length-5 c = search needs
+
+same-length-6 : tie.Need-same-length-6
+same-length-6 c = search needs
+
+same-length-7 : tie.Need-same-length-7
+same-length-7 c = search needs
+
+returns-2 : tie.Need-returns-2
+returns-2 c =
+    let s = c .before .before .before .before .before .before .before .before .before .before .before .before .before .before .before .before .before .before .before .before .before .before .before .before .before .before .before .before .before .before .before .before .before .before .before .before in
+    let a = s .args in
+    let w = c .before .before .before .before .before .before .before .before .before .before .before .before .before .before .before .before .before .before .before .put-line in
+    let r = c .before .before .before .before .before .before .before .before .before .before .before .before .run in
+    let p = c .before .before .put-ending in
+    reported-by-parts _ _ (a .text .now) _ (a .budget) (calls-few (a .budget) _ _ _) (s .pre) _ _ (w .ensures .0) (rw (w .ensures .1) at (r .ensures)) _ _
+    (p .ensures .0) (p .ensures .1)
+    ∙ sym (begun-ready _ _ _ _ _ _ _ _ _ _ _ (c .before .before .before .before .before .before .before .before .before .before .before .before .before .before .before .before .before .before .before .before .before .before .before .before .before .before .before .before .set-up .ensures) (c .before .before .before .before .before .before .before .before .before .before .before .before .before .before .before .before .before .before .before .before .before .before .before .enum-told .given .1))
+
+pub begin-spec : {M : Type 1} → statement M
+begin-spec =
+    tie.close
+    (tie.spec
+    set-up-requires
+    enum-known-answer
+    tell-requires
+    enum-told
+    slice-aggregate-put-line
+    slice-aggregate-put-line-2
+    put-line-requires
+    run-requires
+    put-ending-requires
+    same-length
+    same-length-2
+    same-length-3
+    returns
+    same-length-4
+    same-length-5
+    same-length-6
+    same-length-7
+    returns-2)

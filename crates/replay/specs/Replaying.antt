@@ -1,0 +1,121 @@
+-- A replay (01, "Replay"): the run of the calls that a trace records, and the text about it.
+use Prim.Native.Nat.{ℕ, _+_, _*_, _/_}
+use mathlib.Core.List.{List, [], _∷_, _++_}
+use mathlib.Core.Bool.{Bool, _&&_}
+use lib.ListN.{length}
+use lib.Dec.{leb}
+use Rattle.laws.specs.Choose.{pick}
+use Rattle.laws.specs.Parts.{part, storeAt}
+use Rattle.engine.specs.declared.types.Ready.{Ready}
+use Rattle.engine.specs.SetUp.{peerCount, setUp}
+use Rattle.engine.specs.Steps.{World}
+use Rattle.trace.specs.declared.types.SetUp.{SetUp}
+use Rattle.trace.specs.Entries.{setUpAt}
+use Rattle.guarantees.specs.Runs.{Request, freshWorld, turnOf, worldAfter}
+use Rattle.replay.specs.declared.types.Ending.{Ending}
+use Rattle.replay.specs.declared.types.Replayed.{Replayed}
+use Rattle.replay.specs.Lines.{setUpLine, answerLine, endingLine}
+use Rattle.replay.specs.Decoding.{Decoded, decode}
+
+-- ---- the calls of a run
+
+-- a line for each
+unfoldable pub linesOf : World → List Request → List ℕ
+linesOf w [] = []
+linesOf w (q ∷ qs) = answerLine (turnOf w q .answer) ++ linesOf (turnOf w q .world) qs
+
+-- the reply buffer, which each call is lent in its turn
+unfoldable pub replyAfter : World → List ℕ → List Request → List ℕ
+replyAfter w reply [] = reply
+replyAfter w reply (q ∷ qs) = replyAfter (turnOf w q .world) (storeAt reply 0 (turnOf w q .reply)) qs
+
+-- what a replay answers, and leaves of what it is lent
+pub record Left : Type 0 where
+  pub replayed : Replayed
+  pub arena : List ℕ
+  pub map : List ℕ
+  pub reply : List ℕ
+  pub text : List ℕ
+
+-- the calls, with their lines from `at` on
+abbrev pub ran : World → List ℕ → List ℕ → ℕ → Decoded → Left
+ran w reply text at d =
+    record {
+      replayed = record { taken = length (d .calls); written = at + length (linesOf w (d .calls)); ending = d .ending };
+      arena = worldAfter w (d .calls) .arena;
+      map = worldAfter w (d .calls) .map;
+      reply = replyAfter w reply (d .calls);
+      text = storeAt text at (linesOf w (d .calls));
+    }
+
+-- ---- the whole
+
+-- the text of a run of calls: "`setup ok` .., then .., last .."
+abbrev pub report : World → Decoded → List ℕ
+report w d = setUpLine ++ (linesOf w (d .calls) ++ endingLine (length (d .calls)) (d .ending))
+
+-- a run from w
+unfoldable pub reported : World → List ℕ → List ℕ → Decoded → Left
+reported w reply text d =
+    record {
+      replayed = record { taken = length (d .calls); written = length (report w d); ending = d .ending };
+      arena = worldAfter w (d .calls) .arena;
+      map = worldAfter w (d .calls) .map;
+      reply = replyAfter w reply (d .calls);
+      text = storeAt text 0 (report w d);
+    }
+
+-- only a last line is written, and nothing else is changed
+abbrev pub told : List ℕ → List ℕ → List ℕ → List ℕ → Ending → Left
+told arena map reply text e =
+    record {
+      replayed = record { taken = 0; written = length (endingLine 0 e); ending = e };
+      arena = arena;
+      map = map;
+      reply = reply;
+      text = storeAt text 0 (endingLine 0 e);
+    }
+
+-- "`setup ok` or `setup 1` (then stops)"
+abbrev pub onReady : Ready → Left → (Ending → Left) → Left
+onReady Ready.Ready run stop = run
+onReady (Ready.Refused k) run stop = stop (Ending.NotSetUp k)
+
+-- the set-up, and the run of what the trace s records from `next` on
+unfoldable pub begun : ℕ → ℕ → ℕ → List ℕ → ℕ → ℕ → List ℕ → List ℕ → List ℕ → List ℕ → Left
+begun n area limit s next budget arena map reply text =
+    onReady (setUp n area limit (length arena) map .started .answer)
+    (reported (freshWorld n area limit arena map) reply text (decode budget s reply next))
+    (told arena map reply text)
+
+-- n times `each` elements are lent on of those that are there, or none where they are too few
+unfoldable pub lentOf : ℕ → ℕ → ℕ → ℕ
+lentOf n each there = pick (leb n peerCount && (leb each 8192 && leb (n * each) there)) (n * each) 0
+
+-- the first elements of arena and map as they are left
+abbrev pub putBack : List ℕ → List ℕ → Left → Left
+putBack arena map l =
+    record {
+      replayed = l .replayed;
+      arena = storeAt arena 0 (l .arena);
+      map = storeAt map 0 (l .map);
+      reply = l .reply;
+      text = l .text;
+    }
+
+-- the first three numbers say how much of arena and map is lent on; "`bad trace at B`, .. (0 for the first three numbers)"
+unfoldable pub started : List ℕ → ℕ → List ℕ → List ℕ → List ℕ → List ℕ → SetUp → Left
+started s budget arena map reply text SetUp.Bad = told arena map reply text (Ending.Bad 0)
+started s budget arena map reply text (SetUp.Are n area limit next) =
+    putBack arena map
+    (begun n area limit s next budget
+    (part arena 0 (lentOf n area (length arena))) (part map 0 (lentOf n (area / 64) (length map))) reply text)
+
+-- the room that a text takes at most: its first and its last line, and a line for each entry
+unfoldable pub hasRoom : ℕ → ℕ → Bool
+hasRoom budget text = leb (64 + 80 * budget) text
+
+-- with too little room for the text nothing is done
+unfoldable pub replayOf : List ℕ → ℕ → List ℕ → List ℕ → List ℕ → List ℕ → Left
+replayOf s budget arena map reply text =
+    pick (hasRoom budget (length text)) (started s budget arena map reply text (setUpAt s 0)) (told arena map reply text Ending.NoRoom)
