@@ -1,0 +1,41 @@
+-- `replay_main::replayed` meets its contract: the text has room for the most entries that are taken, so the replay is not refused.
+use borrow.Author.Needs.{needs}
+use Rattle.replay_main.proofs.replayed.Statement.{statement}
+use Rattle.replay_main.proofs.replayed.Tie as tie
+use mathlib.Core.Path.{ap, _∙_}
+use Rattle.replay.specs.Replaying.{Left}
+use Rattle.replay.proofs.WholeLaws.{written-kept}
+use Rattle.replay_main.proofs.ProgramLaws.{not-refused}
+
+slice-aggregate-replay : tie.Need-slice-aggregate-replay
+slice-aggregate-replay c = search needs
+
+slice-aggregate-replay-2 : tie.Need-slice-aggregate-replay-2
+slice-aggregate-replay-2 c = search needs
+
+slice-aggregate-replay-3 : tie.Need-slice-aggregate-replay-3
+slice-aggregate-replay-3 c = search needs
+
+replay-requires : tie.Need-replay-requires
+replay-requires c κs = search needs
+
+same-length : tie.Need-same-length
+same-length c = search needs
+
+returns : tie.Need-returns
+returns c =
+    let s = c .before .before .before .before .before .before .before .before .before .before .before .before in
+    let r = c .before .before .before .before .before .replay in
+    let e = r .ensures ∙ not-refused (s .args .trace .now) (s .args .text .now) (s .pre) in
+    (ap (λ (l : Left). l .replayed .written) e, (ap (λ (l : Left). l .text) e, written-kept _ _ _ _ _ _ _ (r .ensures) (r .kept .1 .1 .1 .1 .1 .0)))
+
+pub replayed-spec : {M : Type 1} → statement M
+replayed-spec =
+    tie.close
+    (tie.spec
+    slice-aggregate-replay
+    slice-aggregate-replay-2
+    slice-aggregate-replay-3
+    replay-requires
+    same-length
+    returns)
