@@ -1,7 +1,11 @@
 # `make run` replays a recorded run, and `make run TRACE=file` another one. `make test` is the gate.
-.PHONY: run test
+.PHONY: run test compare soak library
 
 TRACE ?= examples/whole-case.trace
+CALLS ?= 1000000
+MINUTES ?= 10
+
+COMPARE = cargo run --release --offline --quiet --manifest-path rust/Cargo.toml -p compare --
 
 # The program is proved first, where that is still to be done: some minutes at the first time.
 run:
@@ -10,3 +14,15 @@ run:
 
 test:
 	@tests/gate
+
+# The verified library for other languages, target/staticlib/libquagfeather.a.
+library:
+	@rt staticlib quagfeather >&2
+
+# The verified library and the independent receiver on generated runs, the same ones each time.
+compare: library
+	@$(COMPARE) calls $(CALLS)
+
+# The same on other runs, for MINUTES minutes.
+soak: library
+	@$(COMPARE) soak $(MINUTES)
