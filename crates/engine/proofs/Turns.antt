@@ -1,14 +1,13 @@
 -- One peer's step in its own part, put back into the whole.
 use Prim.Native.Nat.{ℕ, zero, suc, _+_, _-_, _*_, _/_, _^_, _≤_, _<_}
-use borrow.Rule.Slice.PartMut.{putMid}
 use lib.ListN.{length, getD, take, drop, set, length-take, length-drop, replicate, length-replicate, getD-replicate, drop-of-length-le}
 use lib.Seq.{length-take-le, take-all, getD-append-add, getD-drop, drop-drop, paste, paste-zero, paste-suc}
-use mathlib.Core.Bool.{true}
 use mathlib.Core.List.{List, [], append-assoc, map, append-nil}
 use mathlib.Core.Path.{_≡_, sym, ap, ap₂, _∙_}
 use native.Mathlib.Omega.{arith}
 use Rattle.bitmap.specs.Map.{cleared}
-use Rattle.engine.specs.Left.{Left, Lent, Owned, leaves, leavesAt, world}
+use Rattle.engine.specs.Left.{Left, leaves, world}
+use Rattle.lending.specs.Lending.{Lent, leavesAt}
 use Rattle.engine.specs.Steps.{World, peerTurn, putBack, refusedTurn, withPeer, wordsOf}
 use Rattle.engine.specs.declared.types.Engine.{Engine}
 use Rattle.laws.specs.Parts.{part, storeAt}
@@ -22,11 +21,6 @@ use Rattle.bitmap.proofs.BitLaws.{length-cleared}
 use Rattle.bitmap.proofs.Stores.{clear-split, clear-whole}
 use Rattle.engine.proofs.Walking.{getD-any, set-own}
 use Rattle.laws.proofs.Storing.{length-part, store-nothing, store-own, store-part}
-use Rattle.peer.proofs.Asking.{lent-part}
-use Rattle.peer.proofs.HistoryFacts.{outcome}
-use Rattle.peer.proofs.Kept.{Kept, step-kept}
-use Rattle.peer.proofs.Valid.{fits-valid}
-use Rattle.peer.specs.Left as own
 
 -- a step that changes nothing but the peer
 pub quiet-turn : (w : World) (p : ℕ) (q : Peer) (a : Answer) → p * (w .engine .area / 64) + w .engine .area / 64 ≤ length (w .map)
@@ -72,56 +66,6 @@ pub left-refused : (e : Engine) (arena map reply : List ℕ) (k : Refusal)
     → _≡_ {A = Left} (record { outcome = record { engine = e; answer = Answer.Refused k }; arena = arena; map = map; reply = reply })
     (leaves reply (refusedTurn (world e arena map) k))
 left-refused e arena map reply k = rw (store-nothing reply 0)
-
--- ---- a part that was lent on
-
-pub length-lent : {A : Type 0} (l : List A) (b n : ℕ) → b + n ≤ length l → length (take (b + n - b) (drop b l)) ≡ n
-length-lent l b n h = simp (length-take, length-drop) (omega arith)
-
--- a part that kept its length, put back
-pub put-part : (l s : List ℕ) (b n : ℕ) → length s ≡ n → putMid b (b + n - b) l s ≡ storeAt l b s
-unfolding storeAt
-put-part l s b n e =
-    let z : b + n - b ≡ length s = omega arith in
-    rw (z, drop-drop) (sym (append-assoc (take b l) s _))
-
--- a store in a part of the arena that was lent on
-pub put-store : (l : List ℕ) (b n at : ℕ) (s : List ℕ) → b + n ≤ length l → at + length s ≤ n
-    → putMid b (b + n - b) l (storeAt (take (b + n - b) (drop b l)) at s) ≡ storeAt l (b + at) s
-put-store l b n at s h k =
-    let z : b + n - b ≡ n = omega arith in
-    rw z (store-part l b n at s h k)
-
--- ---- a packet's step, put into the whole
-
-packet-kept : (area limit : ℕ) (q : Peer) (ws bs : List ℕ) (room : ℕ) → peerFits area q ≡ true → length (q .slots) ≡ slotCount
-    → Kept area q ws (packetEffect limit q ws bs room)
-packet-kept area limit q ws bs room e n = unfold peerStep in step-kept area limit q ws (packet bs room) (fits-valid area q e) n
-
-module _ (area limit p : ℕ) (q : Peer) (arena map reply bs : List ℕ) (o : Owned area limit p (length arena) (length map) q) (eight : length (q .slots) ≡ slotCount) where
-  abbrev base : ℕ
-  base = p * area
-
-  abbrev size : ℕ
-  size = area / 64
-
-  abbrev first : ℕ
-  first = p * (area / 64)
-
-  abbrev effect : Effect
-  effect = packetEffect limit q (part map first size) bs (length reply)
-
-  pub packet-put : (l : own.Left)
-      → l ≡ own.leaves (take (base + area - base) (drop base arena)) reply (packetEffect limit q (take (first + size - first) (drop first map)) bs (length reply))
-      → _≡_ {A = Lent}
-      (record { step = l .step; arena = putMid base (base + area - base) arena (l .area); map = putMid first (first + size - first) map (l .words); reply = l .reply })
-      (leavesAt area p arena map reply effect)
-  packet-put l e =
-      let k = packet-kept area limit q (part map first size) bs (length reply) (o .mapped .fits) eight in
-      let n : length (effect .words) ≡ size = k .words ∙ length-part map first size (o .mapped .inMap) in
-      let e′ : l ≡ own.leaves (take (base + area - base) (drop base arena)) reply effect =
-      e ∙ ap (λ (ws : List ℕ). own.leaves (take (base + area - base) (drop base arena)) reply (packetEffect limit q ws bs (length reply))) (lent-part map first size) in
-      rw (e′, put-store arena base area (effect .at) (effect .bytes) (o .inArena) (k .inArea), put-part map (effect .words) first size n)
 
 -- ---- the map, cleared whole
 

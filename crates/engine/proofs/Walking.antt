@@ -12,7 +12,7 @@ use native.Mathlib.Nat.{mul-le-mul}
 use native.Mathlib.Numerals.{add-one}
 use native.Mathlib.Omega.{arith}
 use Rattle.engine.specs.Gates.{Small, gateOf, throughGate}
-use Rattle.engine.specs.Left.{Owned}
+use Rattle.lending.specs.Lending.{Owned}
 use Rattle.engine.specs.SetUp.{allPeersFit, engineFits, lentFits, numbersFit, peerCount}
 use Rattle.engine.specs.Steps.{World, badLent, badPeer, badState, callTurn, peerTurn, refusedTurn}
 use Rattle.engine.specs.declared.types.Engine.{Engine}

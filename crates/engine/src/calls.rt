@@ -1,7 +1,6 @@
 // The four calls: the checks, then one peer's step, and the peer is put back. The state check walks
 // the peers here, where the engine already is: an engine is never handed on.
 use crate::checks;
-use crate::lending;
 use crate::types::Engine;
 use crate::types::Gate;
 use crate::types::Outcome;

@@ -2,8 +2,8 @@
 // anything of its caller, and each states its whole result by a definition of specs/.
 mod calls;
 mod checks;
-mod lending;
 mod setting_up;
+mod standing;
 mod types;
 
 pub use calls::cancel;
@@ -11,7 +11,10 @@ pub use calls::packet;
 pub use calls::post;
 pub use calls::report;
 pub use setting_up::set_up;
+pub use standing::admit;
+pub use standing::fits;
 pub use types::Engine;
+pub use types::Gate;
 pub use types::Outcome;
 pub use types::Ready;
 pub use types::Started;

@@ -12,6 +12,7 @@ mod segment;
 mod state;
 mod types;
 
+pub use matching::ends_by;
 pub use types::Answer;
 pub use types::Fit;
 pub use types::Found;

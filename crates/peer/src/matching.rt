@@ -15,7 +15,7 @@ ghost use lib.Dec.{leb};
 ghost use Rattle.peer.specs.Matching.{openHere, findOpen, fits, older, olderHere, oldest, vacancy, ahead, sameMessage};
 
 // Whether `size` bytes from `at` on end at `end` or before, as whole numbers.
-pub(crate) fn ends_by(at: usize, size: usize, end: usize) -> bool
+pub fn ends_by(at: usize, size: usize, end: usize) -> bool
     ensures { λ r. ⌜ r ≡ leb (at + size) end ⌝ }
 {
     if end < at {

@@ -9,7 +9,8 @@ use mathlib.Core.Logic.{⊎-elim}
 use mathlib.Core.Path.{_≡_, refl, sym, _∙_}
 use native.Mathlib.Omega.{arith}
 use Rattle.engine.specs.Gates.{Small, throughGate}
-use Rattle.engine.specs.Left.{Owned, world}
+use Rattle.engine.specs.Left.{world}
+use Rattle.lending.specs.Lending.{Owned}
 use Rattle.engine.specs.SetUp.{engineFits}
 use Rattle.engine.specs.Steps.{wordsOf}
 use Rattle.peer.specs.Calls.{cancel, peerStep}

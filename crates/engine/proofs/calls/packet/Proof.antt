@@ -9,7 +9,8 @@ use mathlib.Core.Logic.{⊎-elim}
 use mathlib.Core.Path.{_≡_, refl, sym, ap, _∙_}
 use native.Mathlib.Omega.{arith}
 use Rattle.engine.specs.Gates.{Small, throughGate}
-use Rattle.engine.specs.Left.{Owned, leaves, world}
+use Rattle.engine.specs.Left.{leaves, world}
+use Rattle.lending.specs.Lending.{Owned}
 use Rattle.engine.specs.SetUp.{engineFits}
 use Rattle.peer.specs.Calls.{packet}
 use Rattle.peer.specs.Matching.{fits}

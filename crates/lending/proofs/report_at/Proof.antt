@@ -1,14 +1,13 @@
--- `engine::lending::report_at` meets its contract.
+-- `lending::report_at` meets its contract.
 use Prim.Native.Nat.{_*_, _/_}
 use borrow.Author.Needs.{needs}
 use mathlib.Core.Path.{_≡_}
 use native.Mathlib.Omega.{arith}
 use Rattle.peer.specs.Matching.{fits}
-use Rattle.engine.proofs.Turns.{length-lent}
-use Rattle.engine.proofs.Walking.{small}
+use Rattle.lending.proofs.PartLaws.{length-lent}
 use Rattle.peer.proofs.Asking.{lent-part}
-use Rattle.engine.proofs.lending.report_at.Statement.{statement}
-use Rattle.engine.proofs.lending.report_at.Tie as tie
+use Rattle.lending.proofs.report_at.Statement.{statement}
+use Rattle.lending.proofs.report_at.Tie as tie
 
 mul-first : tie.Need-mul-first
 mul-first c = search needs

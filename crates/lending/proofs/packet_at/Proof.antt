@@ -1,4 +1,4 @@
--- `engine::lending::packet_at` meets its contract: what the peer stores in its own part is stored in the whole.
+-- `lending::packet_at` meets its contract: what the peer stores in its own part is stored in the whole.
 use Prim.Native.Nat.{_*_, _/_}
 use borrow.Author.Needs.{needs}
 use lib.ListN.{length}
@@ -6,11 +6,10 @@ use lib.Pow.{high, low}
 use mathlib.Core.Path.{_≡_}
 use native.Mathlib.Omega.{arith}
 use Rattle.peer.specs.Matching.{fits}
-use Rattle.engine.proofs.Turns.{length-lent, packet-put}
-use Rattle.engine.proofs.Walking.{small}
+use Rattle.lending.proofs.PartLaws.{length-lent, packet-put}
 use Rattle.peer.proofs.Comparing.{length-mapped}
-use Rattle.engine.proofs.lending.packet_at.Statement.{statement}
-use Rattle.engine.proofs.lending.packet_at.Tie as tie
+use Rattle.lending.proofs.packet_at.Statement.{statement}
+use Rattle.lending.proofs.packet_at.Tie as tie
 
 mul-base : tie.Need-mul-base
 mul-base c = search needs

@@ -1,4 +1,5 @@
-// What is lent on to one peer: its own part of the arena and of the map.
+// What is lent on to one peer: its own part of the arena and of the map. These serve `engine` and
+// `packed`, whose checks show what they require.
 use peer::Answer;
 use peer::Peer;
 use peer::Step;
@@ -8,10 +9,10 @@ ghost use Rattle.peer.specs.Calls.{packetEffect, reportEffect};
 ghost use Rattle.peer.specs.Effects.{quiet};
 ghost use Rattle.laws.specs.Parts.{part};
 ghost use Prim.Native.Nat.{_*_, _/_};
-ghost use Rattle.engine.specs.Left.{Mapped, Owned, leavesAt};
+ghost use Rattle.lending.specs.Lending.{Mapped, Owned, leavesAt};
 
 // A packet of peer p. Only bytes p×A to p×A+A−1 of the arena are lent on, and their words of the map.
-pub(crate) fn packet_at(
+pub fn packet_at(
     there: Peer,
     p: usize,
     area: usize,
@@ -39,7 +40,7 @@ pub(crate) fn packet_at(
 }
 
 // The missing-byte report of a slot of peer p.
-pub(crate) fn report_at(there: Peer, p: usize, slot: usize, area: usize, map: &[u64]) -> Answer
+pub fn report_at(there: Peer, p: usize, slot: usize, area: usize, map: &[u64]) -> Answer
     requires { ⌜ Mapped area p (length (now map)) there ⌝ }
     ensures { λ r. ⌜ quiet there (part (now (map .entry)) (p * (area / 64)) (area / 64)) r ≡ reportEffect there (part (now (map .entry)) (p * (area / 64)) (area / 64)) slot ⌝ }
 {

@@ -1,0 +1,45 @@
+// The checks of a call by themselves, for whoever makes many calls on one engine: the state is
+// checked once, and each call's gate by numbers alone.
+use crate::checks;
+use crate::types::Engine;
+use crate::types::Gate;
+ghost use mathlib.Core.Path.{_≡_};
+ghost use mathlib.Core.Bool.{_&&_};
+ghost use Rattle.engine.specs.Gates.{gateOf};
+ghost use Rattle.engine.specs.SetUp.{engineFits, numbersFit};
+
+// Whether the state can be.
+pub fn fits(engine: Engine) -> bool
+    ensures { λ r. ⌜ r ≡ engineFits engine ⌝ }
+{
+    let n = engine.n;
+    let area = engine.area;
+    let mut good = checks::numbers_fit(n, area, engine.limit);
+    let mut i: usize = 0;
+    while good && i < n {
+        let other = engine.peers[i];
+        good = other.fits(area);
+        i += 1;
+    }
+    good
+}
+
+// Whether a call of a peer goes through, by whether the state can be, the set-up numbers and the
+// lengths of arena and map.
+pub fn admit(
+    good: bool,
+    n: usize,
+    area: usize,
+    limit: usize,
+    arena: usize,
+    map: usize,
+    peer: usize,
+) -> Gate
+    ensures { λ r. ⌜ r ≡ gateOf (good && numbersFit n area limit) n area arena map peer ⌝ }
+{
+    if !good {
+        return checks::gate(false, n, area, arena, map, peer);
+    }
+    let numbers = checks::numbers_fit(n, area, limit);
+    checks::gate(numbers, n, area, arena, map, peer)
+}

@@ -1,0 +1,68 @@
+-- A part that was lent on and comes back, and one peer's packet put into the whole.
+use Prim.Native.Nat.{ℕ, _+_, _-_, _*_, _/_, _≤_}
+use borrow.Rule.Slice.PartMut.{putMid}
+use lib.ListN.{length, take, drop, length-take, length-drop}
+use lib.Seq.{drop-drop}
+use mathlib.Core.Bool.{true}
+use mathlib.Core.List.{List, append-assoc}
+use mathlib.Core.Path.{_≡_, sym, ap, _∙_}
+use native.Mathlib.Omega.{arith}
+use Rattle.laws.specs.Parts.{part, storeAt}
+use Rattle.laws.proofs.Storing.{length-part, store-part}
+use Rattle.peer.specs.Calls.{packet, packetEffect, peerStep}
+use Rattle.peer.specs.Effects.{Effect}
+use Rattle.peer.specs.Left as own
+use Rattle.peer.specs.State.{peerFits, slotCount}
+use Rattle.peer.specs.declared.types.Peer.{Peer}
+use Rattle.peer.proofs.Asking.{lent-part}
+use Rattle.peer.proofs.Kept.{Kept, step-kept}
+use Rattle.peer.proofs.Valid.{fits-valid}
+use Rattle.lending.specs.Lending.{Lent, Owned, leavesAt}
+
+pub length-lent : {A : Type 0} (l : List A) (b n : ℕ) → b + n ≤ length l → length (take (b + n - b) (drop b l)) ≡ n
+length-lent l b n h = simp (length-take, length-drop) (omega arith)
+
+-- a part that kept its length, put back
+pub put-part : (l s : List ℕ) (b n : ℕ) → length s ≡ n → putMid b (b + n - b) l s ≡ storeAt l b s
+unfolding storeAt
+put-part l s b n e =
+    let z : b + n - b ≡ length s = omega arith in
+    rw (z, drop-drop) (sym (append-assoc (take b l) s _))
+
+-- a store in a part of the arena that was lent on
+pub put-store : (l : List ℕ) (b n at : ℕ) (s : List ℕ) → b + n ≤ length l → at + length s ≤ n
+    → putMid b (b + n - b) l (storeAt (take (b + n - b) (drop b l)) at s) ≡ storeAt l (b + at) s
+put-store l b n at s h k =
+    let z : b + n - b ≡ n = omega arith in
+    rw z (store-part l b n at s h k)
+
+-- ---- a packet's step, put into the whole
+
+packet-kept : (area limit : ℕ) (q : Peer) (ws bs : List ℕ) (room : ℕ) → peerFits area q ≡ true → length (q .slots) ≡ slotCount
+    → Kept area q ws (packetEffect limit q ws bs room)
+packet-kept area limit q ws bs room e n = unfold peerStep in step-kept area limit q ws (packet bs room) (fits-valid area q e) n
+
+module _ (area limit p : ℕ) (q : Peer) (arena map reply bs : List ℕ) (o : Owned area limit p (length arena) (length map) q) (eight : length (q .slots) ≡ slotCount) where
+  abbrev base : ℕ
+  base = p * area
+
+  abbrev size : ℕ
+  size = area / 64
+
+  abbrev first : ℕ
+  first = p * (area / 64)
+
+  abbrev effect : Effect
+  effect = packetEffect limit q (part map first size) bs (length reply)
+
+  pub packet-put : (l : own.Left)
+      → l ≡ own.leaves (take (base + area - base) (drop base arena)) reply (packetEffect limit q (take (first + size - first) (drop first map)) bs (length reply))
+      → _≡_ {A = Lent}
+      (record { step = l .step; arena = putMid base (base + area - base) arena (l .area); map = putMid first (first + size - first) map (l .words); reply = l .reply })
+      (leavesAt area p arena map reply effect)
+  packet-put l e =
+      let k = packet-kept area limit q (part map first size) bs (length reply) (o .mapped .fits) eight in
+      let n : length (effect .words) ≡ size = k .words ∙ length-part map first size (o .mapped .inMap) in
+      let e′ : l ≡ own.leaves (take (base + area - base) (drop base arena)) reply effect =
+      e ∙ ap (λ (ws : List ℕ). own.leaves (take (base + area - base) (drop base arena)) reply (packetEffect limit q ws bs (length reply))) (lent-part map first size) in
+      rw (e′, put-store arena base area (effect .at) (effect .bytes) (o .inArena) (k .inArea), put-part map (effect .words) first size n)

@@ -1,0 +1,41 @@
+-- One peer's packet, in its own part of the whole: what it asks, and what it leaves.
+use Prim.Native.Nat.{ℕ, _+_, _*_, _/_, _%_, _≤_}
+use mathlib.Core.List.{List}
+use mathlib.Core.Path.{_≡_}
+use mathlib.Core.Bool.{true}
+use Rattle.laws.specs.Parts.{storeAt}
+use Rattle.peer.specs.declared.types.Peer.{Peer}
+use Rattle.peer.specs.declared.types.Step.{Step}
+use Rattle.peer.specs.Effects.{Effect}
+use Rattle.peer.specs.State.{peerFits}
+
+pub record Lent : Type 0 where
+  pub step : Step
+  pub arena : List ℕ
+  pub map : List ℕ
+  pub reply : List ℕ
+
+abbrev pub leavesAt : ℕ → ℕ → List ℕ → List ℕ → List ℕ → Effect → Lent
+leavesAt area p arena map reply f =
+    record {
+      step = record { peer = f .peer; answer = f .answer };
+      arena = storeAt arena (p * area + f .at) (f .bytes);
+      map = storeAt map (p * (area / 64)) (f .words);
+      reply = storeAt reply 0 (f .reply);
+    }
+
+-- what its caller has checked: the peer can be, and its words of the map are there
+pub record Mapped (area p map : ℕ) (q : Peer) : Type 0 where
+  pub fits : peerFits area q ≡ true
+  pub whole : area % 64 ≡ 0
+  pub short : area ≤ 8192
+  pub inMap : p * (area / 64) + area / 64 ≤ map
+  pub mapSmall : map ≤ 1024
+
+-- and so are its bytes of the arena
+pub record Owned (area limit p arena map : ℕ) (q : Peer) : Type 0 where
+  pub mapped : Mapped area p map q
+  pub low : 64 ≤ limit
+  pub high : limit ≤ 8192
+  pub inArena : p * area + area ≤ arena
+  pub arenaSmall : arena ≤ 65536
