@@ -1,0 +1,59 @@
+-- `packet_words::reading::read` meets its contract.
+use borrow.Author.Needs.{needs}
+use Rattle.packet_words.proofs.reading.read.Statement.{statement}
+use Rattle.packet_words.proofs.reading.read.Tie as tie
+use borrow.Author.Tests.{eq-eqb, ne-eqb, lt-leb, le-leb, not-true, not-false}
+use Rattle.laws.specs.Choose.{pick}
+use Rattle.packet_words.specs.Values.{readInto}
+
+returns : tie.Need-returns
+unfolding readInto pick
+returns c = rw (lt-leb _ _ (c .if1 .taken))
+
+read-requires : tie.Need-read-requires
+read-requires c κs = search needs
+
+enum-known-refusal : tie.Need-enum-known-refusal
+enum-known-refusal c = search needs
+
+cast-result : tie.Need-cast-result
+cast-result c = search needs
+
+enum-known-packet : tie.Need-enum-known-packet
+enum-known-packet c = search needs
+
+value-words-requires : tie.Need-value-words-requires
+value-words-requires c κs = search needs
+
+slice-aggregate-put-words : tie.Need-slice-aggregate-put-words
+slice-aggregate-put-words c = search needs
+
+put-words-requires : tie.Need-put-words-requires
+put-words-requires c κs = search needs
+
+returns-2 : tie.Need-returns-2
+unfolding readInto pick
+returns-2 c = rw (le-leb _ _ (c .before .before .before .before .before .if1 .left), ← c .before .before .before .before .read .ensures, c .before .before .refusal .given .1)
+
+same-length : tie.Need-same-length
+same-length c = search needs
+
+returns-3 : tie.Need-returns-3
+unfolding readInto pick
+returns-3 c = rw (le-leb _ _ (c .before .before .before .before .before .before .before .before .before .before .if1 .left), ← c .before .before .before .before .before .before .before .before .before .read .ensures, c .before .before .before .before .before .before .before .packet .given .1, c .before .before .put-words .ensures, c .before .before .before .before .value-words .ensures)
+
+pub read-spec : {M : Type 1} → statement M
+read-spec =
+    tie.close
+    (tie.spec
+    returns
+    read-requires
+    enum-known-refusal
+    cast-result
+    enum-known-packet
+    value-words-requires
+    slice-aggregate-put-words
+    put-words-requires
+    returns-2
+    same-length
+    returns-3)

@@ -1,0 +1,23 @@
+-- `packet_words::writing::cq_in` meets its contract.
+use borrow.Author.Needs.{needs}
+use Rattle.packet_words.proofs.writing.cq_in.Statement.{statement}
+use Rattle.packet_words.proofs.writing.cq_in.Tie as tie
+use borrow.Author.Tests.{eq-eqb, ne-eqb, lt-leb, le-leb, not-true, not-false}
+use Rattle.laws.specs.Choose.{pick}
+
+shared-slice-read-if1 : tie.Need-shared-slice-read-if1
+shared-slice-read-if1 c = search needs
+
+shared-slice-read-t7 : tie.Need-shared-slice-read-t7
+shared-slice-read-t7 c = search needs
+
+returns : tie.Need-returns
+unfolding pick
+returns c = rw (eq-eqb _ _ (c .if1 .taken))
+
+returns-2 : tie.Need-returns-2
+unfolding pick
+returns-2 c = rw (ne-eqb _ _ (c .before .if1 .left))
+
+pub cq-in-spec : {M : Type 1} → statement M
+cq-in-spec = tie.close (tie.spec shared-slice-read-if1 shared-slice-read-t7 returns returns-2)
