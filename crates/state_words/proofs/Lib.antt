@@ -1,0 +1,4 @@
+pub mod FlatLaws
+pub mod Sizes
+pub mod Elements
+pub mod RoundTrips

@@ -1,0 +1,4 @@
+pub mod Flat
+pub mod Saving
+pub mod Loading
+pub mod RoundTrip

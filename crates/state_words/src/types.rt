@@ -1,0 +1,15 @@
+// How many words a state has, and what they are read as.
+use engine::Engine;
+
+// The words of a slot, of a peer and of the whole state.
+pub const SLOT: usize = 16;
+
+pub const PEER: usize = 129;
+
+pub const STATE: usize = 1035;
+
+// The engine that words are read as, and whether they are a state's words.
+pub struct Loaded {
+    pub engine: Engine,
+    pub whole: bool,
+}
