@@ -1,0 +1,71 @@
+-- An engine whose state was checked once: as its calls go on, the check would say the same again.
+use Prim.Native.Nat.{ℕ, _≤_, _<_}
+use lib.Dec.{ltb}
+use lib.ListN.{length, getD}
+use mathlib.Core.Bool.{Bool, true, false, _&&_}
+use mathlib.Core.Path.{_≡_, refl, sym, _∙_}
+use native.Mathlib.Omega.{arith}
+use Rattle.peer.specs.Calls.{Call}
+use Rattle.peer.specs.State.{freshPeer}
+use Rattle.peer.specs.declared.types.Peer.{Peer}
+use Rattle.peer.proofs.Valid.{fits-valid}
+use Rattle.lending.specs.Lending.{Owned}
+use Rattle.engine.specs.Gates.{gateOf, throughGate}
+use Rattle.engine.specs.SetUp.{engineFits, numbersFit, peerAt, peerCount}
+use Rattle.engine.specs.Steps.{World, callTurn, refusedTurn}
+use Rattle.engine.specs.declared.types.Engine.{Engine}
+use Rattle.engine.specs.declared.types.Gate.{Gate}
+use Rattle.engine.proofs.Walking.{Passed, fit-numbers, fit-peer, gate-open, owned, small, through}
+use Rattle.engine.proofs.Worlds.{Good, good-called, good-fits}
+use Rattle.packet.specs.declared.types.Refusal.{Refusal}
+use Rattle.packed.specs.Running.{Eights}
+
+pub record Standing (good : Bool) (e : Engine) : Type 0 where
+  pub eights : Eights e
+  pub state : engineFits e ≡ good
+
+-- numbers outside the limits are no good state
+good-numbers : (e : Engine) (good : Bool) → engineFits e ≡ good → (good && numbersFit (e .n) (e .area) (e .limit)) ≡ good
+good-numbers e true x = fit-numbers e x
+good-numbers e false x = refl
+
+module _ {good : Bool} (w : World) (p : ℕ) (s : Standing good (w .engine)) (g : Gate)
+    (y : g ≡ gateOf (good && numbersFit (w .engine .n) (w .engine .area) (w .engine .limit)) (w .engine .n) (w .engine .area) (length (w .arena)) (length (w .map)) p) where
+  gate : g ≡ gateOf good (w .engine .n) (w .engine .area) (length (w .arena)) (length (w .map)) p
+  gate = rw (good-numbers (w .engine) good (s .state)) at y
+
+  -- a call that is not let through
+  pub standing-shut : (k : Refusal) (c : Call) → g ≡ Gate.Shut k → callTurn w p c ≡ refusedTurn w k
+  unfolding throughGate
+  standing-shut k c z = through w p c good g (Gate.Shut k) (s .state) gate z
+
+  module _ (z : g ≡ Gate.Open) where
+    pub standing-passed : Passed good (w .engine .n) (w .engine .area) (length (w .arena)) (length (w .map)) p
+    standing-passed = gate-open good (w .engine .n) (w .engine .area) (length (w .arena)) (length (w .map)) p (sym gate ∙ z)
+
+    pub standing-owned : (d : Peer) → Owned (w .engine .area) (w .engine .limit) p (length (w .arena)) (length (w .map)) (getD (w .engine .peers) p d)
+    standing-owned d = owned (w .engine) good (length (w .arena)) (length (w .map)) p d (s .eights .peers) (s .state) (sym gate ∙ z)
+
+    few : w .engine .n ≤ peerCount
+    few = small (w .engine .n) (w .engine .area) (w .engine .limit) (fit-numbers (w .engine) (s .state ∙ standing-passed .state)) .few
+
+    pub standing-in-peers : p < length (w .engine .peers)
+    standing-in-peers = omega (arith, standing-passed .peer, few, s .eights .peers)
+
+    pub standing-good : Good w
+    standing-good =
+        let o = standing-passed in
+        let state : engineFits (w .engine) ≡ true = s .state ∙ o .state in
+        record {
+          numbers = fit-numbers (w .engine) state;
+          lent = o .lent;
+          peers = s .eights .peers;
+          each = λ q h. fits-valid (w .engine .area) (peerAt (w .engine) q) (fit-peer (w .engine) q freshPeer state h (omega (arith, s .eights .peers, few)));
+          slots = s .eights .slots;
+        }
+
+    -- the check would say the same of what the call leaves
+    pub standing-turn : (c : Call) → Standing good (callTurn w p c .world .engine)
+    standing-turn c =
+        let h = good-called w standing-good p c in
+        record { eights = record { peers = h .peers; slots = h .slots }; state = good-fits _ h ∙ sym (standing-passed .state) }

@@ -1,0 +1,16 @@
+-- `packed::answers::done_words` meets its contract.
+use borrow.Author.Needs.{needs}
+use Rattle.packed.proofs.answers.done_words.Statement.{statement}
+use Rattle.packed.proofs.answers.done_words.Tie as tie
+
+cq-bit-requires : tie.Need-cq-bit-requires
+cq-bit-requires c κs = search needs
+
+cq-value-requires : tie.Need-cq-value-requires
+cq-value-requires c κs = search needs
+
+returns : tie.Need-returns
+returns c = rw (c .before .cq-bit .ensures, c .cq-value .ensures)
+
+pub done-words-spec : {M : Type 1} → statement M
+done-words-spec = tie.close (tie.spec cq-bit-requires cq-value-requires returns)

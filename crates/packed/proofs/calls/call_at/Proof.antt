@@ -1,0 +1,78 @@
+-- `packed::calls::call_at` meets its contract: the four numbers are tested in the order of the definition.
+use borrow.Author.Needs.{needs}
+use Rattle.packed.proofs.calls.call_at.Statement.{statement}
+use Rattle.packed.proofs.calls.call_at.Tie as tie
+use borrow.Author.Tests.{eq-eqb, ne-eqb, lt-leb, le-leb, not-true, not-false}
+use mathlib.Core.Path.{sym, _∙_}
+use Rattle.laws.specs.Choose.{pick}
+use Rattle.packed.specs.Calls.{callAt}
+
+mul-number : tie.Need-mul-number
+mul-number c = search needs
+
+shared-slice-read-number : tie.Need-shared-slice-read-number
+shared-slice-read-number c = search needs
+
+post-at-requires : tie.Need-post-at-requires
+post-at-requires c κs = search needs
+
+returns : tie.Need-returns
+unfolding callAt pick
+returns c = c .post-at .ensures ∙ rw (eq-eqb _ _ (c .before .if1 .taken))
+
+packet-at-requires : tie.Need-packet-at-requires
+packet-at-requires c κs = search needs
+
+returns-2 : tie.Need-returns-2
+unfolding callAt pick
+returns-2 c = c .packet-at .ensures ∙ rw (ne-eqb _ _ (c .before .before .if1 .left), eq-eqb _ _ (c .before .if2 .taken))
+
+add-peer : tie.Need-add-peer
+add-peer c = search needs
+
+mul-peer : tie.Need-mul-peer
+mul-peer c = search needs
+
+shared-slice-read-peer : tie.Need-shared-slice-read-peer
+shared-slice-read-peer c = search needs
+
+add-slot : tie.Need-add-slot
+add-slot c = search needs
+
+mul-slot : tie.Need-mul-slot
+mul-slot c = search needs
+
+shared-slice-read-slot : tie.Need-shared-slice-read-slot
+shared-slice-read-slot c = search needs
+
+returns-3 : tie.Need-returns-3
+unfolding callAt pick
+returns-3 c = rw (ne-eqb _ _ (c .before .before .before .before .if1 .left), ne-eqb _ _ (c .before .before .before .if2 .left), eq-eqb _ _ (c .if3 .taken))
+
+returns-4 : tie.Need-returns-4
+unfolding callAt pick
+returns-4 c = rw (ne-eqb _ _ (c .before .before .before .before .before .if1 .left), ne-eqb _ _ (c .before .before .before .before .if2 .left), ne-eqb _ _ (c .before .if3 .left), eq-eqb _ _ (c .if4 .taken))
+
+returns-5 : tie.Need-returns-5
+unfolding callAt pick
+returns-5 c = rw (ne-eqb _ _ (c .before .before .before .before .before .if1 .left), ne-eqb _ _ (c .before .before .before .before .if2 .left), ne-eqb _ _ (c .before .if3 .left), ne-eqb _ _ (c .if4 .left))
+
+pub call-at-spec : {M : Type 1} → statement M
+call-at-spec =
+    tie.close
+    (tie.spec
+    mul-number
+    shared-slice-read-number
+    post-at-requires
+    returns
+    packet-at-requires
+    returns-2
+    add-peer
+    mul-peer
+    shared-slice-read-peer
+    add-slot
+    mul-slot
+    shared-slice-read-slot
+    returns-3
+    returns-4
+    returns-5)

@@ -1,0 +1,44 @@
+// An answer, as eight words.
+use packet::CqData;
+use peer::Answer;
+ghost use mathlib.Core.Path.{_≡_};
+ghost use Rattle.packed.specs.Answers.{doneWords, answerWords};
+
+fn done_words(slot: usize, id: u32, length: usize, cq_data: CqData) -> [u64; 8]
+    ensures { λ r. ⌜ r ≡ doneWords slot id length «cq_data» ⌝ }
+{
+    let present = packet_words::cq_bit(cq_data);
+    let value = packet_words::cq_value(cq_data);
+    [
+        5,
+        slot as u64,
+        id as u64,
+        length as u64,
+        present,
+        value,
+        0,
+        0,
+    ]
+}
+
+pub(crate) fn answer_words(answer: Answer) -> [u64; 8]
+    ensures { λ r. ⌜ r ≡ answerWords answer ⌝ }
+{
+    match answer {
+        Answer::Refused(refusal) => [0, refusal.number as u64, 0, 0, 0, 0, 0, 0],
+        Answer::Posted(slot) => [1, slot as u64, 0, 0, 0, 0, 0, 0],
+        Answer::Cancelled(slot) => [2, slot as u64, 0, 0, 0, 0, 0, 0],
+        Answer::Stored => [3, 0, 0, 0, 0, 0, 0, 0],
+        Answer::Granted(n) => [4, n as u64, 0, 0, 0, 0, 0, 0],
+        Answer::Done {
+            slot,
+            id,
+            length,
+            cq_data,
+        } => done_words(slot, id, length, cq_data),
+        Answer::Truncated { slot, id, length } => {
+            [6, slot as u64, id as u64, length as u64, 0, 0, 0, 0]
+        }
+        Answer::Missing { received, first } => [7, received as u64, first as u64, 0, 0, 0, 0, 0],
+    }
+}

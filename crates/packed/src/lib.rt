@@ -1,0 +1,13 @@
+// The engine for callers who keep its state as words: lists of calls, each call and each answer in
+// eight words.
+mod answers;
+mod calls;
+mod running;
+mod starting;
+mod types;
+
+pub use running::run;
+pub use starting::set_up;
+pub use types::Call;
+pub use types::Found;
+pub use types::Ran;
