@@ -1,6 +1,11 @@
--- What the exported functions answer and leave, by numbers and lists.
-use Prim.Native.Nat.{ℕ}
+-- What the exported functions answer and leave, by numbers and lists, where no definition below says it.
+use Prim.Native.Nat.{ℕ, _+_, _*_}
 use mathlib.Core.List.{List}
+use mathlib.Core.Bool.{_&&_}
+use lib.ListN.{length}
+use lib.Dec.{leb}
+use Rattle.laws.specs.Choose.{pick}
+use Rattle.bitmap.specs.Map.{marked, touched}
 use Rattle.replay.specs.Replaying.{Left}
 
 -- the length of a replay's text, and what the replay leaves of all that is lent
@@ -13,3 +18,15 @@ pub record Texts : Type 0 where
 
 abbrev pub texts : Left → Texts
 texts l = record { written = l .replayed .written; arena = l .arena; map = l .map; reply = l .reply; text = l .text }
+
+-- 0 or the refusal's number, and the map
+pub record Marked : Type 0 where
+  pub refusal : ℕ
+  pub map : List ℕ
+
+-- the n bits from `at` on, of a map that a set-up can have: outside it 3, one of them set 16
+unfoldable pub markedIn : List ℕ → ℕ → ℕ → Marked
+markedIn m at n =
+    pick (leb (length m) 1024 && leb (at + n) (64 * length m))
+    (pick (touched m at n) (record { refusal = 16; map = m }) (record { refusal = 0; map = marked m at n }))
+    (record { refusal = 3; map = m })

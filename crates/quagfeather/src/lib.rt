@@ -1,8 +1,92 @@
 // The functions that programs in other languages link: numbers and slices, each slice as a pointer and
-// a length. What a `requires` would ask is asked of none of them.
+// a length. What a `requires` would ask is asked of none of them. Where a function answers 0 or the
+// number of a refusal, a refusal leaves everything as it was.
 ghost use mathlib.Core.Path.{_≡_};
+ghost use lib.ListN.{length};
+ghost use Rattle.packet_words.specs.Values.{readInto, writeFrom};
+ghost use Rattle.packed.specs.Running.{runOf};
+ghost use Rattle.packed.specs.Starting.{startOf};
 ghost use Rattle.replay.specs.Replaying.{replayOf};
-ghost use Rattle.quagfeather.specs.Exported.{texts};
+ghost use Rattle.quagfeather.specs.Exported.{texts, markedIn};
+
+// The most words of a map, those of eight areas of 8,192 bytes.
+const MAP: usize = 1024;
+
+const BAD_MAP: usize = 3;
+
+const TOUCHED: usize = 16;
+
+// Sets an engine up: the map is cleared, and the engine's state written to 1,035 words.
+#[no_mangle]
+pub extern "C" fn quagfeather_set_up(
+    n: usize,
+    area: usize,
+    limit: usize,
+    arena: &[u8],
+    map: &mut [u64],
+    state: &mut [u64],
+) -> usize
+    ensures { λ r. ⌜ record { refusal = r; map = now (map .exit); state = now (state .exit) } ≡ startOf n area limit (length (now (arena .entry))) (now (map .entry)) (now (state .entry)) ⌝ }
+{
+    packed::set_up(n, area, limit, arena, map, state)
+}
+
+// Runs calls, eight words each, writes their answers, and answers how many it ran.
+#[no_mangle]
+pub extern "C" fn quagfeather_run(
+    state: &mut [u64],
+    arena: &mut [u8],
+    map: &mut [u64],
+    calls: &[u64],
+    bytes: &[u8],
+    replies: &mut [u8],
+    answers: &mut [u64],
+) -> usize
+    ensures { λ r. ⌜ record { taken = r; state = now (state .exit); arena = now (arena .exit); map = now (map .exit); replies = now (replies .exit); answers = now (answers .exit) } ≡ runOf (now (state .entry)) (now (arena .entry)) (now (map .entry)) (now (calls .entry)) (now (bytes .entry)) (now (replies .entry)) (now (answers .entry)) ⌝ }
+{
+    packed::run(state, arena, map, calls, bytes, replies, answers)
+}
+
+// Reads a packet of at most 8,192 bytes into 19 words.
+#[no_mangle]
+pub extern "C" fn quagfeather_read(packet: &[u8], values: &mut [u64]) -> usize
+    ensures { λ r. ⌜ record { refusal = r; values = now (values .exit) } ≡ readInto (now (packet .entry)) (now (values .entry)) ⌝ }
+{
+    packet_words::read(packet, values)
+}
+
+// Writes the packet that 19 words, a raw address and data say, and its length.
+#[no_mangle]
+pub extern "C" fn quagfeather_write(
+    values: &[u64],
+    raw_address: &[u8],
+    data: &[u8],
+    out: &mut [u8],
+    size: &mut usize,
+) -> usize
+    ensures { λ r. ⌜ record { refusal = r; out = now (out .exit); size = now (size .exit) } ≡ writeFrom (now (values .entry)) (now («raw_address» .entry)) (now («data» .entry)) (now (out .entry)) (now (size .entry)) ⌝ }
+{
+    packet_words::write(values, raw_address, data, out, size)
+}
+
+// Marks a range of a map's bits, unless one of them is set.
+#[no_mangle]
+pub extern "C" fn quagfeather_mark(map: &mut [u64], at: usize, count: usize) -> usize
+    ensures { λ r. ⌜ record { refusal = r; map = now (map .exit) } ≡ markedIn (now (map .entry)) at count ⌝ }
+{
+    let words = map.len();
+    if MAP < words {
+        return BAD_MAP;
+    }
+    if !peer::ends_by(at, count, 64 * words) {
+        return BAD_MAP;
+    }
+    if bitmap::is_touched(map, at, count) {
+        return TOUCHED;
+    }
+    bitmap::mark(map, at, count);
+    0
+}
 
 // Replays at most `budget` entries of a trace, and answers how many bytes of text it wrote. A text
 // shorter than 64 + 80 × budget bytes is refused: nothing is written.

@@ -2,9 +2,6 @@
 use borrow.Author.Needs.{needs}
 use Rattle.quagfeather.proofs.quagfeather_replay.Statement.{statement}
 use Rattle.quagfeather.proofs.quagfeather_replay.Tie as tie
-use Rattle.quagfeather.proofs.quagfeather_replay.Reads as reads
-use Rattle.quagfeather.proofs.quagfeather_replay.Lts as lts
-use Rattle.replay.proofs.replay.Reads as replay-reads
 use mathlib.Core.Path.{ap}
 use Rattle.quagfeather.specs.Exported.{texts}
 
