@@ -1,11 +1,11 @@
 # `make run` replays a recorded run, and `make run TRACE=file` another one. `make test` is the gate.
-.PHONY: run test compare soak library
+.PHONY: run test library compare soak
 
 TRACE ?= examples/whole-case.trace
 CALLS ?= 1000000
 MINUTES ?= 10
 
-COMPARE = cargo run --release --offline --quiet --manifest-path rust/Cargo.toml -p compare --
+CARGO = cargo run --release --offline --quiet --manifest-path rust/Cargo.toml
 
 # The program is proved first, where that is still to be done: some minutes at the first time.
 run:
@@ -19,10 +19,10 @@ test:
 library:
 	@rt staticlib quagfeather >&2
 
-# The verified library and the independent receiver on generated runs, the same ones each time.
+# The verified library and the independent receiver on generated calls, the same ones each time.
 compare: library
-	@$(COMPARE) calls $(CALLS)
+	@$(CARGO) -p compare -- calls $(CALLS)
 
-# The same on other runs, for MINUTES minutes.
+# The same on other calls, for MINUTES minutes.
 soak: library
-	@$(COMPARE) soak $(MINUTES)
+	@$(CARGO) -p compare -- soak $(MINUTES)

@@ -1,77 +1,124 @@
-//! Which lines were written, and how often.
+//! Which answers, refusals and lines were reached, and how often.
 
 use std::collections::BTreeMap;
 
-/// The refusals that a replay can write: its state and lent lengths are always right, its reply buffer
-/// has 24 bytes, and it writes no packets, so 2, 3, 5 and 21 never are.
-const REFUSALS: [u8; 16] = [4, 6, 7, 8, 9, 10, 11, 12, 13, 14, 15, 16, 17, 18, 19, 20];
+/// Where an outcome was seen, the word for it, and a refusal's number (0 for other words).
+type Key = (&'static str, &'static str, u64);
 
-const WORDS: [&str; 11] = [
-    "setup ok",
-    "setup 1",
+/// The words of answers, by their first word in the packed form.
+const ANSWERS: [&str; 8] = [
+    "refused",
     "posted",
     "cancelled",
     "stored",
     "granted",
     "done",
     "truncated",
-    "end",
-    "stopped",
-    "bad trace at",
+    "missing",
 ];
+
+/// The lines of a replay that are no answers.
+const LINES: [&str; 5] = ["setup ok", "setup 1", "end", "stopped", "bad trace at"];
 
 #[derive(Default)]
 pub struct Coverage {
-    lines: BTreeMap<String, u64>,
+    counts: BTreeMap<Key, u64>,
+    calls: u64,
 }
 
 impl Coverage {
-    pub fn count(&mut self, text: &[u8]) {
+    /// Counts a call's answer, given by its first two words.
+    pub fn answer(&mut self, word: u64, number: u64) {
+        let word = ANSWERS[word as usize];
+        let number = if word == "refused" { number } else { 0 };
+        self.add(("run", word, number));
+        self.calls += 1;
+    }
+
+    /// Counts what a function other than run and replay answered: 0 or a refusal.
+    pub fn result(&mut self, function: &'static str, number: u64) {
+        let word = if number == 0 { "taken" } else { "refused" };
+        self.add((function, word, number));
+    }
+
+    pub fn ended_early(&mut self) {
+        self.add(("run", "ended before what is no call", 0));
+    }
+
+    /// Counts the lines of a replay.
+    pub fn text(&mut self, text: &[u8]) {
         for line in String::from_utf8_lossy(text).lines() {
-            *self.lines.entry(name(line)).or_default() += 1;
+            let words = ANSWERS.iter().chain(&LINES);
+            let word = words.copied().find(|word| line.starts_with(word));
+            let number = line
+                .strip_prefix("refused ")
+                .and_then(|number| number.parse().ok());
+            self.add(("replay", word.unwrap_or("unknown"), number.unwrap_or(0)));
+            self.calls += u64::from(word.is_some_and(|word| ANSWERS.contains(&word)));
         }
     }
 
-    fn of(&self, name: &str) -> u64 {
-        self.lines.get(name).copied().unwrap_or(0)
+    fn add(&mut self, key: Key) {
+        *self.counts.entry(key).or_default() += 1;
     }
 
-    /// The calls made: a line for each.
+    fn of(&self, key: &Key) -> u64 {
+        self.counts.get(key).copied().unwrap_or(0)
+    }
+
+    /// The posts, packets, cancels and reports made, in runs and in replays.
     pub fn calls(&self) -> u64 {
-        let ends = ["setup ok", "setup 1", "end", "stopped", "bad trace at"];
-        self.lines
-            .iter()
-            .filter(|(name, _)| !ends.contains(&name.as_str()))
-            .map(|(_, count)| count)
-            .sum()
+        self.calls
     }
 
-    fn wanted() -> Vec<String> {
-        let words = WORDS.iter().map(|word| word.to_string());
-        words
-            .chain(REFUSALS.iter().map(|number| format!("refused {number}")))
-            .collect()
-    }
-
-    pub fn missing(&self) -> Vec<String> {
-        Self::wanted()
-            .into_iter()
-            .filter(|name| self.of(name) == 0)
-            .collect()
-    }
-
-    pub fn print(&self) {
-        for name in Self::wanted() {
-            println!("{:>10}  {name}", self.of(&name));
+    /// Prints how often each was reached, and gives those that never were.
+    pub fn print(&self) -> Vec<String> {
+        let mut missing = Vec::new();
+        for key in wanted() {
+            let (place, word, number) = key;
+            let name = match number {
+                0 => format!("{place}: {word}"),
+                _ => format!("{place}: {word} {number}"),
+            };
+            println!("{:>10}  {name}", self.of(&key));
+            if self.of(&key) == 0 {
+                missing.push(name);
+            }
         }
+        missing
     }
 }
 
-/// A line's word, with the number of a refusal and of a refused set-up.
-fn name(line: &str) -> String {
-    if line.starts_with("refused ") || line.starts_with("setup ") {
-        return line.to_string();
-    }
-    line.trim_end_matches(|c: char| c.is_ascii_digit() || c == ' ')
-        .to_string()
+/// Everything that can be reached. A replay's state and lent lengths are always right, its reply
+/// buffer has 24 bytes and it has no reports, so some of a run's outcomes are none of its.
+fn wanted() -> Vec<Key> {
+    let answers = &ANSWERS[1..];
+    let run = answers.iter().map(|word| ("run", *word, 0));
+    let run = run.chain([("run", "ended before what is no call", 0)]);
+    let replay = answers.iter().filter(|word| **word != "missing");
+    let replay = replay.chain(&LINES).map(|word| ("replay", *word, 0));
+    run.chain(refused("run", &(2..=20).collect::<Vec<_>>()))
+        .chain(result("set-up", &[1]))
+        .chain(result("read", &[6, 7, 8, 9, 10, 11, 21]))
+        .chain(result("write", &[6, 9, 10, 11, 21]))
+        .chain(result("mark", &[3, 16]))
+        .chain(replay)
+        .chain(refused(
+            "replay",
+            &[4, 6, 7, 8, 9, 10, 11, 12, 13, 14, 15, 16, 17, 18, 19, 20],
+        ))
+        .collect()
+}
+
+fn refused(place: &'static str, numbers: &[u64]) -> Vec<Key> {
+    numbers
+        .iter()
+        .map(|number| (place, "refused", *number))
+        .collect()
+}
+
+fn result(function: &'static str, numbers: &[u64]) -> Vec<Key> {
+    let mut keys = vec![(function, "taken", 0)];
+    keys.extend(refused(function, numbers));
+    keys
 }

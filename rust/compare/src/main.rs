@@ -1,24 +1,28 @@
-//! Compares the verified library with the independent receiver on generated runs.
+//! Compares the verified library with the independent receiver on generated cases.
 //!
-//!     compare calls N    at least N calls, always the same ones
-//!     compare soak M     for M minutes, from a seed that the clock gives
+//!     compare calls N     at least N calls, always the same cases
+//!     compare soak M      for M minutes, from a seed that the clock gives
+//!     compare seed S      the cases of one seed
 //!
-//! A difference is printed with its seed and the shortest run that still shows it. Every line that a
-//! replay can write must have been reached, or the comparison fails.
+//! A difference is printed with its seed and the shortest case that still shows it. Everything that
+//! can be answered must have been reached by the end, or the comparison fails.
 
+mod calls;
+mod case;
 mod coverage;
-mod generate;
+mod packets;
 mod random;
-mod verified;
+mod replay;
+mod run;
+mod single;
+mod states;
 
 use std::process::ExitCode;
 use std::time::{Duration, Instant, SystemTime, UNIX_EPOCH};
 
+use case::agrees;
 use coverage::Coverage;
-use generate::Parts;
-
-/// The entries that one replay takes at most.
-const BUDGET: usize = 512;
+use random::Random;
 
 fn main() -> ExitCode {
     let words: Vec<String> = std::env::args().skip(1).collect();
@@ -28,12 +32,16 @@ fn main() -> ExitCode {
         (Some("soak"), Some(minutes)) => {
             let seed = SystemTime::now()
                 .duration_since(UNIX_EPOCH)
-                .map_or(1, |time| time.as_secs() << 20);
+                .map_or(1, |time| time.as_secs() << 24);
             let end = Duration::from_secs(60 * minutes);
             compare(seed, |_, since| since.elapsed() >= end)
         }
+        (Some("seed"), Some(seed)) => match cases(seed, &mut Coverage::default()) {
+            true => ExitCode::SUCCESS,
+            false => ExitCode::FAILURE,
+        },
         _ => {
-            eprintln!("usage: compare calls N | compare soak MINUTES");
+            eprintln!("usage: compare calls N | compare soak MINUTES | compare seed S");
             ExitCode::from(2)
         }
     }
@@ -44,85 +52,55 @@ fn compare(first: u64, enough: impl Fn(&Coverage, &Instant) -> bool) -> ExitCode
     let mut coverage = Coverage::default();
     let mut seed = first;
     while !enough(&coverage, &since) {
-        // one run in eight has more entries than may be taken
-        let entries = if seed % 8 == 0 {
-            BUDGET + 3
-        } else {
-            1 + (seed as usize * 37) % BUDGET
-        };
-        let parts = generate::trace(seed, entries);
-        let trace = parts.bytes();
-        let plain = reference::replay::replay(&trace, BUDGET).text;
-        let proved = verified::replay(&trace, BUDGET);
-        if plain != proved {
-            report(seed, parts);
+        if !cases(seed, &mut coverage) {
             return ExitCode::FAILURE;
         }
-        coverage.count(&plain);
         seed += 1;
     }
-    coverage.print();
+    let missing = coverage.print();
     println!(
-        "{} runs, {} calls, in {:.1} s, without a difference",
+        "{} seeds, {} calls, in {:.1} s, without a difference",
         seed - first,
         coverage.calls(),
         since.elapsed().as_secs_f64()
     );
-    match coverage.missing() {
-        missing if missing.is_empty() => ExitCode::SUCCESS,
-        missing => {
-            println!("never reached: {}", missing.join(", "));
-            ExitCode::FAILURE
-        }
+    if missing.is_empty() {
+        return ExitCode::SUCCESS;
     }
+    println!("never reached: {}", missing.join(", "));
+    ExitCode::FAILURE
 }
 
-fn differs(parts: &Parts) -> bool {
-    let trace = parts.bytes();
-    reference::replay::replay(&trace, BUDGET).text != verified::replay(&trace, BUDGET)
-}
-
-/// Leaves out entries, many at first and then fewer, as long as the difference stays.
-fn shortest(mut parts: Parts) -> Parts {
-    let mut step = parts.entries.len().max(1);
-    while step > 0 {
-        let mut place = 0;
-        while place < parts.entries.len() {
-            let mut fewer = parts.clone();
-            fewer
-                .entries
-                .drain(place..(place + step).min(parts.entries.len()));
-            if differs(&fewer) {
-                parts = fewer;
-            } else {
-                place += step;
-            }
-        }
-        step /= 2;
+/// Compares on the cases of a seed.
+fn cases(seed: u64, coverage: &mut Coverage) -> bool {
+    let random = &mut Random::new(seed);
+    match random.below(20) {
+        0..=7 => agrees(
+            seed,
+            "a run from a fresh state",
+            &run::fresh(random),
+            coverage,
+        ),
+        8..=12 => agrees(
+            seed,
+            "a run from any state",
+            &run::any_state(random),
+            coverage,
+        ),
+        13..=15 => (0..4).all(|_| {
+            agrees(
+                seed,
+                "a run from a spoilt state",
+                &run::spoilt(random),
+                coverage,
+            )
+        }),
+        16 => agrees(seed, "a replay", &replay::trace(random), coverage),
+        17 => (0..20).all(|_| agrees(seed, "the reader", &single::read(random), coverage)),
+        18 => (0..20).all(|_| agrees(seed, "the writer", &single::write(random), coverage)),
+        _ => (0..5).all(|_| {
+            agrees(seed, "set-up", &single::set_up(random), coverage)
+                && agrees(seed, "mark", &single::mark(random), coverage)
+        }),
     }
-    parts
-}
-
-fn report(seed: u64, parts: Parts) {
-    let parts = shortest(parts);
-    let trace = parts.bytes();
-    println!("difference at seed {seed}; the shortest run that shows it:");
-    println!("  set-up {}", hex(&parts.set_up));
-    for entry in &parts.entries {
-        println!("  entry  {}", hex(entry));
-    }
-    let plain = reference::replay::replay(&trace, BUDGET).text;
-    println!("independent receiver:\n{}", String::from_utf8_lossy(&plain));
-    println!(
-        "verified library:\n{}",
-        String::from_utf8_lossy(&verified::replay(&trace, BUDGET))
-    );
-}
-
-fn hex(bytes: &[u8]) -> String {
-    bytes
-        .iter()
-        .map(|byte| format!("{byte:02x}"))
-        .collect::<Vec<_>>()
-        .join(" ")
 }

@@ -20,7 +20,7 @@ impl Random {
 
     /// A number below `bound`, which is not 0.
     pub fn below(&mut self, bound: u64) -> u64 {
-        self.next() % bound
+        (self.next() >> 8) % bound
     }
 
     /// A number from `low` to `high`.
@@ -37,7 +37,31 @@ impl Random {
         items[self.below(items.len() as u64) as usize]
     }
 
+    /// A number of any size, often one at the edge of a field.
+    pub fn wild(&mut self) -> u64 {
+        let edge: u64 = self.pick(&[0, 1 << 31, 1 << 32, 1 << 63, 256, 8_192]);
+        let shift = self.below(64);
+        match self.below(3) {
+            0 => edge.wrapping_add(self.below(4)).wrapping_sub(2),
+            1 => self.next() >> shift,
+            _ => self.below(200),
+        }
+    }
+
     pub fn bytes(&mut self, count: usize) -> Vec<u8> {
-        (0..count).map(|_| self.next() as u8).collect()
+        let words = (0..count.div_ceil(8)).flat_map(|_| self.next().to_le_bytes());
+        words.take(count).collect()
+    }
+
+    /// Map words: none set, all set, or some.
+    pub fn map(&mut self, count: usize) -> Vec<u64> {
+        match self.below(4) {
+            0 => vec![0; count],
+            1 => vec![u64::MAX; count],
+            2 => (0..count)
+                .map(|_| self.next() & self.next() & self.next())
+                .collect(),
+            _ => (0..count).map(|_| self.next()).collect(),
+        }
     }
 }

@@ -80,6 +80,15 @@ impl Row {
         !matches!(self.shape, Shape::Cts | Shape::CtsData)
     }
 
+    /// The bytes that a connid takes behind the mandatory header.
+    fn connid_length(&self) -> usize {
+        match self.shape {
+            Shape::Cts => 0,
+            Shape::CtsData => CTSDATA_CONNID,
+            _ => 4,
+        }
+    }
+
     fn allows_flags(&self, flags: u16) -> bool {
         if !self.is_rtm() {
             return flags & !FLAG_CONNID == 0;
@@ -163,12 +172,7 @@ impl Packet<'_> {
             .raw_address
             .map_or(0, |addr| addr.len().saturating_add(4));
         let cq_data = self.cq_data.map_or(0, |_| 8);
-        let connid = match (self.connid, row.shape) {
-            // CTS keeps its connid in multiuse, inside the mandatory header.
-            (None, _) | (_, Shape::Cts) => 0,
-            (Some(_), Shape::CtsData) => CTSDATA_CONNID,
-            (Some(_), _) => 4,
-        };
+        let connid = self.connid.map_or(0, |_| row.connid_length());
         (row.header + cq_data + connid)
             .saturating_add(raw_address)
             .saturating_add(self.data.len())
@@ -185,11 +189,36 @@ pub fn read_served(bytes: &[u8], limit: usize) -> Result<(&'static Row, Packet<'
     read_within(bytes, limit, |row| row.served)
 }
 
+/// The steps of the reader are parts of one pass over the headers. They are inlined, so that no
+/// packet goes from one to the next through memory.
 fn read_within<'a>(
     bytes: &'a [u8],
     limit: usize,
     takes: impl Fn(&Row) -> bool,
 ) -> Result<(&'static Row, Packet<'a>), u8> {
+    let (row, flags) = read_base(bytes, limit, takes)?;
+    let mut packet = Packet {
+        kind: row.kind,
+        ..Packet::default()
+    };
+    let mut rest = bytes;
+    let header = take(&mut rest, row.header)?;
+    packet.read_own_fields(row, header);
+    packet.read_optional_headers(row, flags, header, &mut rest)?;
+    packet.data = rest;
+    if !packet.keeps_length_rule(row.shape) {
+        return Err(refusal::LENGTH);
+    }
+    Ok((row, packet))
+}
+
+/// Judges a packet's length and its first four bytes, and gives its type's row and its flags.
+#[inline(always)]
+fn read_base(
+    bytes: &[u8],
+    limit: usize,
+    takes: impl Fn(&Row) -> bool,
+) -> Result<(&'static Row, u16), u8> {
     if bytes.len() > limit {
         return Err(refusal::PACKET_TOO_LONG);
     }
@@ -206,62 +235,69 @@ fn read_within<'a>(
     if !row.allows_flags(flags) {
         return Err(refusal::FLAGS);
     }
+    Ok((row, flags))
+}
 
-    let mut packet = Packet {
-        kind: row.kind,
-        ..Packet::default()
-    };
-    let mut rest = bytes;
-    let header = take(&mut rest, row.header)?;
-    match row.shape {
-        Shape::Cts => {
-            packet.connid = (flags & FLAG_CONNID != 0).then(|| u32_at(header, 4));
-            packet.send_id = u32_at(header, 8);
-            packet.recv_id = u32_at(header, 12);
-            packet.recv_length = u64_at(header, 16);
-        }
-        Shape::CtsData => {
-            packet.recv_id = u32_at(header, 4);
-            packet.seg_length = u64_at(header, 8);
-            packet.seg_offset = u64_at(header, 16);
-            if flags & FLAG_CONNID != 0 {
-                packet.connid = Some(u32_at(take(&mut rest, CTSDATA_CONNID)?, 0));
+impl<'a> Packet<'a> {
+    /// Reads the fields that the mandatory header has for this type.
+    #[inline(always)]
+    fn read_own_fields(&mut self, row: &Row, header: &[u8]) {
+        match row.shape {
+            Shape::Cts => {
+                self.send_id = u32_at(header, 8);
+                self.recv_id = u32_at(header, 12);
+                self.recv_length = u64_at(header, 16);
+            }
+            Shape::CtsData => {
+                self.recv_id = u32_at(header, 4);
+                self.seg_length = u64_at(header, 8);
+                self.seg_offset = u64_at(header, 16);
+            }
+            Shape::Eager => {}
+            Shape::Medium => {
+                self.msg_length = u64_at(header, 8);
+                self.seg_offset = u64_at(header, 16);
+            }
+            Shape::Long => {
+                self.msg_length = u64_at(header, 8);
+                self.send_id = u32_at(header, 16);
+                self.credit_request = u32_at(header, 20);
             }
         }
-        Shape::Eager => {}
-        Shape::Medium => {
-            packet.msg_length = u64_at(header, 8);
-            packet.seg_offset = u64_at(header, 16);
+        if row.is_rtm() {
+            self.msg_id = u32_at(header, 4);
         }
-        Shape::Long => {
-            packet.msg_length = u64_at(header, 8);
-            packet.send_id = u32_at(header, 16);
-            packet.credit_request = u32_at(header, 20);
-        }
-    }
-    if row.is_rtm() {
-        packet.msg_id = u32_at(header, 4);
         if row.tagged {
             // The tag ends the mandatory header of every tagged type.
-            packet.tag = u64_at(header, row.header - 8);
+            self.tag = u64_at(header, row.header - 8);
         }
+    }
+
+    /// Reads the optional headers that are flagged, and takes them off `rest`.
+    #[inline(always)]
+    fn read_optional_headers(
+        &mut self,
+        row: &Row,
+        flags: u16,
+        header: &[u8],
+        rest: &mut &'a [u8],
+    ) -> Result<(), u8> {
         if flags & FLAG_RAW_ADDRESS != 0 {
-            let size = u32_at(take(&mut rest, 4)?, 0);
-            packet.raw_address = Some(take(&mut rest, size as usize)?);
+            let size = u32_at(take(rest, 4)?, 0);
+            self.raw_address = Some(take(rest, size as usize)?);
         }
         if flags & FLAG_CQ_DATA != 0 {
-            packet.cq_data = Some(u64_at(take(&mut rest, 8)?, 0));
+            self.cq_data = Some(u64_at(take(rest, 8)?, 0));
         }
         if flags & FLAG_CONNID != 0 {
-            packet.connid = Some(u32_at(take(&mut rest, 4)?, 0));
+            self.connid = Some(match row.shape {
+                // CTS keeps its connid in multiuse, inside the mandatory header.
+                Shape::Cts => u32_at(header, 4),
+                _ => u32_at(take(rest, row.connid_length())?, 0),
+            });
         }
+        Ok(())
     }
-    packet.data = rest;
-
-    if !packet.keeps_length_rule(row.shape) {
-        return Err(refusal::LENGTH);
-    }
-    Ok((row, packet))
 }
 
 /// Writes a packet to the front of `out` and gives its length. The bytes of `out` past it stay.
@@ -285,51 +321,8 @@ pub fn write(packet: &Packet, out: &mut [u8]) -> Result<usize, u8> {
     let mut place = Place { out, at: 0 };
     place.put(&[packet.kind, VERSION]);
     place.put(&flags.to_le_bytes());
-    match row.shape {
-        Shape::Cts => {
-            place.put(&packet.connid.unwrap_or(0).to_le_bytes());
-            place.put(&packet.send_id.to_le_bytes());
-            place.put(&packet.recv_id.to_le_bytes());
-            place.put(&packet.recv_length.to_le_bytes());
-        }
-        Shape::CtsData => {
-            place.put(&packet.recv_id.to_le_bytes());
-            place.put(&packet.seg_length.to_le_bytes());
-            place.put(&packet.seg_offset.to_le_bytes());
-            if let Some(connid) = packet.connid {
-                place.put(&connid.to_le_bytes());
-                place.put(&[0; 4]);
-            }
-        }
-        Shape::Eager => place.put(&packet.msg_id.to_le_bytes()),
-        Shape::Medium => {
-            place.put(&packet.msg_id.to_le_bytes());
-            place.put(&packet.msg_length.to_le_bytes());
-            place.put(&packet.seg_offset.to_le_bytes());
-        }
-        Shape::Long => {
-            place.put(&packet.msg_id.to_le_bytes());
-            place.put(&packet.msg_length.to_le_bytes());
-            place.put(&packet.send_id.to_le_bytes());
-            place.put(&packet.credit_request.to_le_bytes());
-        }
-    }
-    if row.is_rtm() {
-        if row.tagged {
-            place.put(&packet.tag.to_le_bytes());
-        }
-        if let Some(address) = packet.raw_address {
-            // The whole packet is within the limit, so the address' length fits in its field.
-            place.put(&(address.len() as u32).to_le_bytes());
-            place.put(address);
-        }
-        if let Some(cq_data) = packet.cq_data {
-            place.put(&cq_data.to_le_bytes());
-        }
-        if let Some(connid) = packet.connid {
-            place.put(&connid.to_le_bytes());
-        }
-    }
+    place.put_own_fields(row, packet);
+    place.put_optional_headers(row, packet);
     place.put(packet.data);
     debug_assert_eq!(place.at, length);
     Ok(length)
@@ -345,6 +338,56 @@ impl Place<'_> {
     fn put(&mut self, bytes: &[u8]) {
         self.out[self.at..self.at + bytes.len()].copy_from_slice(bytes);
         self.at += bytes.len();
+    }
+
+    /// Puts the rest of the mandatory header.
+    fn put_own_fields(&mut self, row: &Row, packet: &Packet) {
+        if row.is_rtm() {
+            self.put(&packet.msg_id.to_le_bytes());
+        }
+        match row.shape {
+            Shape::Cts => {
+                self.put(&packet.connid.unwrap_or(0).to_le_bytes());
+                self.put(&packet.send_id.to_le_bytes());
+                self.put(&packet.recv_id.to_le_bytes());
+                self.put(&packet.recv_length.to_le_bytes());
+            }
+            Shape::CtsData => {
+                self.put(&packet.recv_id.to_le_bytes());
+                self.put(&packet.seg_length.to_le_bytes());
+                self.put(&packet.seg_offset.to_le_bytes());
+            }
+            Shape::Eager => {}
+            Shape::Medium => {
+                self.put(&packet.msg_length.to_le_bytes());
+                self.put(&packet.seg_offset.to_le_bytes());
+            }
+            Shape::Long => {
+                self.put(&packet.msg_length.to_le_bytes());
+                self.put(&packet.send_id.to_le_bytes());
+                self.put(&packet.credit_request.to_le_bytes());
+            }
+        }
+        if row.tagged {
+            self.put(&packet.tag.to_le_bytes());
+        }
+    }
+
+    fn put_optional_headers(&mut self, row: &Row, packet: &Packet) {
+        if let Some(address) = packet.raw_address {
+            // The whole packet is within the limit, so the address' length fits in its field.
+            self.put(&(address.len() as u32).to_le_bytes());
+            self.put(address);
+        }
+        if let Some(cq_data) = packet.cq_data {
+            self.put(&cq_data.to_le_bytes());
+        }
+        if let Some(connid) = packet.connid {
+            // Behind a CTSDATA's connid comes padding, and a CTS has its connid already.
+            let mut header = [0; CTSDATA_CONNID];
+            header[..4].copy_from_slice(&connid.to_le_bytes());
+            self.put(&header[..row.connid_length()]);
+        }
     }
 }
 

@@ -1,6 +1,6 @@
 //! Every refusal of each call, in the order of the checks, and that a refusal changes nothing.
 
-use reference::engine::{set_up, Answer::*};
+use reference::engine::{set_up, Answer, Answer::*, Engine};
 
 use crate::support::*;
 
@@ -60,6 +60,37 @@ fn full() -> Receiver {
     r
 }
 
+/// A call's answer, with the state as the call leaves it put back.
+fn step(engine: &mut Engine, call: impl FnOnce(Engine) -> (Engine, Answer)) -> Answer {
+    let (after, answer) = call(engine.clone());
+    *engine = after;
+    answer
+}
+
+fn post(e: &mut Engine, peer: u64, range: (u64, u64), arena: &[u8], map: &[u64]) -> Answer {
+    let receive = plain(range.0, range.1);
+    step(e, |engine| engine.post(peer, receive, arena, map))
+}
+
+fn cancel(e: &mut Engine, peer: u64, slot: u64, arena: &[u8], map: &[u64]) -> Answer {
+    step(e, |engine| engine.cancel(peer, slot, arena, map))
+}
+
+fn report(e: &mut Engine, peer: u64, slot: u64, arena: &[u8], map: &[u64]) -> Answer {
+    step(e, |engine| engine.report(peer, slot, arena, map))
+}
+
+fn packet(
+    e: &mut Engine,
+    peer: u64,
+    bytes: &[u8],
+    reply: &mut [u8],
+    arena: &mut [u8],
+    map: &mut [u64],
+) -> Answer {
+    step(e, |engine| engine.packet(peer, bytes, reply, arena, map))
+}
+
 /// Makes the state one that can't be.
 fn spoil(r: &mut Receiver) {
     r.engine.limit = 63;
@@ -74,33 +105,18 @@ fn every_refusal_of_a_post() {
     spoil(&mut r);
     let e = &mut r.engine;
     let (arena, map) = (&r.arena[..], &r.map[..]);
-    assert_eq!(
-        e.post(2, false, 0, 0, 200, 57, &arena[1..], &map[1..]),
-        Refused(2)
-    );
+    assert_eq!(post(e, 2, (200, 57), &arena[1..], &map[1..]), Refused(2));
     e.limit = 96;
-    assert_eq!(
-        e.post(2, false, 0, 0, 200, 57, &arena[1..], &map[1..]),
-        Refused(3)
-    );
-    assert_eq!(
-        e.post(2, false, 0, 0, 200, 57, arena, &map[1..]),
-        Refused(3)
-    );
-    assert_eq!(
-        e.post(2, false, 0, 0, 200, 57, &arena[1..], map),
-        Refused(3)
-    );
-    assert_eq!(e.post(2, false, 0, 0, 200, 57, arena, map), Refused(4));
-    assert_eq!(
-        e.post(u64::MAX, false, 0, 0, 200, 57, arena, map),
-        Refused(4)
-    );
-    assert_eq!(e.post(0, false, 0, 0, 200, 57, arena, map), Refused(11));
-    assert_eq!(e.post(0, false, 0, 0, u64::MAX, 2, arena, map), Refused(11));
-    assert_eq!(e.post(0, false, 0, 0, 257, 0, arena, map), Refused(11));
-    assert_eq!(e.post(0, false, 0, 0, 200, 56, arena, map), Refused(19));
-    assert_eq!(e.post(0, false, 0, 0, 208, 48, arena, map), Refused(18));
+    assert_eq!(post(e, 2, (200, 57), &arena[1..], &map[1..]), Refused(3));
+    assert_eq!(post(e, 2, (200, 57), arena, &map[1..]), Refused(3));
+    assert_eq!(post(e, 2, (200, 57), &arena[1..], map), Refused(3));
+    assert_eq!(post(e, 2, (200, 57), arena, map), Refused(4));
+    assert_eq!(post(e, u64::MAX, (200, 57), arena, map), Refused(4));
+    assert_eq!(post(e, 0, (200, 57), arena, map), Refused(11));
+    assert_eq!(post(e, 0, (u64::MAX, 2), arena, map), Refused(11));
+    assert_eq!(post(e, 0, (257, 0), arena, map), Refused(11));
+    assert_eq!(post(e, 0, (200, 56), arena, map), Refused(19));
+    assert_eq!(post(e, 0, (208, 48), arena, map), Refused(18));
     assert_eq!(r, unchanged);
 
     // A freed slot counts as free.
@@ -138,28 +154,28 @@ fn every_refusal_of_a_cancel_and_a_report() {
     spoil(&mut r);
     let e = &mut r.engine;
     let (arena, map) = (&r.arena[..], &r.map[..]);
-    assert_eq!(e.cancel(2, 8, &arena[1..], &map[1..]), Refused(2));
-    assert_eq!(e.report(2, 8, &arena[1..], &map[1..]), Refused(2));
+    assert_eq!(cancel(e, 2, 8, &arena[1..], &map[1..]), Refused(2));
+    assert_eq!(report(e, 2, 8, &arena[1..], &map[1..]), Refused(2));
     e.limit = 96;
     for (arena, map) in [
         (&arena[1..], &map[1..]),
         (arena, &map[1..]),
         (&arena[1..], map),
     ] {
-        assert_eq!(e.cancel(2, 8, arena, map), Refused(3));
-        assert_eq!(e.report(2, 8, arena, map), Refused(3));
+        assert_eq!(cancel(e, 2, 8, arena, map), Refused(3));
+        assert_eq!(report(e, 2, 8, arena, map), Refused(3));
     }
     for peer in [2, 8, u64::MAX] {
-        assert_eq!(e.cancel(peer, 8, arena, map), Refused(4));
-        assert_eq!(e.report(peer, 8, arena, map), Refused(4));
+        assert_eq!(cancel(e, peer, 8, arena, map), Refused(4));
+        assert_eq!(report(e, peer, 8, arena, map), Refused(4));
     }
     for slot in [5, 8, u64::MAX] {
-        assert_eq!(e.cancel(0, slot, arena, map), Refused(20));
-        assert_eq!(e.report(0, slot, arena, map), Refused(20));
+        assert_eq!(cancel(e, 0, slot, arena, map), Refused(20));
+        assert_eq!(report(e, 0, slot, arena, map), Refused(20));
     }
-    assert_eq!(e.report(0, 1, arena, map), Refused(20), "posted, not open");
+    assert_eq!(report(e, 0, 1, arena, map), Refused(20), "posted, not open");
     assert_eq!(
-        e.report(0, 0, arena, map),
+        report(e, 0, 0, arena, map),
         Missing {
             received: 40,
             first: 40
@@ -187,58 +203,87 @@ fn every_refusal_of_a_packet_before_the_peers_state_counts() {
     let mut bytes = vec![3, 3, 0xFF, 0xFF];
     bytes.resize(97, 0);
     assert_eq!(
-        engine.packet(2, &bytes, &mut reply[..23], &mut a[1..], &mut m[1..]),
+        packet(
+            &mut engine,
+            2,
+            &bytes,
+            &mut reply[..23],
+            &mut a[1..],
+            &mut m[1..]
+        ),
         Refused(2)
     );
     engine.limit = 96;
     assert_eq!(
-        engine.packet(2, &bytes, &mut reply[..23], &mut a[1..], &mut m[1..]),
+        packet(
+            &mut engine,
+            2,
+            &bytes,
+            &mut reply[..23],
+            &mut a[1..],
+            &mut m[1..]
+        ),
         Refused(3)
     );
     assert_eq!(
-        engine.packet(2, &bytes, &mut reply[..23], a, &mut m[1..]),
+        packet(&mut engine, 2, &bytes, &mut reply[..23], a, &mut m[1..]),
         Refused(3)
     );
     assert_eq!(
-        engine.packet(2, &bytes, &mut reply[..23], &mut a[1..], m),
+        packet(&mut engine, 2, &bytes, &mut reply[..23], &mut a[1..], m),
         Refused(3)
     );
-    assert_eq!(engine.packet(2, &bytes, &mut reply[..23], a, m), Refused(4));
-    assert_eq!(engine.packet(0, &bytes, &mut reply[..23], a, m), Refused(5));
-    assert_eq!(engine.packet(0, &bytes, &mut reply[..24], a, m), Refused(6));
+    assert_eq!(
+        packet(&mut engine, 2, &bytes, &mut reply[..23], a, m),
+        Refused(4)
+    );
+    assert_eq!(
+        packet(&mut engine, 0, &bytes, &mut reply[..23], a, m),
+        Refused(5)
+    );
+    assert_eq!(
+        packet(&mut engine, 0, &bytes, &mut reply[..24], a, m),
+        Refused(6)
+    );
     for length in 0..4 {
         assert_eq!(
-            engine.packet(0, &bytes[..length], &mut reply, a, m),
+            packet(&mut engine, 0, &bytes[..length], &mut reply, a, m),
             Refused(7)
         );
     }
     bytes.truncate(23);
-    assert_eq!(engine.packet(0, &bytes, &mut reply, a, m), Refused(8));
+    assert_eq!(packet(&mut engine, 0, &bytes, &mut reply, a, m), Refused(8));
     bytes[1] = 4;
     assert_eq!(
-        engine.packet(0, &bytes, &mut reply, a, m),
+        packet(&mut engine, 0, &bytes, &mut reply, a, m),
         Refused(9),
         "CTS with wrong flags"
     );
     bytes[2..4].fill(0);
     assert_eq!(
-        engine.packet(0, &bytes, &mut reply, a, m),
+        packet(&mut engine, 0, &bytes, &mut reply, a, m),
         Refused(9),
         "CTS"
     );
     bytes[0] = 66;
-    assert_eq!(engine.packet(0, &bytes, &mut reply, a, m), Refused(10));
+    assert_eq!(
+        packet(&mut engine, 0, &bytes, &mut reply, a, m),
+        Refused(10)
+    );
     bytes[2] = 4;
-    assert_eq!(engine.packet(0, &bytes, &mut reply, a, m), Refused(7));
+    assert_eq!(packet(&mut engine, 0, &bytes, &mut reply, a, m), Refused(7));
     bytes.push(0);
     assert_eq!(
-        engine.packet(0, &bytes, &mut reply, a, m),
+        packet(&mut engine, 0, &bytes, &mut reply, a, m),
         Refused(11),
         "before 14"
     );
     bytes[8] = 1;
     bytes.push(0);
-    assert_eq!(engine.packet(0, &bytes, &mut reply, a, m), Refused(14));
+    assert_eq!(
+        packet(&mut engine, 0, &bytes, &mut reply, a, m),
+        Refused(14)
+    );
 
     let unchanged = full();
     assert_eq!(

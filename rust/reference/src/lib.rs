@@ -5,6 +5,7 @@
 
 pub mod bits;
 pub mod engine;
+pub mod packed;
 pub mod packet;
 pub mod refusal;
 pub mod replay;

@@ -5,19 +5,9 @@ use reference::packet;
 
 use crate::support::*;
 
-fn receive(start: u64, capacity: u64) -> Receive {
-    Receive {
-        tagged: false,
-        tag: 0,
-        ignore: 0,
-        start,
-        capacity,
-    }
-}
-
 fn posted(start: u64, capacity: u64, age: u64) -> Slot {
     Slot::Posted {
-        receive: receive(start, capacity),
+        receive: plain(start, capacity),
         age,
     }
 }
@@ -34,7 +24,7 @@ fn open(start: u64, capacity: u64, id: u32, length: u64, granted: u64) -> Slot {
         cq_data: None,
     };
     Slot::Open {
-        receive: receive(start, capacity),
+        receive: plain(start, capacity),
         message,
     }
 }
@@ -243,7 +233,7 @@ fn any_state_gets_an_answer() {
     );
 }
 
-fn any_peer(random: &mut Random) -> Peer {
+pub fn any_peer(random: &mut Random) -> Peer {
     let mut peer = Peer {
         next: random.below(4) as u32,
         ..Peer::FRESH

@@ -115,6 +115,9 @@ fn any_pair<T>(items: &[T; SLOTS], clash: impl Fn(&T, &T) -> bool) -> bool {
     found
 }
 
+/// What a peer's step gives: the peer as it is then, and the answer.
+type Step = (Peer, Answer);
+
 /// One peer's own part of what the caller lends: all that a packet of this peer can change.
 struct Part<'a> {
     arena: &'a mut [u8],
@@ -155,53 +158,52 @@ pub fn set_up(
 }
 
 impl Engine {
+    /// A state that can't be, since it has no peer: every call is refused.
+    pub const IMPOSSIBLE: Engine = Engine {
+        peers: [Peer::FRESH; MAX_PEERS],
+        n: 0,
+        area: 0,
+        limit: 0,
+    };
+
     /// Posts a receive in the peer's lowest free slot.
-    #[allow(clippy::too_many_arguments)]
     pub fn post(
-        &mut self,
+        mut self,
         peer: u64,
-        tagged: bool,
-        tag: u64,
-        ignore: u64,
-        start: u64,
-        capacity: u64,
+        receive: Receive,
         arena: &[u8],
         map: &[u64],
-    ) -> Answer {
-        let receive = Receive {
-            tagged,
-            tag,
-            ignore,
-            start,
-            capacity,
-        };
-        self.check(peer, arena.len(), map.len())
-            .and_then(|peer| self.peers[peer].post(receive, self.area))
-            .unwrap_or_else(Answer::Refused)
+    ) -> (Engine, Answer) {
+        let step = self
+            .check(peer, arena.len(), map.len())
+            .and_then(|peer| Ok((peer, self.peers[peer].post(receive, self.area)?)));
+        let answer = self.keep(step);
+        (self, answer)
     }
 
     /// Takes a packet of the peer. Only the answer granted writes to the reply buffer.
     pub fn packet(
-        &mut self,
+        mut self,
         peer: u64,
         bytes: &[u8],
         reply: &mut [u8],
         arena: &mut [u8],
         map: &mut [u64],
-    ) -> Answer {
-        self.try_packet(peer, bytes, reply, arena, map)
-            .unwrap_or_else(Answer::Refused)
+    ) -> (Engine, Answer) {
+        let step = self.packet_step(peer, bytes, reply, arena, map);
+        let answer = self.keep(step);
+        (self, answer)
     }
 
-    fn try_packet(
-        &mut self,
+    fn packet_step(
+        &self,
         peer: u64,
         bytes: &[u8],
         reply: &mut [u8],
         arena: &mut [u8],
         map: &mut [u64],
-    ) -> Result<Answer, u8> {
-        let peer = self.check(peer, arena.len(), map.len())?;
+    ) -> Result<(usize, Step), u8> {
+        let number = self.check(peer, arena.len(), map.len())?;
         if reply.len() < CTS_LENGTH {
             return Err(refusal::REPLY_BUFFER);
         }
@@ -210,31 +212,36 @@ impl Engine {
         // The area is a multiple of 64, so a peer's bits begin and end where words do.
         let area = self.area as usize;
         let part = Part {
-            arena: &mut arena[peer * area..(peer + 1) * area],
-            map: &mut map[peer * area / 64..(peer + 1) * area / 64],
+            arena: &mut arena[number * area..(number + 1) * area],
+            map: &mut map[number * area / 64..(number + 1) * area / 64],
         };
-        let peer = &mut self.peers[peer];
-        if row.is_rtm() {
-            peer.rtm(row, &packet, self.limit, reply, part)
+        let peer = self.peers[number];
+        let step = if row.is_rtm() {
+            peer.rtm(row, &packet, self.limit, reply, part)?
         } else {
-            peer.ctsdata(&packet, self.limit, reply, part)
-        }
+            peer.ctsdata(&packet, self.limit, reply, part)?
+        };
+        Ok((number, step))
     }
 
     /// Frees a posted or open slot. Arena and map stay as they are.
-    pub fn cancel(&mut self, peer: u64, slot: u64, arena: &[u8], map: &[u64]) -> Answer {
-        self.check(peer, arena.len(), map.len())
-            .and_then(|peer| self.peers[peer].cancel(slot))
-            .unwrap_or_else(Answer::Refused)
+    pub fn cancel(mut self, peer: u64, slot: u64, arena: &[u8], map: &[u64]) -> (Engine, Answer) {
+        let step = self
+            .check(peer, arena.len(), map.len())
+            .and_then(|peer| Ok((peer, self.peers[peer].cancel(slot)?)));
+        let answer = self.keep(step);
+        (self, answer)
     }
 
     /// Counts the bytes that have come of an open message and finds the first one missing.
-    pub fn report(&self, peer: u64, slot: u64, arena: &[u8], map: &[u64]) -> Answer {
-        self.try_report(peer, slot, arena, map)
-            .unwrap_or_else(Answer::Refused)
+    pub fn report(self, peer: u64, slot: u64, arena: &[u8], map: &[u64]) -> (Engine, Answer) {
+        let answer = self
+            .missing(peer, slot, arena, map)
+            .unwrap_or_else(Answer::Refused);
+        (self, answer)
     }
 
-    fn try_report(&self, peer: u64, slot: u64, arena: &[u8], map: &[u64]) -> Result<Answer, u8> {
+    fn missing(&self, peer: u64, slot: u64, arena: &[u8], map: &[u64]) -> Result<Answer, u8> {
         let peer = self.check(peer, arena.len(), map.len())?;
         let Some(Slot::Open { receive, message }) = self.peers[peer].slot(slot) else {
             return Err(refusal::SLOT);
@@ -245,6 +252,17 @@ impl Engine {
             received: bits::count(map, from, to) as u64,
             first: (bits::first_clear(map, from, to) - from) as u64,
         })
+    }
+
+    /// Puts the peer back that made a step, none if it was refused, and gives the answer.
+    fn keep(&mut self, step: Result<(usize, Step), u8>) -> Answer {
+        match step {
+            Ok((number, (peer, answer))) => {
+                self.peers[number] = peer;
+                answer
+            }
+            Err(number) => Answer::Refused(number),
+        }
     }
 
     /// What every call checks first: the state, the lengths of what is lent, the peer's number.
@@ -276,13 +294,18 @@ impl Peer {
         slots: [Slot::Free; SLOTS],
     };
 
-    /// Whether the peer's slots can be as they are. Every call asks this of all peers, so what is
-    /// compared pair by pair is first put side by side, in arrays of a fixed length. A slot that
-    /// isn't used has entries there that clash with no other.
+    /// Whether the peer's slots can be as they are, each alone and all together.
     fn can_be(&self, area: u64) -> bool {
+        let used = self.slots.iter().filter(|slot| !slot.is_free());
+        self.slots.iter().all(|slot| slot.can_be(area)) && (used.count() < 2 || !self.has_clash())
+    }
+
+    /// Whether two used ranges overlap, two open messages have one id or two posted receives one
+    /// age. Every call asks this of all peers, so what is compared pair by pair is first put side
+    /// by side, in arrays of a fixed length. A free slot has entries there that clash with no other.
+    fn has_clash(&self) -> bool {
         let mut ranges = [NO_RANGE; SLOTS];
         let mut names: [Name; SLOTS] = std::array::from_fn(|number| (NO_NAME + number as u64, 0));
-        let mut used = 0;
         for (number, slot) in self.slots.iter().enumerate() {
             let receive = match slot {
                 Slot::Free => continue,
@@ -291,31 +314,23 @@ impl Peer {
                     receive
                 }
                 Slot::Open { receive, message } => {
-                    if message.length > receive.capacity || message.granted > message.length {
-                        return false;
-                    }
                     names[number] = (ID, u64::from(message.id));
                     receive
                 }
             };
-            if !receive.is_within(area) {
-                return false;
-            }
             if receive.capacity > 0 {
                 ranges[number] = (receive.start, receive.end());
             }
-            used += 1;
         }
-        used < 2
-            || !any_pair(&ranges, |a, b| (a.0 < b.1) & (b.0 < a.1))
-                && !any_pair(&names, |a, b| (a.0 == b.0) & (a.1 == b.1))
+        any_pair(&ranges, |a, b| (a.0 < b.1) & (b.0 < a.1))
+            || any_pair(&names, |a, b| (a.0 == b.0) & (a.1 == b.1))
     }
 
     fn slot(&self, number: u64) -> Option<&Slot> {
         self.slots.get(usize::try_from(number).ok()?)
     }
 
-    fn post(&mut self, receive: Receive, area: u64) -> Result<Answer, u8> {
+    fn post(self, receive: Receive, area: u64) -> Result<Step, u8> {
         if !receive.is_within(area) {
             return Err(refusal::LENGTH);
         }
@@ -331,35 +346,34 @@ impl Peer {
 
         // Ages are counted afresh at every post. So they stay below 8 and can't run out, and the
         // order doesn't depend on how many posts came before.
-        let age = self.renumber_ages();
-        self.slots[free] = Slot::Posted { receive, age };
-        Ok(Answer::Posted(free as u64))
+        let (peer, age) = self.with_ages_renumbered();
+        let peer = peer.with_slot(free, Slot::Posted { receive, age });
+        Ok((peer, Answer::Posted(free as u64)))
     }
 
-    /// Makes each posted receive's age the number of older ones, and gives the number of them all.
-    fn renumber_ages(&mut self) -> u64 {
-        let before = self.slots;
-        let older_than = |age: u64| {
-            before
-                .iter()
-                .filter_map(Slot::age)
-                .filter(|other| *other < age)
-                .count()
-        };
+    /// The peer with each posted receive's age the number of older ones, and the number of them all.
+    fn with_ages_renumbered(mut self) -> (Peer, u64) {
+        let ages = self.slots.map(|slot| slot.age());
         for slot in &mut self.slots {
             if let Slot::Posted { age, .. } = slot {
-                *age = older_than(*age) as u64;
+                let older = ages.iter().flatten().filter(|other| **other < *age);
+                *age = older.count() as u64;
             }
         }
-        before.iter().filter_map(Slot::age).count() as u64
+        (self, ages.iter().flatten().count() as u64)
     }
 
-    fn cancel(&mut self, slot: u64) -> Result<Answer, u8> {
+    fn with_slot(mut self, number: usize, slot: Slot) -> Peer {
+        self.slots[number] = slot;
+        self
+    }
+
+    fn cancel(self, slot: u64) -> Result<Step, u8> {
         match self.slot(slot) {
             None | Some(Slot::Free) => Err(refusal::SLOT),
             Some(_) => {
-                self.slots[slot as usize] = Slot::Free;
-                Ok(Answer::Cancelled(slot))
+                let peer = self.with_slot(slot as usize, Slot::Free);
+                Ok((peer, Answer::Cancelled(slot)))
             }
         }
     }
@@ -393,13 +407,13 @@ impl Peer {
     }
 
     fn rtm(
-        &mut self,
+        self,
         row: &Row,
         packet: &Packet,
         limit: u64,
         reply: &mut [u8],
         part: Part,
-    ) -> Result<Answer, u8> {
+    ) -> Result<Step, u8> {
         // An open id goes first, even if it equals next after having come round.
         match self.open_slot(packet.msg_id) {
             Some((slot, receive, message)) => {
@@ -411,79 +425,68 @@ impl Peer {
 
     /// An RTM whose id is not open: if its turn has come, it begins a message.
     fn first_segment(
-        &mut self,
+        mut self,
         row: &Row,
         packet: &Packet,
         limit: u64,
         reply: &mut [u8],
         mut part: Part,
-    ) -> Result<Answer, u8> {
-        let ahead = packet.msg_id.wrapping_sub(self.next);
-        if ahead > FARTHEST_EARLY {
-            return Err(refusal::LATE);
-        }
-        if ahead > 0 {
-            return Err(refusal::EARLY);
-        }
+    ) -> Result<Step, u8> {
+        self.check_turn(packet.msg_id)?;
         let (slot, receive) = self
             .oldest_fitting(row, packet.tag)
             .ok_or(refusal::NO_RECEIVE)?;
-
-        let id = packet.msg_id;
-        let data = packet.data.len() as u64;
-        let length = if row.shape == Shape::Eager {
-            data
-        } else {
-            packet.msg_length
-        };
+        let message = Message::begun_by(row, packet);
         self.next = self.next.wrapping_add(1);
-        if length > receive.capacity {
-            self.slots[slot] = Slot::Free;
-            return Ok(Answer::Truncated {
+        if message.length > receive.capacity {
+            let answer = Answer::Truncated {
                 slot: slot as u64,
-                id,
-                length,
-            });
+                id: message.id,
+                length: message.length,
+            };
+            return Ok((self.with_slot(slot, Slot::Free), answer));
         }
 
         // The whole range is cleared, so that no bit of an earlier message counts for this one.
         bits::clear(part.map, receive.start as usize, receive.end() as usize);
         part.store(receive.start + packet.seg_offset, packet.data);
-        let mut message = Message {
-            kind: packet.kind,
-            id,
-            tag: packet.tag,
-            length,
-            granted: data,
-            send_id: packet.send_id,
-            credit_request: packet.credit_request,
-            cq_data: packet.cq_data,
-        };
-        if data == length {
+        if message.granted == message.length {
             return Ok(self.done(slot, &message));
         }
-        let answer = match row.shape {
+        let (message, answer) = match row.shape {
             Shape::Long => message.grant(limit, reply),
-            _ => Answer::Stored,
+            _ => (message, Answer::Stored),
         };
-        self.slots[slot] = Slot::Open { receive, message };
-        Ok(answer)
+        Ok((
+            self.with_slot(slot, Slot::Open { receive, message }),
+            answer,
+        ))
+    }
+
+    /// Whether it is the turn of an id that is not open.
+    fn check_turn(&self, id: u32) -> Result<(), u8> {
+        match id.wrapping_sub(self.next) {
+            0 => Ok(()),
+            1..=FARTHEST_EARLY => Err(refusal::EARLY),
+            _ => Err(refusal::LATE),
+        }
     }
 
     /// An RTM whose id is open: it must be a further segment of that medium message.
     fn further_segment(
-        &mut self,
+        self,
         slot: usize,
         receive: Receive,
         message: Message,
         row: &Row,
         packet: &Packet,
         mut part: Part,
-    ) -> Result<Answer, u8> {
+    ) -> Result<Step, u8> {
+        // A plain packet's tag is read as 0, and so is that of every plain message of a run.
         let belongs = row.shape == Shape::Medium
             && packet.kind == message.kind
             && packet.msg_length == message.length
-            && (!row.tagged || packet.tag == message.tag);
+            && packet.tag == message.tag;
         if !belongs {
             return Err(refusal::NOT_THIS_MESSAGE);
         }
@@ -491,18 +494,18 @@ impl Peer {
         Ok(if part.has_all(receive.start, message.length) {
             self.done(slot, &message)
         } else {
-            Answer::Stored
+            (self, Answer::Stored)
         })
     }
 
     fn ctsdata(
-        &mut self,
+        self,
         packet: &Packet,
         limit: u64,
         reply: &mut [u8],
         mut part: Part,
-    ) -> Result<Answer, u8> {
-        let (slot, receive, mut message) = self
+    ) -> Result<Step, u8> {
+        let (slot, receive, message) = self
             .open_slot(packet.recv_id)
             .filter(|(_, _, message)| message.is_long())
             .ok_or(refusal::LATE)?;
@@ -513,31 +516,47 @@ impl Peer {
         }
         part.store_if_new(receive.start + packet.seg_offset, packet.data)?;
         if !part.has_all(receive.start, message.granted) {
-            return Ok(Answer::Stored);
+            return Ok((self, Answer::Stored));
         }
-        if message.granted == message.length {
+        // No run has bits set beyond the granted end; a state that does has all the bytes too.
+        if part.has_all(receive.start, message.length) {
             return Ok(self.done(slot, &message));
         }
-        let answer = message.grant(limit, reply);
-        self.slots[slot] = Slot::Open { receive, message };
-        Ok(answer)
+        let (message, answer) = message.grant(limit, reply);
+        Ok((
+            self.with_slot(slot, Slot::Open { receive, message }),
+            answer,
+        ))
     }
 
     /// Frees the slot of a message that has come whole. Its bits stay.
-    fn done(&mut self, slot: usize, message: &Message) -> Answer {
-        self.slots[slot] = Slot::Free;
-        Answer::Done {
+    fn done(self, slot: usize, message: &Message) -> Step {
+        let answer = Answer::Done {
             slot: slot as u64,
             id: message.id,
             length: message.length,
             cq_data: message.cq_data,
-        }
+        };
+        (self.with_slot(slot, Slot::Free), answer)
     }
 }
 
 impl Slot {
     fn is_free(&self) -> bool {
         matches!(self, Slot::Free)
+    }
+
+    /// Whether the slot can be as it is, whatever the others hold.
+    fn can_be(&self, area: u64) -> bool {
+        match self {
+            Slot::Free => true,
+            Slot::Posted { receive, .. } => receive.is_within(area),
+            Slot::Open { receive, message } => {
+                receive.is_within(area)
+                    && message.length <= receive.capacity
+                    && message.granted <= message.length
+            }
+        }
     }
 
     fn receive(&self) -> Option<&Receive> {
@@ -585,8 +604,26 @@ impl Message {
         matches!(self.kind, packet::LONGCTS_MSGRTM | packet::LONGCTS_TAGRTM)
     }
 
+    /// The message that an RTM begins, with the RTM's own data granted.
+    fn begun_by(row: &Row, packet: &Packet) -> Message {
+        let data = packet.data.len() as u64;
+        Message {
+            kind: packet.kind,
+            id: packet.msg_id,
+            tag: packet.tag,
+            length: match row.shape {
+                Shape::Eager => data,
+                _ => packet.msg_length,
+            },
+            granted: data,
+            send_id: packet.send_id,
+            credit_request: packet.credit_request,
+            cq_data: packet.cq_data,
+        }
+    }
+
     /// Grants the next bytes: moves the granted end and writes the CTS. Some length must be left.
-    fn grant(&mut self, limit: u64, reply: &mut [u8]) -> Answer {
+    fn grant(mut self, limit: u64, reply: &mut [u8]) -> (Message, Answer) {
         let packets = u64::from(self.credit_request.clamp(1, MAX_CREDIT));
         let left = self.length - self.granted;
         let recv_length = left.min(packets * (limit - CTSDATA_HEADER));
@@ -602,7 +639,7 @@ impl Message {
         let written = packet::write(&cts, reply);
         // The buffer's length was checked, and the grant is at least one byte.
         debug_assert_eq!(written, Ok(CTS_LENGTH));
-        Answer::Granted(recv_length)
+        (self, Answer::Granted(recv_length))
     }
 }
 

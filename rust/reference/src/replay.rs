@@ -56,22 +56,17 @@ fn replay_into(trace: &[u8], budget: usize, text: &mut Vec<u8>) -> usize {
             line(text, format_args!("bad trace at {place}"));
             return taken;
         };
-        answer_line(text, run(&mut engine, &entry, &mut arena, &mut map));
+        let answer;
+        (engine, answer) = run(engine, &entry, &mut arena, &mut map);
+        answer_line(text, answer);
         place = after;
         taken += 1;
     }
 }
 
-fn run(engine: &mut Engine, entry: &Entry, arena: &mut [u8], map: &mut [u64]) -> Answer {
+fn run(engine: Engine, entry: &Entry, arena: &mut [u8], map: &mut [u64]) -> (Engine, Answer) {
     match *entry {
-        Entry::Post {
-            peer,
-            tagged,
-            tag,
-            ignore,
-            start,
-            capacity,
-        } => engine.post(peer, tagged, tag, ignore, start, capacity, arena, map),
+        Entry::Post { peer, receive } => engine.post(peer, receive, arena, map),
         Entry::Packet { peer, bytes } => {
             engine.packet(peer, bytes, &mut [0; CTS_LENGTH], arena, map)
         }

@@ -36,8 +36,11 @@ fn plain_and_tagged_receives_are_apart() {
     assert_eq!(r.post_tagged(0, 0, u64::MAX, 0, 10), Posted(0));
     assert_eq!(r.packet(0, &eager(0, b"a")), Refused(13));
     // A plain receive's tag and ignore mean nothing.
-    let answer = r.engine.post(0, false, 77, 0, 10, 10, &r.arena, &r.map);
-    assert_eq!(answer, Posted(1));
+    let receive = Receive {
+        tag: 77,
+        ..plain(10, 10)
+    };
+    assert_eq!(r.post_receive(0, receive), Posted(1));
     assert_eq!(r.packet(0, &eager(0, b"a")), done(1, 0, 1));
     assert_eq!(r.packet(0, &eager_tagged(1, 12345, b"a")), done(0, 1, 1));
 }
@@ -197,19 +200,9 @@ fn optional_headers_do_not_disturb_the_data() {
     assert_eq!(&r.arena[..6], b"hello\xEE");
 }
 
-fn receive(start: u64, capacity: u64) -> Receive {
-    Receive {
-        tagged: false,
-        tag: 0,
-        ignore: 0,
-        start,
-        capacity,
-    }
-}
-
 fn posted(start: u64, age: u64) -> Slot {
     Slot::Posted {
-        receive: receive(start, 1),
+        receive: plain(start, 1),
         age,
     }
 }
@@ -339,7 +332,7 @@ fn what_an_open_slot_holds() {
         cq_data: None,
     };
     let expected = Slot::Open {
-        receive: receive(7, 50),
+        receive: plain(7, 50),
         message: medium,
     };
     assert_eq!(r.engine.peers[0].slots[0], expected);

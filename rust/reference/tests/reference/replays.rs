@@ -1,5 +1,6 @@
 //! The lines of a replay.
 
+use reference::engine::Receive;
 use reference::replay::{replay, MAX_ENTRIES};
 use reference::trace::{write_entry, write_set_up, Entry};
 
@@ -66,11 +67,7 @@ fn set_up_refused_is_the_only_line() {
 fn post(peer: u64, start: u64, capacity: u64) -> Entry<'static> {
     Entry::Post {
         peer,
-        tagged: false,
-        tag: 0,
-        ignore: 0,
-        start,
-        capacity,
+        receive: plain(start, capacity),
     }
 }
 
@@ -115,11 +112,12 @@ fn every_line() {
         Entry::Cancel { peer: 0, slot: 1 },
         Entry::Post {
             peer: 1,
-            tagged: true,
-            tag: 1,
-            ignore: 2,
-            start: 256,
-            capacity: 0,
+            receive: Receive {
+                tagged: true,
+                tag: 1,
+                ignore: 2,
+                ..plain(256, 0)
+            },
         },
         Entry::Packet {
             peer: 1,

@@ -1,5 +1,6 @@
 //! Numbers in groups of seven bits, and the entries of a trace.
 
+use reference::engine::Receive;
 use reference::trace::*;
 
 use crate::support::*;
@@ -104,11 +105,11 @@ fn a_number_has_one_form() {
 fn entries_by_hand() {
     let post = Entry::Post {
         peer: 1,
-        tagged: true,
-        tag: 300,
-        ignore: 0,
-        start: 5,
-        capacity: 128,
+        receive: Receive {
+            tagged: true,
+            tag: 300,
+            ..plain(5, 128)
+        },
     };
     let packet = Entry::Packet {
         peer: 0,
@@ -180,11 +181,13 @@ fn entries_written_are_the_entries_read() {
         let entry = match random.below(3) {
             0 => Entry::Post {
                 peer,
-                tagged: random.chance(2),
-                tag: random.any(),
-                ignore: random.any(),
-                start: random.any(),
-                capacity: random.any(),
+                receive: Receive {
+                    tagged: random.chance(2),
+                    tag: random.any(),
+                    ignore: random.any(),
+                    start: random.any(),
+                    capacity: random.any(),
+                },
             },
             1 => Entry::Packet {
                 peer,

@@ -1,6 +1,6 @@
 //! What the tests share: a generator, a receiver with all it is lent, packets as bytes.
 
-use reference::engine::{self, Answer, Engine};
+use reference::engine::{self, Answer, Engine, Receive};
 use reference::packet::{self, Packet};
 
 /// A deterministic generator (xorshift, 64 bits).
@@ -77,8 +77,7 @@ impl Receiver {
 
     /// Posts a plain receive.
     pub fn post(&mut self, peer: u64, start: u64, capacity: u64) -> Answer {
-        self.engine
-            .post(peer, false, 0, 0, start, capacity, &self.arena, &self.map)
+        self.post_receive(peer, plain(start, capacity))
     }
 
     pub fn post_tagged(
@@ -89,33 +88,58 @@ impl Receiver {
         start: u64,
         capacity: u64,
     ) -> Answer {
-        self.engine.post(
-            peer,
-            true,
+        let receive = Receive {
+            tagged: true,
             tag,
             ignore,
             start,
             capacity,
-            &self.arena,
-            &self.map,
-        )
+        };
+        self.post_receive(peer, receive)
+    }
+
+    pub fn post_receive(&mut self, peer: u64, receive: Receive) -> Answer {
+        let engine = self.engine.clone();
+        self.keep(engine.post(peer, receive, &self.arena, &self.map))
     }
 
     pub fn packet(&mut self, peer: u64, bytes: &[u8]) -> Answer {
-        self.engine
-            .packet(peer, bytes, &mut self.reply, &mut self.arena, &mut self.map)
+        let engine = self.engine.clone();
+        let step = engine.packet(peer, bytes, &mut self.reply, &mut self.arena, &mut self.map);
+        self.keep(step)
     }
 
     pub fn cancel(&mut self, peer: u64, slot: u64) -> Answer {
-        self.engine.cancel(peer, slot, &self.arena, &self.map)
+        let engine = self.engine.clone();
+        self.keep(engine.cancel(peer, slot, &self.arena, &self.map))
     }
 
+    /// Asks for a report, which must leave the state as it was.
     pub fn report(&self, peer: u64, slot: u64) -> Answer {
-        self.engine.report(peer, slot, &self.arena, &self.map)
+        let engine = self.engine.clone();
+        let (after, answer) = engine.report(peer, slot, &self.arena, &self.map);
+        assert_eq!(after, self.engine);
+        answer
+    }
+
+    fn keep(&mut self, (engine, answer): (Engine, Answer)) -> Answer {
+        self.engine = engine;
+        answer
     }
 
     pub fn bit(&self, byte: usize) -> bool {
         self.map[byte / 64] >> (byte % 64) & 1 == 1
+    }
+}
+
+/// A plain receive.
+pub fn plain(start: u64, capacity: u64) -> Receive {
+    Receive {
+        tagged: false,
+        tag: 0,
+        ignore: 0,
+        start,
+        capacity,
     }
 }
 

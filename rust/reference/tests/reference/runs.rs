@@ -2,7 +2,7 @@
 //! answers alone, never from the map, and compared with what the receiver reports.
 
 use reference::engine::Answer::{self, *};
-use reference::engine::{Peer, Slot};
+use reference::engine::{Peer, Receive, Slot};
 use reference::packet::{self, Packet};
 
 use crate::support::*;
@@ -17,11 +17,7 @@ const SEGMENT: u64 = 12;
 enum Call {
     Post {
         peer: u64,
-        tagged: bool,
-        tag: u64,
-        ignore: u64,
-        start: u64,
-        capacity: u64,
+        receive: Receive,
     },
     Packet {
         peer: u64,
@@ -84,19 +80,10 @@ impl Run {
         let before = r.clone();
         let mut message = None;
         let answer = match call {
-            Call::Post {
-                peer,
-                tagged,
-                tag,
-                ignore,
-                start,
-                capacity,
-            } => {
-                let answer = r.engine.post(
-                    *peer, *tagged, *tag, *ignore, *start, *capacity, &r.arena, &r.map,
-                );
+            Call::Post { peer, receive } => {
+                let answer = r.post_receive(*peer, *receive);
                 if let Posted(slot) = answer {
-                    self.starts[*peer as usize][slot as usize] = *start;
+                    self.starts[*peer as usize][slot as usize] = receive.start;
                 }
                 answer
             }
@@ -147,21 +134,25 @@ impl Call {
         match random.below(40) {
             0..=7 if random.chance(3) => Call::Post {
                 peer,
-                tagged: random.chance(2),
-                tag: random.below(3),
-                ignore: random.below(3),
-                start: random.mostly_below(AREA - 64, AREA + 10),
-                capacity: random.below(80),
+                receive: Receive {
+                    tagged: random.chance(2),
+                    tag: random.below(3),
+                    ignore: random.below(3),
+                    start: random.mostly_below(AREA - 64, AREA + 10),
+                    capacity: random.below(80),
+                },
             },
             // Mostly one that the next message fits, so that the run goes on.
             0..=7 => Call::Post {
                 peer,
-                tagged: random.chance(4)
-                    || packet::row(rtm_of(run.state(peer).next)).unwrap().tagged,
-                tag: random.below(3),
-                ignore: 3,
-                start: random.below(8) * 64,
-                capacity: 64,
+                receive: Receive {
+                    tagged: random.chance(4)
+                        || packet::row(rtm_of(run.state(peer).next)).unwrap().tagged,
+                    tag: random.below(3),
+                    ignore: 3,
+                    start: random.below(8) * 64,
+                    capacity: 64,
+                },
             },
             8..=9 => Call::Cancel {
                 peer,

@@ -3,6 +3,8 @@
 //! The readers take the trace and a place in it and give what stands there with the place after
 //! it, or none if it is malformed or the bytes end early.
 
+use crate::engine::Receive;
+
 /// Ten groups hold 70 bits; the tenth has room for the 64th bit only.
 const MAX_GROUPS: usize = 10;
 
@@ -13,22 +15,9 @@ const CANCEL: u64 = 3;
 /// An entry of a trace.
 #[derive(Clone, Copy, PartialEq, Eq, Debug)]
 pub enum Entry<'a> {
-    Post {
-        peer: u64,
-        tagged: bool,
-        tag: u64,
-        ignore: u64,
-        start: u64,
-        capacity: u64,
-    },
-    Packet {
-        peer: u64,
-        bytes: &'a [u8],
-    },
-    Cancel {
-        peer: u64,
-        slot: u64,
-    },
+    Post { peer: u64, receive: Receive },
+    Packet { peer: u64, bytes: &'a [u8] },
+    Cancel { peer: u64, slot: u64 },
 }
 
 /// Reads a number: groups of seven bits, least first, the top bit set when more follow.
@@ -73,17 +62,14 @@ pub fn read_entry(trace: &[u8], place: usize) -> Option<(Entry<'_>, usize)> {
             let (ignore, place) = read_number(trace, place)?;
             let (start, place) = read_number(trace, place)?;
             let (capacity, place) = read_number(trace, place)?;
-            Some((
-                Entry::Post {
-                    peer,
-                    tagged,
-                    tag,
-                    ignore,
-                    start,
-                    capacity,
-                },
-                place,
-            ))
+            let receive = Receive {
+                tagged,
+                tag,
+                ignore,
+                start,
+                capacity,
+            };
+            Some((Entry::Post { peer, receive }, place))
         }
         PACKET => {
             let (peer, place) = read_number(trace, place)?;
@@ -120,15 +106,16 @@ pub fn write_set_up(n: u64, area: u64, limit: u64, trace: &mut Vec<u8>) {
 /// Writes an entry.
 pub fn write_entry(entry: &Entry, trace: &mut Vec<u8>) {
     match *entry {
-        Entry::Post {
-            peer,
-            tagged,
-            tag,
-            ignore,
-            start,
-            capacity,
-        } => {
-            for number in [POST, peer, u64::from(tagged), tag, ignore, start, capacity] {
+        Entry::Post { peer, receive } => {
+            for number in [
+                POST,
+                peer,
+                u64::from(receive.tagged),
+                receive.tag,
+                receive.ignore,
+                receive.start,
+                receive.capacity,
+            ] {
                 write_number(number, trace);
             }
         }
