@@ -1,5 +1,5 @@
 # `make run` replays a recorded run, and `make run TRACE=file` another one. `make test` is the gate.
-.PHONY: run test library compare soak
+.PHONY: run test library compare soak embed
 
 TRACE ?= examples/whole-case.trace
 CALLS ?= 1000000
@@ -26,3 +26,7 @@ compare: library
 # The same on other calls, for MINUTES minutes.
 soak: library
 	@$(CARGO) -p compare -- soak $(MINUTES)
+
+# The examples of embedding, in C and in Rust.
+embed: library
+	@tests/embed
