@@ -1,5 +1,5 @@
 # `make run` replays a recorded run, and `make run TRACE=file` another one. `make test` is the gate.
-.PHONY: run test library compare soak embed
+.PHONY: run test library compare soak embed bench
 
 TRACE ?= examples/whole-case.trace
 CALLS ?= 1000000
@@ -30,3 +30,7 @@ soak: library
 # The examples of embedding, in C and in Rust.
 embed: library
 	@tests/embed
+
+# Both receivers' times on the same input, in one run: a text for docs/PERFORMANCE.md.
+bench: library
+	@$(CARGO) -p bench
