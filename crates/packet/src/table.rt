@@ -15,18 +15,18 @@ pub struct TypeRow {
     // the type's number
     pub kind: u8,
     pub shape: Shape,
-    // bytes of the mandatory header
-    pub header: usize,
-    // bytes of the multiuse field, which comes before the type's own fields
-    pub multiuse: usize,
-    // bytes that the connid takes after the other optional headers, with its padding
-    pub connid: usize,
     pub tagged: bool,
     // whether the receive engine takes such packets
     pub served: bool,
     // flags that a packet of the type has, and flags that it may have besides
     pub must: u16,
     pub may: u16,
+    // bytes of the mandatory header
+    pub header: usize,
+    // bytes of the multiuse field, which comes before the type's own fields
+    pub multiuse: usize,
+    // bytes that the connid takes after the other optional headers, with its padding
+    pub connid: usize,
 }
 
 pub enum Found {
@@ -43,90 +43,90 @@ const TYPES: [TypeRow; 8] = [
     TypeRow {
         kind: 3,
         shape: Shape::Cts,
-        header: 24,
-        multiuse: 4,
-        connid: 0,
         tagged: false,
         served: false,
         must: 0x0,
         may: CTS_MAY,
+        header: 24,
+        multiuse: 4,
+        connid: 0,
     },
     TypeRow {
         kind: 4,
         shape: Shape::CtsData,
-        header: 24,
-        multiuse: 0,
-        connid: 8,
         tagged: false,
         served: true,
         must: 0x0,
         may: CTS_MAY,
+        header: 24,
+        multiuse: 0,
+        connid: 8,
     },
     TypeRow {
         kind: 64,
         shape: Shape::Eager,
-        header: 8,
-        multiuse: 0,
-        connid: 4,
         tagged: false,
         served: true,
         must: 0x4,
         may: RTM_MAY,
+        header: 8,
+        multiuse: 0,
+        connid: 4,
     },
     TypeRow {
         kind: 65,
         shape: Shape::Eager,
-        header: 16,
-        multiuse: 0,
-        connid: 4,
         tagged: true,
         served: true,
         must: 0xc,
         may: RTM_MAY,
+        header: 16,
+        multiuse: 0,
+        connid: 4,
     },
     TypeRow {
         kind: 66,
         shape: Shape::Medium,
-        header: 24,
-        multiuse: 0,
-        connid: 4,
         tagged: false,
         served: true,
         must: 0x4,
         may: RTM_MAY,
+        header: 24,
+        multiuse: 0,
+        connid: 4,
     },
     TypeRow {
         kind: 67,
         shape: Shape::Medium,
-        header: 32,
-        multiuse: 0,
-        connid: 4,
         tagged: true,
         served: true,
         must: 0xc,
         may: RTM_MAY,
+        header: 32,
+        multiuse: 0,
+        connid: 4,
     },
     TypeRow {
         kind: 68,
         shape: Shape::LongCts,
-        header: 24,
-        multiuse: 0,
-        connid: 4,
         tagged: false,
         served: true,
         must: 0x4,
         may: RTM_MAY,
+        header: 24,
+        multiuse: 0,
+        connid: 4,
     },
     TypeRow {
         kind: 69,
         shape: Shape::LongCts,
-        header: 32,
-        multiuse: 0,
-        connid: 4,
         tagged: true,
         served: true,
         must: 0xc,
         may: RTM_MAY,
+        header: 32,
+        multiuse: 0,
+        connid: 4,
     },
 ];
 
@@ -134,9 +134,11 @@ const TYPES: [TypeRow; 8] = [
 pub(crate) fn find(kind: u8) -> Found
     ensures { λ r. ⌜ r ≡ rowOf kind ⌝ }
 {
+    // once, and not at each turn: a constant is made anew wherever it is named
+    let types = TYPES;
     let mut i: usize = 0;
     while i < 8 {
-        let row = TYPES[i];
+        let row = types[i];
         if row.kind == kind {
             return Found::Row(row);
         }
