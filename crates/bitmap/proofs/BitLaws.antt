@@ -3,7 +3,7 @@ use Prim.Native.Nat.{ℕ, zero, suc, _+_, _*_, _/_, _%_, _≤_, _<_}
 use borrow.Author.Tests.{eqb-false}
 use lib.Bits.{bitOr}
 use lib.Dec.{eqb}
-use lib.ListN.{length, getD, replicate, List·getD-eq-default}
+use lib.ListN.{length, getD, List·getD-eq-default}
 use mathlib.Core.Bool.{Bool, true, false, _||_, true≢false}
 use mathlib.Core.List.{List}
 use mathlib.Core.Logic.{_⊎_, inl, inr, ⊎-elim}
@@ -49,16 +49,6 @@ cleared-in m at n i p q =
 
 pub cleared-out : (m : List ℕ) (at n i : ℕ) → (i < at) ⊎ (at + n ≤ i) → bitAt (cleared m at n) i ≡ bitAt m i
 cleared-out m at n i p = rw (cleared-edited m at n) (edited-out without without-other m at n i p)
-
--- a map of zeros has no bit set
-pub blank-bits : (k i : ℕ) → bitAt (replicate k 0) i ≡ 0
-unfolding bitAt
-blank-bits k i = rw (zeros k (i / 64)) (no-bit (i % 64))
-  where
-    zeros : (k j : ℕ) → _≡_ {A = ℕ} (getD (replicate k 0) j 0) 0
-    zeros zero j = refl
-    zeros (suc k) zero = refl
-    zeros (suc k) (suc j) = zeros k j
 
 -- ---- a test of a range
 

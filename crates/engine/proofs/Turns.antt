@@ -1,8 +1,8 @@
 -- One peer's step in its own part, put back into the whole.
 use Prim.Native.Nat.{ℕ, zero, suc, _+_, _-_, _*_, _/_, _^_, _≤_, _<_}
-use lib.ListN.{length, getD, take, drop, set, length-take, length-drop, replicate, length-replicate, getD-replicate, drop-of-length-le}
-use lib.Seq.{length-take-le, take-all, getD-append-add, getD-drop, drop-drop, paste, paste-zero, paste-suc}
-use mathlib.Core.List.{List, [], append-assoc, map, append-nil}
+use lib.ListN.{length, getD, take, drop, set, replicate, length-replicate, getD-replicate, drop-of-length-le}
+use lib.Seq.{length-take-le, take-all, getD-append-add, getD-drop, paste, paste-zero, paste-suc}
+use mathlib.Core.List.{List, [], map, append-nil}
 use mathlib.Core.Path.{_≡_, sym, ap, ap₂, _∙_}
 use native.Mathlib.Omega.{arith}
 use Rattle.bitmap.specs.Map.{cleared}
@@ -10,17 +10,16 @@ use Rattle.engine.specs.Left.{Left, leaves, world}
 use Rattle.lending.specs.Lending.{Lent, leavesAt}
 use Rattle.engine.specs.Steps.{World, peerTurn, putBack, refusedTurn, withPeer, wordsOf}
 use Rattle.engine.specs.declared.types.Engine.{Engine}
-use Rattle.laws.specs.Parts.{part, storeAt}
 use Rattle.packet.specs.declared.types.Refusal.{Refusal}
 use Rattle.peer.specs.Calls.{Call, packet, packetEffect, peerStep}
-use Rattle.peer.specs.Effects.{Effect, quiet}
-use Rattle.peer.specs.State.{freshPeer, peerFits, slotCount}
+use Rattle.peer.specs.Effects.{quiet}
+use Rattle.peer.specs.State.{freshPeer}
 use Rattle.peer.specs.declared.types.Answer.{Answer}
 use Rattle.peer.specs.declared.types.Peer.{Peer}
 use Rattle.bitmap.proofs.BitLaws.{length-cleared}
 use Rattle.bitmap.proofs.Stores.{clear-split, clear-whole}
 use Rattle.engine.proofs.Walking.{getD-any, set-own}
-use Rattle.laws.proofs.Storing.{length-part, store-nothing, store-own, store-part}
+use Rattle.laws.proofs.Storing.{store-nothing, store-own}
 
 -- a step that changes nothing but the peer
 pub quiet-turn : (w : World) (p : ℕ) (q : Peer) (a : Answer) → p * (w .engine .area / 64) + w .engine .area / 64 ≤ length (w .map)

@@ -4,17 +4,15 @@ use borrow.Author.Tests.{eq-eqb, ne-eqb}
 use lib.ListN.{length, length-replicate, List·getD-eq-default}
 use mathlib.Core.Bool.{true, false}
 use mathlib.Core.List.{List}
-use mathlib.Core.Path.{_≡_, refl, sym, ap, _∙_}
+use mathlib.Core.Path.{_≡_, sym, ap, _∙_}
 use native.Mathlib.Decide.{decLt, ℕ-discrete}
 use native.Mathlib.Omega.{arith}
 use Rattle.laws.proofs.Choosing.{clashing, pick-either, pick-false, pick-true}
 use Rattle.packet.specs.declared.types.Refusal.{Refusal}
 use Rattle.peer.specs.State.{freeSlot, freshPeer, slotCount}
 use Rattle.peer.specs.declared.types.Peer.{Peer}
-use Rattle.peer.specs.declared.types.Slot.{Slot}
 use Rattle.engine.specs.Left.{world}
 use Rattle.engine.specs.SetUp.{Prepared, badSetUp, engineOf, peerAt, peerCount, setUp}
-use Rattle.engine.specs.declared.types.Engine.{Engine}
 use Rattle.engine.specs.declared.types.Ready.{Ready}
 use Rattle.state_words.specs.Flat.{tabulate}
 use Rattle.state_words.specs.Loading.{engineIn, isState, peerIn, stateAfter, stateOf}
@@ -23,7 +21,7 @@ use Rattle.state_words.specs.declared.types.Loaded.{Loaded}
 use Rattle.state_words.proofs.FlatLaws.{getD-tabulate, length-tabulate}
 use Rattle.state_words.proofs.Sizes.{not-state}
 use Rattle.packed.specs.Running.{Eights, Kept, Left, ranFrom, runOf}
-use Rattle.packed.specs.Starting.{Started, startOf, startedAs}
+use Rattle.packed.specs.Starting.{startOf, startedAs}
 
 -- ---- the engine of a state's words
 

@@ -3,7 +3,7 @@ use Prim.Native.Nat.{ℕ}
 use mathlib.Core.List.{List, [], _∷_}
 use Rattle.packet.specs.declared.types.CqData.{CqData}
 use Rattle.peer.specs.declared.types.Answer.{Answer}
-use Rattle.packet_words.specs.Presence.{cqBit, cqValue}
+use Rattle.words.specs.Presence.{cqBit, cqValue}
 
 abbrev pub doneWords : ℕ → ℕ → ℕ → CqData → List ℕ
 doneWords slot id length cq = 5 ∷ slot ∷ id ∷ length ∷ cqBit cq ∷ cqValue cq ∷ 0 ∷ 0 ∷ []

@@ -7,8 +7,8 @@ ghost use Rattle.packed.specs.Answers.{doneWords, answerWords};
 fn done_words(slot: usize, id: u32, length: usize, cq_data: CqData) -> [u64; 8]
     ensures { λ r. ⌜ r ≡ doneWords slot id length «cq_data» ⌝ }
 {
-    let present = packet_words::cq_bit(cq_data);
-    let value = packet_words::cq_value(cq_data);
+    let present = words::cq_bit(cq_data);
+    let value = words::cq_value(cq_data);
     [
         5,
         slot as u64,

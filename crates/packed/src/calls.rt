@@ -33,10 +33,10 @@ fn packet_at(calls: &[u64], at: usize, bytes: usize, replies: usize) -> Found
     let count = calls[at + 3] as usize;
     let reply = calls[at + 4] as usize;
     let room = calls[at + 5] as usize;
-    if !peer::ends_by(place, count, bytes) {
+    if !wire::ends_by(place, count, bytes) {
         return Found::Bad;
     }
-    if !peer::ends_by(reply, room, replies) {
+    if !wire::ends_by(reply, room, replies) {
         return Found::Bad;
     }
     Found::Call(Call::Packet(calls[at + 1] as usize, place, count, reply, room))

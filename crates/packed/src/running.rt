@@ -102,7 +102,7 @@ fn run_calls(
                 match engine::admit(good, n, area, limit, arena.len(), map.len(), p) {
                     Gate::Shut(refusal) => {
                         let words = answers::answer_words(Answer::Refused(refusal));
-                        packet_words::put_words(answers, at, &words);
+                        words::put_words(answers, at, &words);
                         at += 8;
                         taken += 1;
                     }
@@ -113,7 +113,7 @@ fn run_calls(
                         engine.peers[p] = after;
                         let answer = done.answer;
                         let words = answers::answer_words(answer);
-                        packet_words::put_words(answers, at, &words);
+                        words::put_words(answers, at, &words);
                         at += 8;
                         taken += 1;
                     }

@@ -2,22 +2,7 @@
 use crate::table::Shape;
 use crate::types::Fields;
 ghost use mathlib.Core.Path.{_≡_};
-ghost use Prim.Native.Nat.{_+_};
-ghost use lib.Dec.{leb};
 ghost use Rattle.packet.specs.Lengths.{lengthsFit};
-
-// Whether at + size is at most end, as whole numbers.
-fn ends_by(at: u64, size: u64, end: u64) -> bool
-    ensures { λ r. ⌜ r ≡ leb (at + size) end ⌝ }
-{
-    if end < at {
-        return false;
-    }
-    if end - at < size {
-        return false;
-    }
-    true
-}
 
 // Whether a packet may have these numbers and so many bytes of data.
 pub(crate) fn fit(shape: Shape, fields: Fields, size: usize) -> bool
@@ -28,7 +13,8 @@ pub(crate) fn fit(shape: Shape, fields: Fields, size: usize) -> bool
         Shape::Cts => n == 0 && 1 <= fields.recv_length,
         Shape::CtsData => 1 <= n && n == fields.seg_length,
         Shape::Eager => true,
-        Shape::Medium => 1 <= n && ends_by(fields.seg_offset, n, fields.msg_length),
+        Shape::Medium => 1 <= n
+            && wire::ends_by(fields.seg_offset as usize, size, fields.msg_length as usize),
         Shape::LongCts => 1 <= n && n <= fields.msg_length,
     }
 }

@@ -15,7 +15,8 @@ use Rattle.packet.specs.declared.types.Read.{Read}
 use Rattle.packet.specs.declared.types.Written.{Written}
 use Rattle.packet.specs.Reading.{readOf}
 use Rattle.packet.specs.Writing.{writeOf}
-use Rattle.packet_words.specs.Presence.{bitOf, cqBit, cqValue, connidBit, connidValue}
+use Rattle.words.specs.Presence.{bitOf, cqBit, cqValue}
+use Rattle.packet_words.specs.Presence.{connidBit, connidValue}
 
 abbrev pub valueCount : ℕ
 valueCount = 19

@@ -1,5 +1,4 @@
 // A packet is read into words.
-use crate::copying;
 use crate::presence;
 use crate::types::FEW_WORDS;
 use crate::types::LIMIT;
@@ -30,11 +29,11 @@ fn value_words(packet: Packet) -> [u64; 19]
         fields.seg_offset,
         fields.credit_request as u64,
         fields.tag,
-        presence::bit_of(header.raw_address),
+        words::bit_of(header.raw_address),
         raw.at as u64,
         raw.size as u64,
-        presence::cq_bit(cq),
-        presence::cq_value(cq),
+        words::cq_bit(cq),
+        words::cq_value(cq),
         presence::connid_bit(connid),
         presence::connid_value(connid),
         data.at as u64,
@@ -53,7 +52,7 @@ pub fn read(bytes: &[u8], values: &mut [u64]) -> usize
     match packet::read(bytes, LIMIT) {
         Read::Refused(refusal) => refusal.number as usize,
         Read::Packet(packet) => {
-            copying::put_words(values, 0, &value_words(packet));
+            words::put_words(values, 0, &value_words(packet));
             TAKEN
         }
     }

@@ -1,26 +1,15 @@
 -- Two comparisons that hold together are equal tests.
 use Prim.Native.Nat.{ℕ, _≤_, _<_}
-use borrow.Author.Tests.{leb-true, leb-false, lt-ltb, le-ltb, le-leb, lt-leb}
+use borrow.Author.Tests.{leb-true, leb-false, lt-ltb, le-ltb}
 use lib.Dec.{leb, ltb}
 use lib.ListN.{length, length-map}
 use mathlib.Core.Bool.{true, false}
 use mathlib.Core.List.{List, map}
 use mathlib.Core.Path.{_≡_, sym, _∙_}
-use native.Mathlib.Decide.{decLt, decLe}
+use native.Mathlib.Decide.{decLt}
 use native.Mathlib.Omega.{arith}
 
 module _ (a b x y : ℕ) where
-  pub leb-same : (a ≤ b → x ≤ y) → (x ≤ y → a ≤ b) → leb a b ≡ leb x y
-  leb-same f g = go (decLe a b)
-    where
-      go : Dec (a ≤ b) → leb a b ≡ leb x y
-      go (yes h) = le-leb a b h ∙ sym (le-leb x y (f h))
-      go (no h) = lt-leb a b (omega (arith, h)) ∙ sym (lt-leb x y (other (decLe x y)))
-        where
-          other : Dec (x ≤ y) → y < x
-          other (yes k) = absurd (h (g k))
-          other (no k) = omega (arith, k)
-
   pub ltb-same : (a < b → x < y) → (x < y → a < b) → ltb a b ≡ ltb x y
   ltb-same f g = go (decLt a b)
     where

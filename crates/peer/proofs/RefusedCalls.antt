@@ -47,10 +47,6 @@ listed p ws numbers m e k x =
     let is : m ≡ k = cc in
     (ap (refuse p ws) is, ap (λ (n : Refusal). among numbers (n .number)) (sym is) ∙ e)
 
--- another answer is no refusal
-unrefused : (p : Peer) (ws : List ℕ) (numbers : List ℕ) (f : Effect) (a : Answer) → f .answer ≡ a → ((k : Refusal) → a ≡ Answer.Refused k → ⊥) → Refusing p ws numbers f
-unrefused p ws numbers f a e n k x = absurd (n k (sym e ∙ x))
-
 -- ---- the reader's refusals
 
 abbrev readNumbers : List ℕ

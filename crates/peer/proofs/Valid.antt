@@ -48,12 +48,6 @@ clash-sym (Phase.Open o) (Phase.Posted s b) = overlap-sym (o .receive) s
 clash-sym (Phase.Open o) (Phase.Open q) =
     ap₂ (λ (x y : Bool). x || y) (overlap-sym (o .receive) (q .receive)) (eqb-sym (o .message .id) (q .message .id))
 
-pub clash-free : (f : Phase) → clash f Phase.Free ≡ false
-clash-free f = clash-sym f Phase.Free ∙ free-first f
-  where
-    free-first : (g : Phase) → clash Phase.Free g ≡ false
-    free-first g = unfold clash in refl
-
 -- ---- from the test to the facts, and back
 
 each-fits : (area : ℕ) (ss : List Slot) → allFit area ss ≡ true → (j : ℕ) → phaseFits area (phaseAt ss j) ≡ true

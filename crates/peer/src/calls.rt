@@ -45,7 +45,7 @@ impl Peer {
     pub fn post(self, area: usize, receive: Receive) -> Step
         ensures { λ r. ⌜ ((words : List ℕ) → quiet (r .peer) words (r .answer) ≡ postEffect area self words receive) ⌝ }
     {
-        if !matching::ends_by(receive.start, receive.capacity, area) {
+        if !wire::ends_by(receive.start, receive.capacity, area) {
             return self.refused(OUTSIDE_AREA);
         }
         if self.has_in_the_way(receive) {

@@ -37,7 +37,7 @@ impl Inbound {
     {
         let receive = self.receive;
         let message = self.message;
-        if !matching::ends_by(receive.start, receive.capacity, area) {
+        if !wire::ends_by(receive.start, receive.capacity, area) {
             return false;
         }
         if receive.capacity < message.length {
@@ -69,7 +69,7 @@ impl Slot {
         let phase = self.phase;
         match phase {
             Phase::Free => true,
-            Phase::Posted(receive, _) => matching::ends_by(receive.start, receive.capacity, area),
+            Phase::Posted(receive, _) => wire::ends_by(receive.start, receive.capacity, area),
             Phase::Open(inbound) => inbound.fits(area),
         }
     }

@@ -60,7 +60,7 @@ impl Inbound {
         if !kinds::is_long(message.kind) {
             return Verdict::Refuse(LATE);
         }
-        if matching::ends_by(h.offset, h.size, message.granted) {
+        if wire::ends_by(h.offset, h.size, message.granted) {
             self.judge_more(i, h, words)
         } else {
             Verdict::Refuse(BEYOND_GRANT)

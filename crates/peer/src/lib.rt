@@ -12,7 +12,6 @@ mod segment;
 mod state;
 mod types;
 
-pub use matching::ends_by;
 pub use types::Answer;
 pub use types::Fit;
 pub use types::Found;

@@ -11,18 +11,7 @@ use crate::types::Slot;
 use crate::types::Vacancy;
 ghost use mathlib.Core.Path.{_≡_};
 ghost use Prim.Native.Nat.{_+_};
-ghost use lib.Dec.{leb};
 ghost use Rattle.peer.specs.Matching.{openHere, findOpen, fits, older, olderHere, oldest, vacancy, ahead, sameMessage};
-
-// Whether `size` bytes from `at` on end at `end` or before, as whole numbers.
-pub fn ends_by(at: usize, size: usize, end: usize) -> bool
-    ensures { λ r. ⌜ r ≡ leb (at + size) end ⌝ }
-{
-    if end < at {
-        return false;
-    }
-    size <= end - at
-}
 
 // How far an id is ahead of the next one, round at 2^32.
 pub(crate) fn ahead_of(id: u32, next: u32) -> u32

@@ -78,7 +78,7 @@ pub extern "C" fn quagfeather_mark(map: &mut [u64], at: usize, count: usize) -> 
     if MAP < words {
         return BAD_MAP;
     }
-    if !peer::ends_by(at, count, 64 * words) {
+    if !wire::ends_by(at, count, 64 * words) {
         return BAD_MAP;
     }
     if bitmap::is_touched(map, at, count) {

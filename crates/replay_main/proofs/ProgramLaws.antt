@@ -3,7 +3,7 @@ use Prim.Native.Nat.{ℕ}
 use lib.ListN.{length, replicate}
 use mathlib.Core.Bool.{true}
 use mathlib.Core.List.{List}
-use mathlib.Core.Path.{_≡_, refl}
+use mathlib.Core.Path.{_≡_}
 use Rattle.laws.proofs.Choosing.{pick-true}
 use Rattle.replay.specs.Replaying.{hasRoom, replayOf}
 use Rattle.replay_main.specs.Programs.{programOf, textLength}

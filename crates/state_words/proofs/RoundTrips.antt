@@ -20,7 +20,7 @@ use Rattle.engine.specs.declared.types.Engine.{Engine}
 use Rattle.state_words.specs.Flat.{flat, same}
 use Rattle.state_words.specs.Loading.{engineIn, isState, peerIn, phaseIn, stateOf}
 use Rattle.state_words.specs.RoundTrip.{Held, LoadedAgain, MessageHeld, PeerHeld, SavedAgain}
-use Rattle.packet_words.specs.Presence.{bitOf, cqBit, cqValue}
+use Rattle.words.specs.Presence.{bitOf, cqBit, cqValue}
 use Rattle.state_words.specs.Saving.{engineWords, peerSize, peerWords, phaseWords, slotSize, slotWords}
 use Rattle.laws.proofs.Choosing.{pick-true}
 use Rattle.state_words.proofs.FlatLaws.{length-flat, tabulate-is, same-refl, same-true}

@@ -2,7 +2,7 @@
 -- and 16 words for each slot.
 use Prim.Native.Nat.{ℕ}
 use mathlib.Core.List.{List, [], _∷_}
-use Rattle.packet_words.specs.Presence.{bitOf, cqBit, cqValue}
+use Rattle.words.specs.Presence.{bitOf, cqBit, cqValue}
 use Rattle.peer.specs.declared.types.Receive.{Receive}
 use Rattle.peer.specs.declared.types.Message.{Message}
 use Rattle.peer.specs.declared.types.Phase.{Phase}

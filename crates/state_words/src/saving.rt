@@ -22,7 +22,7 @@ fn open_words(inbound: Inbound) -> [u64; 16]
     let cq = message.cq_data;
     [
         2,
-        packet_words::bit_of(receive.tagged),
+        words::bit_of(receive.tagged),
         receive.tag,
         receive.ignore,
         receive.start as u64,
@@ -35,8 +35,8 @@ fn open_words(inbound: Inbound) -> [u64; 16]
         message.granted as u64,
         message.send_id as u64,
         message.credit_request as u64,
-        packet_words::cq_bit(cq),
-        packet_words::cq_value(cq),
+        words::cq_bit(cq),
+        words::cq_value(cq),
     ]
 }
 
@@ -46,7 +46,7 @@ fn posted_words(receive: Receive, age: u64) -> [u64; 16]
 {
     [
         1,
-        packet_words::bit_of(receive.tagged),
+        words::bit_of(receive.tagged),
         receive.tag,
         receive.ignore,
         receive.start as u64,
@@ -83,7 +83,7 @@ fn put_peer(words: &mut [u64], at: usize, peer: Peer)
     let mut i: usize = 0;
     while i < Peer::SLOTS {
         let slot = peer.slots[i];
-        packet_words::put_words(words, at + 1 + SLOT * i, &slot_words(slot));
+        words::put_words(words, at + 1 + SLOT * i, &slot_words(slot));
         i += 1;
     }
 }

@@ -1,7 +1,9 @@
-// Little-endian integers at an offset of a slice, read and written (01: "Integers on the wire are little-endian"), and bytes.
+// Little-endian integers at an offset of a slice, read and written (01: "Integers on the wire are little-endian"), bytes, and
+// where bytes end.
 ghost use mathlib.Core.Path.{_≡_};
 ghost use Prim.Native.Nat.{_+_, _≤_};
 ghost use lib.ListN.{length};
+ghost use lib.Dec.{leb};
 ghost use Rattle.laws.specs.Parts.{storeAt};
 ghost use Rattle.wire.specs.LittleEndian.{leBytes, leAt};
 
@@ -61,4 +63,17 @@ pub fn write_bytes(s: &mut [u8], at: usize, bytes: &[u8]) -> usize
         i += 1;
     }
     at + i
+}
+
+// Whether `size` bytes from `at` on end at `end` or before, as whole numbers.
+pub fn ends_by(at: usize, size: usize, end: usize) -> bool
+    ensures { λ r. ⌜ r ≡ leb (at + size) end ⌝ }
+{
+    if end < at {
+        return false;
+    }
+    if end - at < size {
+        return false;
+    }
+    true
 }

@@ -5,7 +5,7 @@ use Rattle.quagfeather.proofs.quagfeather_mark.Tie as tie
 use Prim.Native.Nat.{_+_, _*_, _≤_}
 use borrow.Author.Tests.{leb-true, le-leb, lt-leb, not-true, not-false}
 use lib.ListN.{length}
-use mathlib.Core.Path.{_≡_, sym, _∙_}
+use mathlib.Core.Path.{sym, _∙_}
 use native.Mathlib.Omega.{arith}
 use Rattle.laws.specs.Choose.{pick}
 use Rattle.quagfeather.specs.Exported.{markedIn}

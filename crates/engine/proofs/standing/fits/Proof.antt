@@ -7,7 +7,6 @@ use mathlib.Core.Bool.{true}
 use mathlib.Core.Path.{_≡_, refl, sym, _∙_}
 use native.Mathlib.Omega.{arith}
 use Rattle.engine.specs.Gates.{Small}
-use Rattle.peer.specs.Matching.{fits}
 use Rattle.engine.proofs.Walking.{Walked, small, walk-end, walk-left, walk-start, walk-turn}
 use Rattle.peer.proofs.Comparing.{length-mapped}
 use Rattle.engine.proofs.standing.fits.Statement.{statement}

@@ -2,8 +2,8 @@
 use borrow.Author.Needs.{needs}
 use Rattle.packed.proofs.calls.call_at.Statement.{statement}
 use Rattle.packed.proofs.calls.call_at.Tie as tie
-use borrow.Author.Tests.{eq-eqb, ne-eqb, lt-leb, le-leb, not-true, not-false}
-use mathlib.Core.Path.{sym, _∙_}
+use borrow.Author.Tests.{eq-eqb, ne-eqb}
+use mathlib.Core.Path.{_∙_}
 use Rattle.laws.specs.Choose.{pick}
 use Rattle.packed.specs.Calls.{callAt}
 

@@ -2,7 +2,7 @@
 use borrow.Author.Needs.{needs}
 use Rattle.packed.proofs.calls.packet_at.Statement.{statement}
 use Rattle.packed.proofs.calls.packet_at.Tie as tie
-use borrow.Author.Tests.{eq-eqb, ne-eqb, lt-leb, le-leb, not-true, not-false}
+use borrow.Author.Tests.{not-true, not-false}
 use Rattle.laws.specs.Choose.{pick}
 use Rattle.packed.specs.Calls.{packetAt}
 

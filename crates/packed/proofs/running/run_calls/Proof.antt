@@ -2,7 +2,7 @@
 use Rattle.packed.proofs.running.run_calls.Statement.{statement}
 use Rattle.packed.proofs.running.run_calls.Tie as tie
 use borrow.Author.Needs.{needs}
-use Prim.Native.Nat.{_+_, _-_, _≤_, _<_}
+use Prim.Native.Nat.{_-_, _<_}
 use lib.ListN.{length, getD}
 use mathlib.Core.Bool.{_&&_}
 use Rattle.engine.specs.Gates.{gateOf}

@@ -2,7 +2,6 @@
 use borrow.Author.Needs.{needs}
 use Rattle.packed.proofs.running.step.Statement.{statement}
 use Rattle.packed.proofs.running.step.Tie as tie
-use mathlib.Core.Path.{sym, _∙_}
 use native.Mathlib.Omega.{arith}
 use Rattle.peer.specs.Calls.{peerStep}
 use Rattle.peer.proofs.Asking.{lent-part}

@@ -2,7 +2,7 @@
 use borrow.Author.Needs.{needs}
 use Rattle.packet_words.proofs.reading.read.Statement.{statement}
 use Rattle.packet_words.proofs.reading.read.Tie as tie
-use borrow.Author.Tests.{eq-eqb, ne-eqb, lt-leb, le-leb, not-true, not-false}
+use borrow.Author.Tests.{lt-leb, le-leb}
 use Rattle.laws.specs.Choose.{pick}
 use Rattle.packet_words.specs.Values.{readInto}
 

@@ -2,7 +2,7 @@
 use borrow.Author.Needs.{needs}
 use Rattle.packet_words.proofs.writing.cq_in.Statement.{statement}
 use Rattle.packet_words.proofs.writing.cq_in.Tie as tie
-use borrow.Author.Tests.{eq-eqb, ne-eqb, lt-leb, le-leb, not-true, not-false}
+use borrow.Author.Tests.{eq-eqb, ne-eqb}
 use Rattle.laws.specs.Choose.{pick}
 
 shared-slice-read-if1 : tie.Need-shared-slice-read-if1

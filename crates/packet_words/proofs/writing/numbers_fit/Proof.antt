@@ -2,7 +2,7 @@
 use borrow.Author.Needs.{needs}
 use Rattle.packet_words.proofs.writing.numbers_fit.Statement.{statement}
 use Rattle.packet_words.proofs.writing.numbers_fit.Tie as tie
-use borrow.Author.Tests.{eq-eqb, ne-eqb, lt-leb, le-leb, not-true, not-false}
+use borrow.Author.Tests.{eq-eqb, ne-eqb, lt-leb, le-leb}
 use Rattle.laws.specs.Choose.{pick}
 use Rattle.packet_words.specs.Values.{numbersFit}
 

@@ -1,4 +1,4 @@
--- `packet_words::copying::put_words` meets its contract. The loop's invariant: the words passed stand in their place.
+-- `words::put_words` meets its contract. The loop's invariant: the words passed stand in their place.
 use Prim.Native.Nat.{_+_, _-_, _≤_, _<_}
 use lib.ListN.{length, length-set}
 use lib.Seq.{paste, paste-zero, paste-suc}
@@ -6,8 +6,8 @@ use mathlib.Core.Path.{_≡_, refl}
 use native.Mathlib.Numerals.{add-one}
 use native.Mathlib.Omega.{arith}
 use Rattle.laws.proofs.Storing.{paste-store}
-use Rattle.packet_words.proofs.copying.put_words.Statement.{statement}
-use Rattle.packet_words.proofs.copying.put_words.Tie as tie
+use Rattle.words.proofs.put_words.Statement.{statement}
+use Rattle.words.proofs.put_words.Tie as tie
 
 abbrev Inv-loop : tie.InvT-loop
 Inv-loop words₀ at from i₀ words i = (i ≤ length from) × (length words ≡ length words₀) × (words ≡ paste words₀ at from i)

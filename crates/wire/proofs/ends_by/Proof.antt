@@ -1,10 +1,10 @@
--- `packet::lengths::ends_by` meets its contract.
+-- `wire::ends_by` meets its contract.
 use Prim.Native.Nat.{_+_}
 use borrow.Author.Tests.{le-leb, lt-leb}
 use mathlib.Core.Path.{sym}
 use native.Mathlib.Omega.{arith}
-use Rattle.packet.proofs.lengths.ends_by.Statement.{statement}
-use Rattle.packet.proofs.lengths.ends_by.Tie as tie
+use Rattle.wire.proofs.ends_by.Statement.{statement}
+use Rattle.wire.proofs.ends_by.Tie as tie
 
 returns : tie.Need-returns
 returns c = let a = c .before .args in sym (lt-leb (a .at + a .size) (a .end) (omega arith))
