@@ -1,22 +1,31 @@
-// The five calls of the engine with the cases of 01, for two peers with areas of 256 bytes and packets
-// of at most 96. The packets are written out by hand from the protocol's tables, and the file stdout
-// beside src/ from the specification, not from this program.
+// The five calls of the engine, one to a line of standard input, each with a line that says what it
+// answered. The file stdin beside src/ has the cases, and says what its lines mean.
+mod call;
 mod drive;
-mod eager;
-mod lent;
-mod long_cts;
-mod medium;
-mod order;
-mod peers;
+mod line;
 mod print;
-mod slots;
+
+// Does what each line of the text says.
+fn run(text: &[u8]) {
+    let mut run = drive::unset();
+    let mut lines: usize = 0;
+    let mut at: usize = 0;
+    while at < text.len() {
+        let end = line::find(text, at, b'\n');
+        lines += 1;
+        let line = call::read(&text[at..end]);
+        let call = line.call;
+        let bytes = line.bytes;
+        run = drive::turn(run, call, &bytes, lines);
+        at = line::behind(text, end);
+    }
+}
 
 fn main() {
-    eager::all();
-    medium::all();
-    long_cts::all();
-    order::all();
-    slots::all();
-    peers::all();
-    lent::all();
+    let mut buffer = io::large_buffer();
+    let n = io::read_full(libc::STDIN_FILENO, &mut buffer);
+    if n == buffer.len() {
+        print::text(b"too long\n");
+    }
+    run(&buffer[..n]);
 }

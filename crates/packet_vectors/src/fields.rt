@@ -1,40 +1,41 @@
 // The own fields of a type, by name and in the order of its table.
 use crate::print::number;
+use crate::print::numbers;
 use crate::print::text;
 use packet::Fields;
 
 // Table 3.6.
-fn cts(fields: Fields) {
-    number(b"send_id", fields.send_id as u64);
-    number(b"recv_id", fields.recv_id as u64);
-    number(b"recv_length", fields.recv_length);
+fn cts(f: Fields) {
+    let values = [f.send_id as u64, f.recv_id as u64, f.recv_length];
+    numbers(b"send_id recv_id recv_length", &values);
 }
 
 // Table 3.7.
-fn cts_data(fields: Fields) {
-    number(b"recv_id", fields.recv_id as u64);
-    number(b"seg_length", fields.seg_length);
-    number(b"seg_offset", fields.seg_offset);
+fn cts_data(f: Fields) {
+    let values = [f.recv_id as u64, f.seg_length, f.seg_offset];
+    numbers(b"recv_id seg_length seg_offset", &values);
 }
 
 // Table 3.3.
-fn eager(fields: Fields) {
-    number(b"msg_id", fields.msg_id as u64);
+fn eager(f: Fields) {
+    number(b" msg_id ", f.msg_id as u64);
 }
 
 // Table 3.4, whose seg_length is the message's length by 01.
-fn medium(fields: Fields) {
-    number(b"msg_id", fields.msg_id as u64);
-    number(b"msg_length", fields.msg_length);
-    number(b"seg_offset", fields.seg_offset);
+fn medium(f: Fields) {
+    let values = [f.msg_id as u64, f.msg_length, f.seg_offset];
+    numbers(b"msg_id msg_length seg_offset", &values);
 }
 
 // Table 3.5.
-fn long_cts(fields: Fields) {
-    number(b"msg_id", fields.msg_id as u64);
-    number(b"msg_length", fields.msg_length);
-    number(b"send_id", fields.send_id as u64);
-    number(b"credit_request", fields.credit_request as u64);
+fn long_cts(f: Fields) {
+    let values = [
+        f.msg_id as u64,
+        f.msg_length,
+        f.send_id as u64,
+        f.credit_request as u64,
+    ];
+    numbers(b"msg_id msg_length send_id credit_request", &values);
 }
 
 fn untagged(kind: u8, fields: Fields) {
@@ -51,7 +52,7 @@ fn untagged(kind: u8, fields: Fields) {
 pub(crate) fn own(kind: u8, fields: Fields) {
     untagged(kind, fields);
     match kind {
-        65 | 67 | 69 => number(b"tag", fields.tag),
+        65 | 67 | 69 => number(b" tag ", fields.tag),
         _ => {}
     }
 }

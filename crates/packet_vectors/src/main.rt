@@ -1,29 +1,22 @@
-// Packets written out by hand from the tables of source document 000, read and written back, then
-// packets and values that are refused. In each vector a line of the source is the base header, a
-// field, a group of fields or an optional header. The file stdout beside src/ was written from the
+// Packets and values, one to a line of standard input, and what the reader and the writer make of
+// them. The file stdin beside src/ says what a line has. The file stdout was written from the
 // specification, not from this program.
-mod base;
-mod cts;
-mod cut;
-mod eager;
 mod fields;
-mod flags;
-mod lengths;
-mod long_cts;
-mod medium;
+mod hex;
 mod outcome;
 mod print;
-mod writes;
+mod script;
+mod words;
+
+use libc::STDIN_FILENO;
 
 fn main() {
-    cts::good();
-    eager::good();
-    medium::good();
-    long_cts::good();
-    base::damaged();
-    cut::damaged();
-    flags::damaged();
-    lengths::damaged();
-    writes::refused();
-    writes::written();
+    let mut buffer = io::large_buffer();
+    let n = io::read_full(STDIN_FILENO, &mut buffer);
+    // a full buffer may have cut the last line
+    if 65535 < n {
+        print::bad(b"length");
+    } else {
+        script::run(&buffer[..n]);
+    }
 }

@@ -18,12 +18,12 @@ pub(crate) const LIMIT: usize = 8192;
 pub(crate) const LARGE: usize = 8200;
 
 fn refused(refusal: Refusal) {
-    print::number(b"refused", refusal.number as u64);
+    print::number(b" refused ", refusal.number as u64);
 }
 
 fn raw_address(there: bool, span: Span) {
     if there {
-        print::span(b"raw_address", span);
+        print::span(b" raw_address at ", span);
     } else {
         print::text(b" raw_address none");
     }
@@ -32,7 +32,7 @@ fn raw_address(there: bool, span: Span) {
 fn values(packet: Packet) {
     let header = packet.header;
     let fields = header.fields;
-    print::number(b"type", header.kind as u64);
+    print::number(b" type ", header.kind as u64);
     fields::own(header.kind, fields);
     let raw = packet.raw_address;
     raw_address(header.raw_address, raw);
@@ -41,7 +41,7 @@ fn values(packet: Packet) {
     let connid = header.connid;
     print::connid(connid);
     let data = packet.data;
-    print::span(b"data", data);
+    print::span(b" data at ", data);
 }
 
 fn answer(name: &[u8], read: Read) {
@@ -74,9 +74,11 @@ fn unchanged(was: &[u8], is: &[u8], from: usize) -> bool {
         if is.len() <= i {
             return none;
         }
-        if was[i] != is[i] {
+        let a = was[i];
+        let b = is[i];
+        if a != b {
             none = false;
-            print::change(i, was[i], is[i]);
+            print::change(i, a, b);
         }
         i += 1;
     }
@@ -90,6 +92,21 @@ fn kept(out: &[u8], from: usize, words: &[u8]) {
     if unchanged(&filled, out, from) {
         print::text(words);
     }
+    print::text(b"\n");
+}
+
+fn write_refused(refusal: Refusal, out: &[u8]) {
+    print::text(b" write");
+    refused(refusal);
+    kept(out, 0, b" buffer kept");
+}
+
+fn written(n: usize, bytes: &[u8], out: &[u8]) {
+    print::number(b" written ", n as u64);
+    if unchanged(bytes, out, 0) {
+        print::text(b" same");
+    }
+    kept(out, n, b" rest kept");
 }
 
 // Writes the values to a buffer full of FILL and compares it with the bytes that are expected.
@@ -103,20 +120,9 @@ pub(crate) fn write(
 ) {
     print::text(name);
     match packet::write(header, raw, data, out) {
-        Written::Refused(refusal) => {
-            print::text(b" write");
-            refused(refusal);
-            kept(out, 0, b" buffer kept");
-        }
-        Written::Length(n) => {
-            print::number(b"written", n as u64);
-            if unchanged(bytes, out, 0) {
-                print::text(b" same");
-            }
-            kept(out, n, b" rest kept");
-        }
+        Written::Refused(refusal) => write_refused(refusal, out),
+        Written::Length(n) => written(n, bytes, out),
     }
-    print::end();
 }
 
 // Writes the values that were read from the bytes.
@@ -136,12 +142,9 @@ fn write_back(name: &[u8], bytes: &[u8], packet: Packet) {
 }
 
 fn served(bytes: &[u8]) {
-    match packet::read_served(bytes, LIMIT) {
-        Read::Refused(refusal) => {
-            print::text(b", served");
-            refused(refusal);
-        }
-        Read::Packet(_) => print::text(b", served"),
+    print::text(b", served");
+    if let Read::Refused(refusal) = packet::read_served(bytes, LIMIT) {
+        refused(refusal);
     }
 }
 
@@ -150,22 +153,18 @@ pub(crate) fn good(name: &[u8], bytes: &[u8]) {
     let read = packet::read(bytes, LIMIT);
     answer(name, read);
     served(bytes);
-    print::end();
+    print::text(b"\n");
     if let Read::Packet(packet) = read {
         write_back(name, bytes, packet);
     }
 }
 
-pub(crate) fn read_limited(name: &[u8], bytes: &[u8], limit: usize) {
+pub(crate) fn read(name: &[u8], bytes: &[u8], limit: usize) {
     answer(name, packet::read(bytes, limit));
-    print::end();
-}
-
-pub(crate) fn read(name: &[u8], bytes: &[u8]) {
-    read_limited(name, bytes, LIMIT);
+    print::text(b"\n");
 }
 
 pub(crate) fn read_served(name: &[u8], bytes: &[u8]) {
     answer(name, packet::read_served(bytes, LIMIT));
-    print::end();
+    print::text(b"\n");
 }

@@ -1,6 +1,6 @@
 -- `packet_vectors::outcome::unchanged` is safe and ends. Each turn tests its index, so the invariant says nothing. Assumes nothing.
-use Prim.Native.Nat.{_-_}
 use native.Mathlib.Omega.{arith}
+use Prim.Native.Nat.{_-_}
 use lib.ListN.{length}
 use Rattle.packet_vectors.proofs.outcome.unchanged.Statement.{statement}
 use Rattle.packet_vectors.proofs.outcome.unchanged.Tie as tie
@@ -17,17 +17,11 @@ loop-holds c = tt
 returns : tie.Need-returns Inv-loop μ-loop
 returns c = tt
 
-shared-slice-read-if2 : tie.Need-shared-slice-read-if2 Inv-loop μ-loop
-shared-slice-read-if2 c = omega arith
+shared-slice-read-a : tie.Need-shared-slice-read-a Inv-loop μ-loop
+shared-slice-read-a c = omega arith
 
-shared-slice-read-if2-2 : tie.Need-shared-slice-read-if2-2 Inv-loop μ-loop
-shared-slice-read-if2-2 c = omega arith
-
-shared-slice-read-change : tie.Need-shared-slice-read-change Inv-loop μ-loop
-shared-slice-read-change c = omega arith
-
-shared-slice-read-change-2 : tie.Need-shared-slice-read-change-2 Inv-loop μ-loop
-shared-slice-read-change-2 c = omega arith
+shared-slice-read-b : tie.Need-shared-slice-read-b Inv-loop μ-loop
+shared-slice-read-b c = omega arith
 
 change-requires : tie.Need-change-requires Inv-loop μ-loop
 change-requires c κs = tt
@@ -52,10 +46,8 @@ unchanged-spec =
     μ-loop
     loop-holds
     returns
-    shared-slice-read-if2
-    shared-slice-read-if2-2
-    shared-slice-read-change
-    shared-slice-read-change-2
+    shared-slice-read-a
+    shared-slice-read-b
     change-requires
     add-i
     loop-less
