@@ -1,96 +1,33 @@
 /*
- * A message layer that receives two messages from one peer: a medium one, whose segments come out of
- * order and one of them twice, and a long one, for which it sends the grants that the engine writes.
- * The calls of a run are collected and handed over together. rust/embed is the same in Rust.
+ * A message layer that receives two messages of one peer: a medium one, whose last segment comes first
+ * and twice, and a long one, for which it sends the CTS that the engine writes. The packets stand here
+ * as they come off the wire. rust/embed is the same in Rust.
  */
 #include <inttypes.h>
 #include <stdio.h>
-#include <string.h>
 
 #include "quagfeather.h"
 
-enum { PEERS = 2, AREA = 256, LIMIT = 96, CALLS = 8, PEER = 1 };
+enum { PEERS = 2, AREA = 256, LIMIT = 96, PEER = 1 };
 
-/* What the layer lends at every run. */
+/* What the layer lends at every run, and keeps from one to the next. */
 static uint8_t arena[PEERS * AREA];
 static uint64_t map[PEERS * AREA / 64];
 static uint64_t state[QUAGFEATHER_STATE_WORDS];
 
-/* The calls of the next run, their packets, and a reply buffer for each. */
-static uint64_t calls[CALLS * QUAGFEATHER_CALL_WORDS];
-static uint8_t bytes[CALLS * LIMIT];
-static uint8_t replies[CALLS * QUAGFEATHER_REPLY_LENGTH];
-static size_t count, used;
+/* Type, version, flags; id; length; offset; data. */
+static const char last_segment[] =
+    "\x42\x04\x04\0" "\0\0\0\0" "\x1f\0\0\0\0\0\0\0" "\x14\0\0\0\0\0\0\0" " any order.";
+static const char first_segment[] =
+    "\x42\x04\x04\0" "\0\0\0\0" "\x1f\0\0\0\0\0\0\0" "\0\0\0\0\0\0\0\0" "Segments may come in";
+/* Type, version, flags; id; length; send_id, credit request; data. */
+static const char request[] =
+    "\x44\x04\x04\0" "\x01\0\0\0" "\x36\0\0\0\0\0\0\0" "\x07\0\0\0" "\x01\0\0\0" "A long one begins, and";
+/* Type, version, flags; recv_id; length and offset of the segment; data. */
+static const char rest[] =
+    "\x04\x04\0\0" "\x01\0\0\0" "\x20\0\0\0\0\0\0\0" "\x16\0\0\0\0\0\0\0" " goes on when it is granted more";
 
-static void call(uint64_t kind, uint64_t a, uint64_t b, uint64_t c, uint64_t d, uint64_t e)
-{
-    uint64_t words[QUAGFEATHER_CALL_WORDS] = { kind, PEER, a, b, c, d, e, 0 };
-
-    memcpy(calls + count * QUAGFEATHER_CALL_WORDS, words, sizeof words);
-    count++;
-}
-
-/* A plain receive at the start of the peer's area. */
-static void post(uint64_t capacity)
-{
-    call(QUAGFEATHER_POST, 0, 0, 0, 0, capacity);
-}
-
-/* A packet as it came off the wire; here the writer makes it. */
-static void packet(const uint64_t *values, const char *data, size_t length)
-{
-    size_t size = 0;
-    size_t reply = count * QUAGFEATHER_REPLY_LENGTH;
-    size_t refused = quagfeather_write(values, QUAGFEATHER_VALUE_WORDS, bytes, 0,
-                                       (const uint8_t *)data, length,
-                                       bytes + used, sizeof bytes - used, &size);
-
-    if (refused != 0)
-        printf("write: refused %zu\n", refused);
-    call(QUAGFEATHER_PACKET, used, size, reply, QUAGFEATHER_REPLY_LENGTH, 0);
-    used += size;
-}
-
-static void medium(uint32_t id, const char *message, size_t offset, size_t length)
-{
-    uint64_t values[QUAGFEATHER_VALUE_WORDS] = { QUAGFEATHER_MEDIUM_MSGRTM, id };
-
-    values[QUAGFEATHER_MSG_LENGTH] = strlen(message);
-    values[QUAGFEATHER_SEG_OFFSET] = offset;
-    packet(values, message + offset, length);
-}
-
-static void request(uint32_t id, const char *message, uint32_t send_id, size_t length)
-{
-    uint64_t values[QUAGFEATHER_VALUE_WORDS] = { QUAGFEATHER_LONGCTS_MSGRTM, id };
-
-    values[QUAGFEATHER_MSG_LENGTH] = strlen(message);
-    values[QUAGFEATHER_SEND_ID] = send_id;
-    values[QUAGFEATHER_CREDIT_REQUEST] = 1;
-    packet(values, message, length);
-}
-
-static void data(uint32_t id, const char *message, size_t offset, size_t length)
-{
-    uint64_t values[QUAGFEATHER_VALUE_WORDS] = { QUAGFEATHER_CTSDATA };
-
-    values[QUAGFEATHER_RECV_ID] = id;
-    values[QUAGFEATHER_SEG_LENGTH] = length;
-    values[QUAGFEATHER_SEG_OFFSET] = offset;
-    packet(values, message + offset, length);
-}
-
-/* Where a layer would send the CTS, this one says what is in it. */
-static void send_reply(const uint8_t *reply)
-{
-    uint64_t values[QUAGFEATHER_VALUE_WORDS];
-
-    if (quagfeather_read(reply, QUAGFEATHER_REPLY_LENGTH, values, QUAGFEATHER_VALUE_WORDS) == 0)
-        printf("  CTS: send_id %" PRIu64 ", recv_id %" PRIu64 ", %" PRIu64 " bytes\n",
-               values[QUAGFEATHER_SEND_ID], values[QUAGFEATHER_RECV_ID],
-               values[QUAGFEATHER_RECV_LENGTH]);
-}
-
+/* Says what was answered. A layer would send the reply; this one says which send it is for. */
 static void show(const uint64_t *answer, const uint8_t *reply)
 {
     switch (answer[0]) {
@@ -104,70 +41,70 @@ static void show(const uint64_t *answer, const uint8_t *reply)
         printf("stored\n");
         break;
     case QUAGFEATHER_GRANTED:
-        printf("granted %" PRIu64 "\n", answer[1]);
-        send_reply(reply);
+        printf("granted %" PRIu64 ", CTS for send %d\n", answer[1], reply[8]);
         break;
     case QUAGFEATHER_DONE:
-        printf("done: slot %" PRIu64 ", id %" PRIu64 ", %" PRIu64 " bytes\n  %.*s\n", answer[1],
-               answer[2], answer[3], (int)answer[3], (const char *)arena + PEER * AREA);
+        printf("done: %.*s\n", (int)answer[3], (const char *)arena + PEER * AREA);
         break;
     case QUAGFEATHER_MISSING:
-        printf("%" PRIu64 " bytes are in, the first missing is %" PRIu64 "\n", answer[1],
-               answer[2]);
+        printf("%" PRIu64 " in, first missing %" PRIu64 "\n", answer[1], answer[2]);
         break;
-    default:
-        printf("answer %" PRIu64 "\n", answer[0]);
     }
 }
 
-/* Runs the calls collected so far. */
-static void run(void)
+/* Makes one call. A layer that has several at hand lends them together. */
+static void make(const uint64_t *call, const char *packet, size_t length)
 {
-    uint64_t answers[CALLS * QUAGFEATHER_ANSWER_WORDS];
-    size_t ran = quagfeather_run(state, QUAGFEATHER_STATE_WORDS, arena, sizeof arena, map,
-                                 PEERS * AREA / 64, calls, count * QUAGFEATHER_CALL_WORDS, bytes,
-                                 used, replies, sizeof replies, answers,
-                                 CALLS * QUAGFEATHER_ANSWER_WORDS);
+    uint8_t reply[QUAGFEATHER_REPLY_LENGTH];
+    uint64_t answer[QUAGFEATHER_ANSWER_WORDS];
 
-    for (size_t i = 0; i < ran; i++)
-        show(answers + i * QUAGFEATHER_ANSWER_WORDS, replies + i * QUAGFEATHER_REPLY_LENGTH);
-    if (ran != count)
-        printf("only %zu of %zu calls were run\n", ran, count);
-    count = used = 0;
+    if (quagfeather_run(state, QUAGFEATHER_STATE_WORDS, arena, sizeof arena, map, PEERS * AREA / 64,
+                        call, QUAGFEATHER_CALL_WORDS, (const uint8_t *)packet, length,
+                        reply, sizeof reply, answer, QUAGFEATHER_ANSWER_WORDS) == 1)
+        show(answer, reply);
+    else
+        printf("no call\n");
+}
+
+/* A plain receive at the start of the peer's area. */
+static void post(uint64_t capacity)
+{
+    uint64_t call[QUAGFEATHER_CALL_WORDS] = { QUAGFEATHER_POST, PEER, 0, 0, 0, 0, capacity };
+
+    make(call, "", 0);
+}
+
+static void feed(const char *packet, size_t length)
+{
+    uint64_t call[QUAGFEATHER_CALL_WORDS] = { QUAGFEATHER_PACKET, PEER, 0, length,
+                                              0, QUAGFEATHER_REPLY_LENGTH };
+
+    make(call, packet, length);
+}
+
+static void report(uint64_t slot)
+{
+    uint64_t call[QUAGFEATHER_CALL_WORDS] = { QUAGFEATHER_REPORT, PEER, slot };
+
+    make(call, "", 0);
 }
 
 int main(void)
 {
-    const char *first = "Segments may come in any order.";
-    const char *second = "A long message begins with a request; "
-                         "the rest of its bytes are sent as the receiver grants them.";
-    size_t refused = quagfeather_set_up(PEERS, AREA, LIMIT, arena, sizeof arena, map,
-                                        PEERS * AREA / 64, state, QUAGFEATHER_STATE_WORDS);
+    printf("set-up %zu\n",
+           quagfeather_set_up(PEERS, AREA, LIMIT, arena, sizeof arena, map, PEERS * AREA / 64,
+                              state, QUAGFEATHER_STATE_WORDS));
+    post(31);
+    feed(last_segment, sizeof last_segment - 1);
+    feed(last_segment, sizeof last_segment - 1);
+    report(0);
+    feed(first_segment, sizeof first_segment - 1);
 
-    printf("set-up: %zu\n", refused);
+    post(54);
+    feed(request, sizeof request - 1);
+    feed(rest, sizeof rest - 1);
 
-    printf("a medium message\n");
-    post(strlen(first));
-    medium(0, first, 20, 11);
-    medium(0, first, 20, 11);
-    medium(0, first, 0, 10);
-    call(QUAGFEATHER_REPORT, 0, 0, 0, 0, 0);
-    medium(0, first, 10, 10);
-    run();
-
-    printf("a long message\n");
-    post(strlen(second));
-    request(1, second, 7, 20);
-    run();
-    data(1, second, 50, 34);
-    data(1, second, 20, 30);
-    run();
-    data(1, second, 84, strlen(second) - 84);
-    run();
-
-    printf("a state that can't be\n");
-    state[4] = 3;
-    call(QUAGFEATHER_REPORT, 0, 0, 0, 0, 0);
-    run();
+    state[4] = 3; /* a phase that no slot has: a state that can't be */
+    report(0);
     return 0;
 }
