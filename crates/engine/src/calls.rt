@@ -22,14 +22,14 @@ pub fn post(mut engine: Engine, peer: usize, receive: Receive, arena: &[u8], map
     let mut i: usize = 0;
     while fits && i < n {
         let other = engine.peers[i];
-        fits = other.fits(area);
+        fits = state_check::fits(other, area);
         i += 1;
     }
     let answer = match checks::gate(fits, n, area, arena.len(), map.len(), peer) {
         Gate::Shut(refusal) => Answer::Refused(refusal),
         Gate::Open => {
             let there = engine.peers[peer];
-            let step = there.post(area, receive);
+            let step = posting::post(there, area, receive);
             let after = step.peer;
             engine.peers[peer] = after;
             step.answer
@@ -56,7 +56,7 @@ pub fn packet(
     let mut i: usize = 0;
     while fits && i < n {
         let other = engine.peers[i];
-        fits = other.fits(area);
+        fits = state_check::fits(other, area);
         i += 1;
     }
     let answer = match checks::gate(fits, n, area, arena.len(), map.len(), peer) {
@@ -82,14 +82,14 @@ pub fn cancel(mut engine: Engine, peer: usize, slot: usize, arena: &[u8], map: &
     let mut i: usize = 0;
     while fits && i < n {
         let other = engine.peers[i];
-        fits = other.fits(area);
+        fits = state_check::fits(other, area);
         i += 1;
     }
     let answer = match checks::gate(fits, n, area, arena.len(), map.len(), peer) {
         Gate::Shut(refusal) => Answer::Refused(refusal),
         Gate::Open => {
             let there = engine.peers[peer];
-            let step = there.cancel(slot);
+            let step = posting::cancel(there, slot);
             let after = step.peer;
             engine.peers[peer] = after;
             step.answer
@@ -108,7 +108,7 @@ pub fn report(engine: Engine, peer: usize, slot: usize, arena: &[u8], map: &[u64
     let mut i: usize = 0;
     while fits && i < n {
         let other = engine.peers[i];
-        fits = other.fits(area);
+        fits = state_check::fits(other, area);
         i += 1;
     }
     let answer = match checks::gate(fits, n, area, arena.len(), map.len(), peer) {

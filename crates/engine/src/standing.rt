@@ -18,7 +18,7 @@ pub fn fits(engine: Engine) -> bool
     let mut i: usize = 0;
     while good && i < n {
         let other = engine.peers[i];
-        good = other.fits(area);
+        good = state_check::fits(other, area);
         i += 1;
     }
     good

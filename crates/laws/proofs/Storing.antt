@@ -15,6 +15,13 @@ module _ {A : Type 0} where
   unfolding part
   length-part l at n h = simp (length-take, length-drop) (omega arith)
 
+  -- a part as the borrow checker says it
+  pub lent-part : (l : List A) (at n : ℕ) → take (at + n - at) (drop at l) ≡ part l at n
+  unfolding part
+  lent-part l at n =
+      let e : at + n - at ≡ n = omega arith in
+      rw e
+
   pub length-store : (l : List A) (at : ℕ) (s : List A) → at + length s ≤ length l → length (storeAt l at s) ≡ length l
   unfolding storeAt
   length-store l at s h = simp (length-append, length-take, length-drop) (omega arith)

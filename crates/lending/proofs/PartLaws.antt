@@ -11,10 +11,10 @@ use Rattle.laws.specs.Parts.{part, storeAt}
 use Rattle.laws.proofs.Storing.{length-part, store-part}
 use Rattle.peer.specs.Calls.{packet, packetEffect, peerStep}
 use Rattle.peer.specs.Effects.{Effect}
-use Rattle.peer.specs.Left as own
+use Rattle.receiving.specs.Left as own
 use Rattle.peer.specs.State.{peerFits, slotCount}
 use Rattle.peer.specs.declared.types.Peer.{Peer}
-use Rattle.peer.proofs.Asking.{lent-part}
+use Rattle.laws.proofs.Storing.{lent-part}
 use Rattle.peer.proofs.Kept.{Kept, step-kept}
 use Rattle.peer.proofs.Valid.{fits-valid}
 use Rattle.lending.specs.Lending.{Lent, Owned, leavesAt}

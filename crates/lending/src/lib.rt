@@ -1,5 +1,7 @@
 // What is lent on to one peer: its own part of the arena and of the map. These serve `engine` and
 // `packed`, whose checks show what they require.
+mod reporting;
+
 use peer::Answer;
 use peer::Peer;
 use peer::Step;
@@ -30,7 +32,8 @@ pub fn packet_at(
     let words = area / 64;
     let first = p * words;
     let last = first + words;
-    there.packet(
+    receiving::packet(
+        there,
         limit,
         bytes,
         &mut arena[base..end],
@@ -47,5 +50,5 @@ pub fn report_at(there: Peer, p: usize, slot: usize, area: usize, map: &[u64]) -
     let words = area / 64;
     let first = p * words;
     let last = first + words;
-    there.report(slot, &map[first..last])
+    reporting::report(there, slot, &map[first..last])
 }

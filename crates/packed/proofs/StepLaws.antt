@@ -12,7 +12,7 @@ use Rattle.peer.specs.Calls.{packetEffect}
 use Rattle.peer.specs.Effects.{Effect, quiet}
 use Rattle.peer.specs.declared.types.Peer.{Peer}
 use Rattle.peer.specs.declared.types.Step.{Step}
-use Rattle.peer.proofs.Asking.{lent-part}
+use Rattle.laws.proofs.Storing.{lent-part}
 use Rattle.lending.specs.Lending.{Lent}
 use Rattle.lending.specs.Lending as own
 use Rattle.lending.proofs.PartLaws.{length-lent, put-store}

@@ -40,7 +40,7 @@ fn step(
     ensures { λ r. ⌜ record { step = r; arena = now (arena .exit); map = now (map .exit); reply = now (replies .exit) } ≡ leavesAt (placeOf call) area p (now (arena .entry)) (now (map .entry)) (now (replies .entry)) (peerStep area limit there (part (now (map .entry)) (p * (area / 64)) (area / 64)) (callOf (actOf (now (bytes .entry)) (now (replies .entry)) call))) ⌝ }
 {
     match call {
-        Call::Post(_, receive) => there.post(area, receive),
+        Call::Post(_, receive) => posting::post(there, area, receive),
         Call::Packet(_, at, count, place, room) => {
             let end = at + count;
             let last = place + room;
@@ -55,7 +55,7 @@ fn step(
                 &mut replies[place..last],
             )
         }
-        Call::Cancel(_, slot) => there.cancel(slot),
+        Call::Cancel(_, slot) => posting::cancel(there, slot),
         Call::Report(_, slot) => Step {
             peer: there,
             answer: lending::report_at(there, p, slot, area, map),

@@ -27,5 +27,3 @@ pub mod WordsHold
 pub mod FieldsHold
 pub mod Comparing
 pub mod SlotTurns
-pub mod CtsWritten
-pub mod Asking

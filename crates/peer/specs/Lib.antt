@@ -13,5 +13,3 @@ pub mod Claims
 pub mod Starts
 pub mod Refusing
 pub mod InWords
-pub mod Asks
-pub mod Left

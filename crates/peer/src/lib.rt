@@ -1,14 +1,6 @@
-// One peer: its slots, and what each call does to them.
-mod calls;
-mod checking;
-mod effects;
-mod incoming;
-mod judging;
-mod kinds;
-mod matching;
-mod posting;
-mod refusals;
-mod segment;
+// One peer: its slots and their steps, the definitions of its calls, and what is proved of them.
+// The code of the calls stands in `posting`, `receiving` and `lending`.
+pub mod refusals;
 mod state;
 mod types;
 

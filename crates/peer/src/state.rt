@@ -10,12 +10,31 @@ use packet::Refusal;
 ghost use mathlib.Core.Path.{_≡_};
 ghost use Prim.Native.Nat.{_<_};
 ghost use lib.ListN.{set};
-ghost use Rattle.peer.specs.State.{freshPeer, slotCount, slotWith, isFree};
+ghost use Rattle.peer.specs.State.{freshPeer, slotCount, slotWith, isFree, overlap};
 ghost use Rattle.peer.specs.Effects.{withPhase, advance};
+
+impl Receive {
+    // Whether two ranges share a byte; an empty range shares none. No sum is made, so none wraps.
+    pub fn overlaps(self, other: Receive) -> bool
+        ensures { λ r. ⌜ r ≡ overlap self other ⌝ }
+    {
+        if self.capacity == 0 {
+            return false;
+        }
+        if other.capacity == 0 {
+            return false;
+        }
+        if self.start < other.start {
+            other.start - self.start < self.capacity
+        } else {
+            self.start - other.start < other.capacity
+        }
+    }
+}
 
 impl Slot {
     // Whether the slot can take a receive.
-    pub(crate) fn is_free(self) -> bool
+    pub fn is_free(self) -> bool
         ensures { λ r. ⌜ r ≡ isFree (self .phase) ⌝ }
     {
         let phase = self.phase;
@@ -83,7 +102,7 @@ impl Peer {
     }
 
     // The peer with a slot freed.
-    pub(crate) fn freed(self, i: usize) -> Peer
+    pub fn freed(self, i: usize) -> Peer
         requires { ⌜ i < slotCount ⌝ }
         ensures { λ r. ⌜ r ≡ withPhase self i Phase.Free ⌝ }
     {
@@ -91,8 +110,17 @@ impl Peer {
         self.with_slot(i, slot.freed())
     }
 
+    // The peer with a receive of this age posted in a slot.
+    pub fn posted(self, i: usize, receive: Receive, age: u64) -> Peer
+        requires { ⌜ i < slotCount ⌝ }
+        ensures { λ r. ⌜ r ≡ withPhase self i (Phase.Posted receive age) ⌝ }
+    {
+        let slot = self.slots[i];
+        self.with_slot(i, slot.posted(receive, age))
+    }
+
     // The peer with a message open in a slot.
-    pub(crate) fn opened(self, i: usize, inbound: Inbound) -> Peer
+    pub fn opened(self, i: usize, inbound: Inbound) -> Peer
         requires { ⌜ i < slotCount ⌝ }
         ensures { λ r. ⌜ r ≡ withPhase self i (Phase.Open inbound) ⌝ }
     {
@@ -101,7 +129,7 @@ impl Peer {
     }
 
     // The peer with the next id moved on by one, round at 2^32.
-    pub(crate) fn advanced(self) -> Peer
+    pub fn advanced(self) -> Peer
         ensures { λ r. ⌜ r ≡ advance self ⌝ }
     {
         let mut peer = self;
@@ -110,7 +138,7 @@ impl Peer {
     }
 
     // The peer as it is, and a refusal.
-    pub(crate) fn refused(self, refusal: Refusal) -> Step
+    pub fn refused(self, refusal: Refusal) -> Step
         ensures { λ r. ⌜ r ≡ record { peer = self; answer = Answer.Refused refusal } ⌝ }
     {
         Step {

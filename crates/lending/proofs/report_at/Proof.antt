@@ -5,7 +5,7 @@ use mathlib.Core.Path.{_≡_}
 use native.Mathlib.Omega.{arith}
 use Rattle.peer.specs.Matching.{fits}
 use Rattle.lending.proofs.PartLaws.{length-lent}
-use Rattle.peer.proofs.Asking.{lent-part}
+use Rattle.laws.proofs.Storing.{lent-part}
 use Rattle.lending.proofs.report_at.Statement.{statement}
 use Rattle.lending.proofs.report_at.Tie as tie
 

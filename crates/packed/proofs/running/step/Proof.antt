@@ -4,7 +4,7 @@ use Rattle.packed.proofs.running.step.Statement.{statement}
 use Rattle.packed.proofs.running.step.Tie as tie
 use native.Mathlib.Omega.{arith}
 use Rattle.peer.specs.Calls.{peerStep}
-use Rattle.peer.proofs.Asking.{lent-part}
+use Rattle.laws.proofs.Storing.{lent-part}
 use Rattle.packed.proofs.StepLaws.{packet-leaves, quiet-leaves}
 
 enum-known-call : tie.Need-enum-known-call

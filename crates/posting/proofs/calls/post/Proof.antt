@@ -1,0 +1,104 @@
+-- `posting::calls::post` meets its contract.
+use Prim.Native.Nat.{_+_}
+use borrow.Author.Needs.{needs}
+use borrow.Author.Tests.{not-true, not-false}
+use lib.ListN.{length}
+use mathlib.Core.Path.{_≡_, sym, _∙_}
+use native.Mathlib.Omega.{arith}
+use Rattle.laws.specs.Choose.{pick}
+use Rattle.peer.specs.Calls.{placedIn, postEffect}
+use Rattle.peer.specs.declared.types.Phase.{Phase}
+use Rattle.peer.proofs.Comparing.{beyond, length-mapped, not-beyond}
+use Rattle.peer.proofs.Slots.{stands-at, vacant}
+use Rattle.posting.proofs.calls.post.Statement.{statement}
+use Rattle.posting.proofs.calls.post.Tie as tie
+
+ends-by-requires : tie.Need-ends-by-requires
+ends-by-requires c κs = search needs
+
+refused-requires : tie.Need-refused-requires
+refused-requires c κs = search needs
+
+returns : tie.Need-returns
+unfolding postEffect pick
+returns c = λ ws.
+    let a = c .before .before .before .args in
+    let n = a .receive .start + a .receive .capacity in
+    rw (not-beyond n (a .area) (sym (c .before .before .ends-by .ensures) ∙ not-true _ (c .before .if1 .taken)), c .refused .ensures)
+
+has-in-the-way-requires : tie.Need-has-in-the-way-requires
+has-in-the-way-requires c κs = search needs
+
+refused-requires-2 : tie.Need-refused-requires-2
+refused-requires-2 c κs = search needs
+
+returns-2 : tie.Need-returns-2
+unfolding postEffect pick
+returns-2 c = λ ws.
+    let a = c .before .before .before .before .before .args in
+    let n = a .receive .start + a .receive .capacity in
+    rw (beyond n (a .area) (sym (c .before .before .before .before .ends-by .ensures) ∙ not-false _ (c .before .before .before .if1 .left)), ← c .before .before .has-in-the-way .ensures, c .before .if2 .taken, c .refused2 .ensures)
+
+find-vacancy-requires : tie.Need-find-vacancy-requires
+find-vacancy-requires c κs = search needs
+
+enum-told : tie.Need-enum-told
+enum-told c = search needs
+
+refused-requires-3 : tie.Need-refused-requires-3
+refused-requires-3 c κs = search needs
+
+enum-known-i : tie.Need-enum-known-i
+enum-known-i c = search needs
+
+placed-requires : tie.Need-placed-requires
+placed-requires c κs =
+    let ss = c .before .before .before .before .before .before .before .before .args .peer .slots in
+    let len : length ss ≡ 8 = search length-mapped in
+    omega (arith, len, stands-at ss _ Phase.Free (vacant 0 ss _ (sym (c .before .before .before .find-vacancy .ensures) ∙ c .before .i .given .1)) .0)
+
+returns-3 : tie.Need-returns-3
+unfolding postEffect placedIn pick
+returns-3 c = λ ws.
+    let a = c .before .before .before .before .before .before .before .before .args in
+    let n = a .receive .start + a .receive .capacity in
+    rw (
+      beyond n (a .area) (sym (c .before .before .before .before .before .before .before .ends-by .ensures) ∙ not-false _ (c .before .before .before .before .before .before .if1 .left)),
+      ← c .before .before .before .before .before .has-in-the-way .ensures,
+      c .before .before .before .before .if2 .left,
+      ← c .before .before .before .find-vacancy .ensures,
+      c .before .enum-told .given .1,
+      c .refused3 .ensures,
+    )
+
+returns-4 : tie.Need-returns-4
+unfolding postEffect placedIn pick
+returns-4 c = λ ws.
+    let a = c .before .before .before .before .before .before .before .before .before .args in
+    let n = a .receive .start + a .receive .capacity in
+    rw (
+      beyond n (a .area) (sym (c .before .before .before .before .before .before .before .before .ends-by .ensures) ∙ not-false _ (c .before .before .before .before .before .before .before .if1 .left)),
+      ← c .before .before .before .before .before .before .has-in-the-way .ensures,
+      c .before .before .before .before .before .if2 .left,
+      ← c .before .before .before .before .find-vacancy .ensures,
+      c .before .before .i .given .1,
+      c .placed .ensures,
+    )
+
+pub post-spec : {M : Type 1} → statement M
+post-spec =
+    tie.close
+    (tie.spec
+    ends-by-requires
+    refused-requires
+    returns
+    has-in-the-way-requires
+    refused-requires-2
+    returns-2
+    find-vacancy-requires
+    enum-told
+    refused-requires-3
+    enum-known-i
+    placed-requires
+    returns-3
+    returns-4)

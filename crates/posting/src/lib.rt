@@ -1,0 +1,7 @@
+// Post and cancel of one peer. They serve `engine` and `packed`; nothing that is lent changes.
+mod ages;
+mod calls;
+mod places;
+
+pub use calls::cancel;
+pub use calls::post;

@@ -1,0 +1,2 @@
+pub mod CtsWritten
+pub mod Asking

@@ -1,0 +1,37 @@
+-- `receiving::grants::write_cts` meets its contract: the packet writer does not refuse a CTS that grants something, where there is room.
+use borrow.Author.Needs.{needs}
+use Rattle.receiving.proofs.CtsWritten.{cts-left}
+use Rattle.receiving.proofs.grants.write_cts.Statement.{statement}
+use Rattle.receiving.proofs.grants.write_cts.Tie as tie
+
+cts-header-requires : tie.Need-cts-header-requires
+cts-header-requires c κs = search needs
+
+slice-aggregate-write : tie.Need-slice-aggregate-write
+slice-aggregate-write c = search needs
+
+slice-aggregate-write-2 : tie.Need-slice-aggregate-write-2
+slice-aggregate-write-2 c = search needs
+
+write-requires : tie.Need-write-requires
+write-requires c κs = search needs
+
+same-length : tie.Need-same-length
+same-length c = search needs
+
+returns : tie.Need-returns
+returns c =
+    let s = c .before .before .before .before .before .before .before .before in
+    let e = rw (c .before .before .before .before .before .before .cts-header .ensures) at (c .before .before .write .ensures) in
+    cts-left (s .args .send-id) (s .args .recv-id) (s .args .recv-length) (s .args .reply .now) _ _ (s .pre .0) (s .pre .1) e
+
+pub write-cts-spec : {M : Type 1} → statement M
+write-cts-spec =
+    tie.close
+    (tie.spec
+    cts-header-requires
+    slice-aggregate-write
+    slice-aggregate-write-2
+    write-requires
+    same-length
+    returns)

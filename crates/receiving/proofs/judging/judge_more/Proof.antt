@@ -1,0 +1,23 @@
+-- `receiving::judging::judge_more` meets its contract.
+use borrow.Author.Needs.{needs}
+use Rattle.laws.specs.Choose.{pick}
+use Rattle.peer.specs.Judging.{judgeMore}
+use Rattle.receiving.proofs.judging.judge_more.Statement.{statement}
+use Rattle.receiving.proofs.judging.judge_more.Tie as tie
+
+add-at : tie.Need-add-at
+add-at c = search needs
+
+is-touched-requires : tie.Need-is-touched-requires
+is-touched-requires c κs = search needs
+
+returns : tie.Need-returns
+unfolding judgeMore pick
+returns c = rw (← c .before .is-touched .ensures, c .if1 .taken)
+
+returns-2 : tie.Need-returns-2
+unfolding judgeMore pick
+returns-2 c = rw (← c .before .is-touched .ensures, c .if1 .left)
+
+pub judge-more-spec : {M : Type 1} → statement M
+judge-more-spec = tie.close (tie.spec add-at is-touched-requires returns returns-2)

@@ -1,0 +1,28 @@
+-- `receiving::matching::older` meets its contract.
+use borrow.Author.Needs.{needs}
+use borrow.Author.Tests.{lt-ltb, le-ltb}
+use Rattle.laws.specs.Choose.{pick}
+use Rattle.peer.specs.Matching.{older}
+use Rattle.receiving.proofs.matching.older.Statement.{statement}
+use Rattle.receiving.proofs.matching.older.Tie as tie
+
+enum-told : tie.Need-enum-told
+enum-told c = search needs
+
+enum-known-best : tie.Need-enum-known-best
+enum-known-best c = search needs
+
+returns : tie.Need-returns
+unfolding older
+returns c = rw (c .enum-told .given .1)
+
+returns-2 : tie.Need-returns-2
+unfolding older pick
+returns-2 c = rw (c .before .before .best .given .1, lt-ltb _ _ (c .if1 .taken))
+
+returns-3 : tie.Need-returns-3
+unfolding older pick
+returns-3 c = rw (c .before .before .best .given .1, le-ltb _ _ (c .if1 .left))
+
+pub older-spec : {M : Type 1} → statement M
+older-spec = tie.close (tie.spec enum-told enum-known-best returns returns-2 returns-3)

@@ -1,0 +1,231 @@
+// A verdict is carried out: bytes and bits of a segment, and what it makes of its message.
+use crate::grants;
+use crate::judging;
+use crate::kinds;
+use crate::segment;
+use peer::Answer;
+use peer::Inbound;
+use peer::Incoming;
+use peer::Message;
+use peer::Peer;
+use peer::Progress;
+use peer::Receive;
+use peer::Step;
+use peer::Verdict;
+ghost use mathlib.Core.Path.{_≡_};
+ghost use mathlib.Core.List.{List};
+ghost use Prim.Native.Nat.{ℕ, _+_, _*_, _≤_, _<_};
+ghost use lib.ListN.{length};
+ghost use Rattle.receiving.specs.Asks.{Granting, Mapping, Accepting, Storing, Beginning, Carrying};
+ghost use Rattle.peer.specs.Effects.{quiet, opened, extended, progressOf, finished, granting, holding, settledAs, accept, begun, truncatedAt, carry};
+ghost use Rattle.peer.specs.Judging.{judge};
+ghost use Rattle.receiving.specs.Left.{leaves, replies};
+ghost use Rattle.peer.specs.State.{slotCount};
+
+// The message that a packet begins in this receive.
+fn opened(receive: Receive, h: Incoming) -> Inbound
+    ensures { λ r. ⌜ r ≡ opened receive h ⌝ }
+{
+    let cq_data = h.cq_data;
+    let message = Message {
+        kind: h.kind,
+        id: h.id,
+        tag: h.tag,
+        length: h.length,
+        granted: h.size,
+        send_id: h.send_id,
+        credit_request: h.credit_request,
+        cq_data,
+    };
+    Inbound {
+        receive: receive,
+        message,
+    }
+}
+
+// One search of the map: every byte is in, all that was granted is, or neither.
+fn progress(inbound: Inbound, words: &[u64]) -> Progress
+    requires { ⌜ Mapping (length (now words)) inbound ⌝ }
+    ensures { λ r. ⌜ r ≡ progressOf (now (words .entry)) inbound ⌝ }
+{
+    let receive = inbound.receive;
+    let message = inbound.message;
+    let length = message.length;
+    let first = bitmap::first_clear(words, receive.start, length);
+    if first == length {
+        return Progress::Whole;
+    }
+    if kinds::is_long(message.kind) {
+        if message.granted <= first {
+            return Progress::Due;
+        }
+    }
+    Progress::Partial
+}
+
+// The granted end moves on by n.
+fn extended(inbound: Inbound, n: usize) -> Inbound
+    requires { ⌜ inbound .message .granted + n ≤ inbound .message .length ⌝ }
+    ensures { λ r. ⌜ r ≡ extended n inbound ⌝ }
+{
+    let receive = inbound.receive;
+    let mut message = inbound.message;
+    message.granted = message.granted + n;
+    Inbound { receive, message }
+}
+
+// Every byte of the message in slot i is in: the slot is freed.
+fn finish(peer: Peer, i: usize, inbound: Inbound) -> Step
+    requires { ⌜ i < slotCount ⌝ }
+    ensures { λ r. ⌜ r ≡ record { peer = finished peer i inbound .peer; answer = finished peer i inbound .answer } ⌝ }
+{
+    let message = inbound.message;
+    let cq_data = message.cq_data;
+    Step {
+        peer: peer.freed(i),
+        answer: Answer::Done {
+            slot: i,
+            id: message.id,
+            length: message.length,
+            cq_data,
+        },
+    }
+}
+
+// The message in slot i waits for more.
+fn hold(peer: Peer, i: usize, inbound: Inbound) -> Step
+    requires { ⌜ i < slotCount ⌝ }
+    ensures { λ r. ⌜ r ≡ record { peer = holding peer i inbound .peer; answer = Answer.Stored } ⌝ }
+{
+    Step {
+        peer: peer.opened(i, inbound),
+        answer: Answer::Stored,
+    }
+}
+
+// The message in slot i is granted more: a CTS is written, and its granted end moves on.
+fn grant(peer: Peer, limit: usize, i: usize, inbound: Inbound, reply: &mut [u8]) -> Step
+    requires { ⌜ i < slotCount ⌝ }
+    requires { ⌜ Granting limit (inbound .message) ⌝ }
+    requires { ⌜ 24 ≤ length (now reply) ⌝ }
+    ensures { λ r. ⌜ record { step = r; reply = now (reply .exit) } ≡ replies (now (reply .entry)) (granting limit peer i inbound) ⌝ }
+{
+    let message = inbound.message;
+    let n = grants::grant_of(message, limit);
+    grants::write_cts(reply, message.send_id, message.id, n);
+    Step {
+        peer: peer.opened(i, extended(inbound, n)),
+        answer: Answer::Granted(n),
+    }
+}
+
+// What the map says of the message in slot i after a segment: done, granted or stored.
+fn settle(
+    peer: Peer,
+    limit: usize,
+    i: usize,
+    inbound: Inbound,
+    words: &[u64],
+    reply: &mut [u8],
+) -> Step
+    requires { ⌜ Accepting limit i inbound (64 * length (now words)) (length (now words)) (length (now reply)) ⌝ }
+    ensures { λ r. ⌜ record { step = r; reply = now (reply .exit) } ≡ replies (now (reply .entry)) (settledAs limit peer i inbound (progressOf (now (words .entry)) inbound)) ⌝ }
+{
+    match progress(inbound, words) {
+        Progress::Whole => finish(peer, i, inbound),
+        Progress::Due => grant(peer, limit, i, inbound, reply),
+        Progress::Partial => hold(peer, i, inbound),
+    }
+}
+
+// A segment is written and marked, and its message settled.
+fn accept(
+    peer: Peer,
+    limit: usize,
+    i: usize,
+    inbound: Inbound,
+    offset: usize,
+    bytes: &[u8],
+    area: &mut [u8],
+    words: &mut [u64],
+    reply: &mut [u8],
+) -> Step
+    requires { ⌜ Storing limit i inbound offset (length (now bytes)) (length (now area)) (length (now words)) (length (now reply)) ⌝ }
+    ensures { λ r. ⌜ record { step = r; area = now (area .exit); words = now (words .exit); reply = now (reply .exit) } ≡ leaves (now (area .entry)) (now (reply .entry)) (accept limit peer (now (words .entry)) i inbound offset (now (bytes .entry))) ⌝ }
+{
+    let receive = inbound.receive;
+    let at = receive.start + offset;
+    segment::write_segment(area, at, bytes);
+    bitmap::mark(words, at, bytes.len());
+    settle(peer, limit, i, inbound, words, reply)
+}
+
+// A message begins in the receive of slot i, whose bits are cleared first.
+fn begin(
+    peer: Peer,
+    limit: usize,
+    i: usize,
+    receive: Receive,
+    h: Incoming,
+    bytes: &[u8],
+    area: &mut [u8],
+    words: &mut [u64],
+    reply: &mut [u8],
+) -> Step
+    requires { ⌜ Beginning limit i receive h (length (now bytes)) (length (now area)) (length (now words)) (length (now reply)) ⌝ }
+    ensures { λ r. ⌜ record { step = r; area = now (area .exit); words = now (words .exit); reply = now (reply .exit) } ≡ leaves (now (area .entry)) (now (reply .entry)) (begun limit peer (now (words .entry)) i receive h (now (bytes .entry))) ⌝ }
+{
+    let inbound = opened(receive, h);
+    bitmap::clear(words, receive.start, receive.capacity);
+    accept(
+        peer.advanced(),
+        limit,
+        i,
+        inbound,
+        h.offset,
+        bytes,
+        area,
+        words,
+        reply,
+    )
+}
+
+// The message is longer than the receive in slot i, which is freed. The id is used up.
+fn truncate(peer: Peer, i: usize, h: Incoming) -> Step
+    requires { ⌜ i < slotCount ⌝ }
+    ensures { λ r. ⌜ ((words : List ℕ) → quiet (r .peer) words (r .answer) ≡ truncatedAt peer words i h) ⌝ }
+{
+    Step {
+        peer: peer.freed(i).advanced(),
+        answer: Answer::Truncated {
+            slot: i,
+            id: h.id,
+            length: h.length,
+        },
+    }
+}
+
+// A packet is judged, and the verdict carried out.
+pub(crate) fn carry(
+    peer: Peer,
+    limit: usize,
+    h: Incoming,
+    bytes: &[u8],
+    area: &mut [u8],
+    words: &mut [u64],
+    reply: &mut [u8],
+) -> Step
+    requires { ⌜ Carrying limit peer h (length (now bytes)) (length (now area)) (length (now words)) (length (now reply)) ⌝ }
+    ensures { λ r. ⌜ record { step = r; area = now (area .exit); words = now (words .exit); reply = now (reply .exit) } ≡ leaves (now (area .entry)) (now (reply .entry)) (carry limit peer (now (words .entry)) h (now (bytes .entry)) (judge peer (now (words .entry)) h)) ⌝ }
+{
+    match judging::judge(peer, h, words) {
+        Verdict::Refuse(refusal) => peer.refused(refusal),
+        Verdict::Truncate(i) => truncate(peer, i, h),
+        Verdict::Begin(i, receive) => {
+            begin(peer, limit, i, receive, h, bytes, area, words, reply)
+        }
+        Verdict::More(i, inbound) => {
+            accept(peer, limit, i, inbound, h.offset, bytes, area, words, reply)
+        }
+    }
+}

@@ -1,0 +1,12 @@
+// A packet of one peer: read, judged, and the verdict carried out in the peer's own area and map
+// words. It serves `lending`, whose callers' checks show what it requires.
+mod effects;
+mod grants;
+mod incoming;
+mod judging;
+mod kinds;
+mod matching;
+mod packets;
+mod segment;
+
+pub use packets::packet;

@@ -1,0 +1,24 @@
+-- `state_check::open::fits` meets its contract.
+use borrow.Author.Needs.{needs}
+use borrow.Author.Tests.{not-true, not-false, le-leb, lt-leb}
+use Rattle.peer.specs.State.{phaseFits}
+use Rattle.state_check.proofs.open.fits.Statement.{statement}
+use Rattle.state_check.proofs.open.fits.Tie as tie
+
+ends-by-requires : tie.Need-ends-by-requires
+ends-by-requires c κs = search needs
+
+returns : tie.Need-returns
+unfolding phaseFits
+returns c = rw (← c .before .ends-by .ensures, not-true (c .before .ends-by .result) (c .if1 .taken))
+
+returns-2 : tie.Need-returns-2
+unfolding phaseFits
+returns-2 c = rw (← c .before .before .before .before .ends-by .ensures, not-false (c .before .before .before .before .ends-by .result) (c .before .before .before .if1 .left), lt-leb _ _ (c .if2 .taken))
+
+returns-3 : tie.Need-returns-3
+unfolding phaseFits
+returns-3 c = rw (← c .before .before .before .before .before .ends-by .ensures, not-false (c .before .before .before .before .before .ends-by .result) (c .before .before .before .before .if1 .left), le-leb _ _ (c .before .if2 .left))
+
+pub fits-spec : {M : Type 1} → statement M
+fits-spec = tie.close (tie.spec ends-by-requires returns returns-2 returns-3)

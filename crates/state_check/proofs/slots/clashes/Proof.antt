@@ -1,0 +1,43 @@
+-- `state_check::slots::clashes` meets its contract.
+use borrow.Author.Needs.{needs}
+use Rattle.peer.specs.State.{clash}
+use Rattle.state_check.proofs.slots.clashes.Statement.{statement}
+use Rattle.state_check.proofs.slots.clashes.Tie as tie
+
+enum-told : tie.Need-enum-told
+enum-told c = search needs
+
+enum-known-phase : tie.Need-enum-known-phase
+enum-known-phase c = search needs
+
+clashes-posted-requires : tie.Need-clashes-posted-requires
+clashes-posted-requires c κs = search needs
+
+enum-known-phase-2 : tie.Need-enum-known-phase-2
+enum-known-phase-2 c = search needs
+
+clashes-open-requires : tie.Need-clashes-open-requires
+clashes-open-requires c κs = search needs
+
+returns : tie.Need-returns
+unfolding clash
+returns c = rw (c .enum-told .given .1)
+
+returns-2 : tie.Need-returns-2
+returns-2 c = rw (c .before .before .phase .given .1, c .clashes-posted .ensures)
+
+returns-3 : tie.Need-returns-3
+returns-3 c = rw (c .before .before .phase2 .given .1, c .clashes-open .ensures)
+
+pub clashes-spec : {M : Type 1} → statement M
+clashes-spec =
+    tie.close
+    (tie.spec
+    enum-told
+    enum-known-phase
+    clashes-posted-requires
+    enum-known-phase-2
+    clashes-open-requires
+    returns
+    returns-2
+    returns-3)
