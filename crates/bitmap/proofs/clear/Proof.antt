@@ -1,22 +1,15 @@
--- `bitmap::clear` meets its contract. The loop's invariant: i is at a word's start, or at the range's end;
--- the words from i on are as they were; and what is left to clear from i on is what was left where the loop began.
-use Prim.Native.Nat.{ℕ, _+_, _-_, _*_, _/_, _%_, _^_, _≤_, _<_, min}
-use lib.ListN.{length, getD, length-set}
-use lib.Seq.{getD-set-other}
-use mathlib.Core.Path.{_≡_, refl, sym, _∙_}
+-- `bitmap::clear` meets its contract. The loop over the whole words keeps `Filling`.
+use Prim.Native.Nat.{_+_, _-_, _/_}
+use mathlib.Core.Path.{refl, _∙_}
 use native.Mathlib.Omega.{arith}
 use Rattle.bitmap.specs.Map.{cleared}
+use Rattle.bitmap.proofs.Filling.{Filling, filling-end, filling-turn}
 use Rattle.bitmap.proofs.Stores.{clear-split, clear-whole}
 use Rattle.bitmap.proofs.clear.Statement.{statement}
 use Rattle.bitmap.proofs.clear.Tie as tie
 
 abbrev Inv-loop : tie.InvT-loop
-Inv-loop map₀ at n end head i₀ map i =
-    (i ≤ end)
-    × (i % 64 + min 64 (end - i) ≤ 64)
-    × (length map ≡ length map₀)
-    × ((k : ℕ) → i ≤ 64 * k → getD map k 0 ≡ getD map₀ k 0)
-    × (cleared map₀ i₀ (end - i₀) ≡ cleared map i (end - i))
+Inv-loop map₀ at n end head i₀ map i = Filling cleared map₀ i₀ end map i
 
 abbrev μ-loop : tie.MeasureT-loop
 μ-loop map₀ at n end head i₀ map i = end - i
@@ -55,17 +48,8 @@ loop-again : tie.Need-loop-again Inv-loop μ-loop
 loop-again c =
     let l = c .before .loop in
     let a = c .before .before .before .before .before .before .before .before .args in
-    let z : l .i % 64 ≡ 0 = omega arith in
-    let h : l .i / 64 < length (l .map) = omega arith in
-    let same = l .inv .3 (l .i / 64) (omega arith) in
-    let fits : getD (l .map) (l .i / 64) 0 < 2 ^ 64 = rw same (c .before .before .slice-known2 .given (l .i / 64) .fits) in
-    let e : a .at + a .n - (l .i + 64) ≡ a .at + a .n - l .i - 64 = omega arith in (
-      omega arith,
-      omega arith,
-      simp length-set (l .inv .2),
-      λ k g. getD-set-other (l .map) (l .i / 64) k _ 0 (λ x. omega arith) ∙ l .inv .3 k (omega arith),
-      l .inv .4 ∙ rw (clear-whole (l .map) (l .i) z fits h, e) (clear-split (l .map) (l .i) 64 (a .at + a .n - l .i) (omega arith)),
-    )
+    filling-turn cleared 0 clear-split clear-whole _ (l .map) _ (a .at + a .n) (l .i) (omega arith) (omega arith)
+    (c .before .before .slice-known2 .given (l .i / 64) .fits) (l .inv)
 
 sub-clear-part : tie.Need-sub-clear-part Inv-loop μ-loop
 sub-clear-part c = omega arith
@@ -80,11 +64,9 @@ returns : tie.Need-returns Inv-loop μ-loop
 returns c =
     let a = c .before .before .before .before .before .before .before .before .before .before .before .before .args in
     let s = c .before .before .before .before .before .before .before .before in
-    let k = s .before .before .in-word .result in
-    let e : a .at + a .n - (a .at + k) ≡ a .n - k = omega arith in
+    let l = c .before .before .before .before .before .loop in
     c .before .before .clear-part2 .ensures
-    ∙ sym (c .before .before .before .before .before .loop .inv .4)
-    ∙ rw (s .clear-part .ensures, e) (sym (clear-split (a .map .now) (a .at) k (a .n) (omega arith)))
+    ∙ filling-end cleared 0 clear-split clear-whole (a .map .now) _ (l .map) (a .at) (s .before .before .in-word .result) (a .n) (l .i) (omega arith) (s .clear-part .ensures) (l .inv)
 
 pub clear-spec : {M : Type 1} → statement M
 clear-spec =
