@@ -10,7 +10,7 @@ use Rattle.engine.specs.Left.{Left, leaves, world}
 use Rattle.lending.specs.Lending.{Lent, leavesAt}
 use Rattle.engine.specs.Steps.{World, peerTurn, putBack, refusedTurn, withPeer, wordsOf}
 use Rattle.engine.specs.declared.types.Engine.{Engine}
-use Rattle.packet.specs.declared.types.Refusal.{Refusal}
+use Rattle.protocol.specs.declared.types.Refusal.{Refusal}
 use Rattle.peer.specs.Calls.{Call, packet, packetEffect, peerStep}
 use Rattle.peer.specs.Effects.{quiet}
 use Rattle.peer.specs.State.{freshPeer}

@@ -18,7 +18,7 @@ use Rattle.engine.specs.Steps.{World, badLent, badPeer, badState, callTu
 use Rattle.engine.specs.declared.types.Engine.{Engine}
 use Rattle.engine.specs.declared.types.Gate.{Gate}
 use Rattle.laws.specs.Choose.{pick}
-use Rattle.packet.specs.declared.types.Refusal.{Refusal}
+use Rattle.protocol.specs.declared.types.Refusal.{Refusal}
 use Rattle.peer.specs.Calls.{Call}
 use Rattle.peer.specs.Matching.{fits}
 use Rattle.peer.specs.State.{peerFits}

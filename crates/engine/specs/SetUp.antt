@@ -5,8 +5,8 @@ use mathlib.Core.Bool.{Bool, true, _&&_}
 use lib.ListN.{length, getD, take, replicate}
 use lib.Dec.{leb, eqb}
 use Rattle.laws.specs.Choose.{pick}
-use Rattle.packet.specs.declared.types.Refusal.{Refusal}
-use Rattle.packet.specs.Refusals.{refusal}
+use Rattle.protocol.specs.declared.types.Refusal.{Refusal}
+use Rattle.protocol.specs.Refusals.{refusal}
 use Rattle.peer.specs.declared.types.Peer.{Peer}
 use Rattle.peer.specs.State.{freshPeer, peerFits}
 use Rattle.engine.specs.declared.types.Engine.{Engine}

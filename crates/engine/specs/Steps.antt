@@ -5,8 +5,8 @@ use lib.ListN.{length, set}
 use lib.Dec.{ltb}
 use Rattle.laws.specs.Choose.{pick}
 use Rattle.laws.specs.Parts.{part, storeAt}
-use Rattle.packet.specs.declared.types.Refusal.{Refusal}
-use Rattle.packet.specs.Refusals.{refusal}
+use Rattle.protocol.specs.declared.types.Refusal.{Refusal}
+use Rattle.protocol.specs.Refusals.{refusal}
 use Rattle.peer.specs.declared.types.Peer.{Peer}
 use Rattle.peer.specs.declared.types.Answer.{Answer}
 use Rattle.peer.specs.Calls.{Call, peerStep}

@@ -1,7 +1,7 @@
 // The checks on numbers and lengths. Those that look at peers stand in the calls, where the engine is.
 use crate::types::Engine;
 use crate::types::Gate;
-use packet::Refusal;
+use protocol::Refusal;
 ghost use mathlib.Core.Path.{_≡_};
 ghost use mathlib.Core.Bool.{true};
 ghost use Rattle.engine.specs.Gates.{Small, gateOf};

@@ -1,7 +1,7 @@
 // The state of the whole engine, and what its calls answer.
-use packet::Refusal;
 use peer::Answer;
 use peer::Peer;
+use protocol::Refusal;
 
 // All peers, of which the first n are in use, with the other set-up numbers: bytes of an area,
 // and the longest packet.

@@ -2,8 +2,8 @@
 use crate::drive::FILL;
 use engine::Ready;
 use libc::STDOUT_FILENO;
-use packet::CqData;
 use peer::Answer;
+use protocol::CqData;
 ghost use Prim.Native.Nat.{_<_};
 ghost use lib.ListN.{length};
 

@@ -18,7 +18,7 @@ use Rattle.guarantees.specs.Refusals.{NeverBadState, RefusedLeavesAll, R
 use Rattle.guarantees.specs.Runs.{Act, bufferOf, callOf, cancel, freshWorld, packet, post, report, turnOf, worldAfter}
 use Rattle.laws.specs.Choose.{pick}
 use Rattle.laws.specs.Parts.{storeAt}
-use Rattle.packet.specs.declared.types.Refusal.{Refusal}
+use Rattle.protocol.specs.declared.types.Refusal.{Refusal}
 use Rattle.peer.specs.Effects.{Effect, refuse}
 use Rattle.peer.specs.Refusing.{among, refusalsOf}
 use Rattle.peer.specs.State.{freshPeer}

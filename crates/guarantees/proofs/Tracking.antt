@@ -11,7 +11,7 @@ use Rattle.engine.specs.Steps.{Turn, World, callTurn, putBack, wordsOf}
 use Rattle.guarantees.specs.Delivery.{Writes, demanded}
 use Rattle.guarantees.specs.Runs.{Act, Request, Seen, bufferOf, bytesSeen, callOf, cancel, packet, post, replySeen, report, seenAt, turnOf}
 use Rattle.laws.specs.Parts.{part, storeAt}
-use Rattle.packet.specs.declared.types.CqData.{CqData}
+use Rattle.protocol.specs.declared.types.CqData.{CqData}
 use Rattle.peer.specs.Calls.{peerStep}
 use Rattle.peer.specs.Coverage.{Segment, byteOf, bytesFrom, inside}
 use Rattle.peer.specs.Effects.{Effect}

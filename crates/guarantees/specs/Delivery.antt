@@ -11,9 +11,9 @@ use Rattle.engine.specs.declared.types.Ready.{Ready}
 use Rattle.guarantees.specs.Runs.{Request, Seen, callOf, callsOf, freshWorld, noStarts, observe, turnOf}
 use Rattle.laws.specs.Choose.{pick}
 use Rattle.laws.specs.Parts.{storeAt}
-use Rattle.packet.specs.Reading.{readOf}
-use Rattle.packet.specs.declared.types.Packet.{Packet}
-use Rattle.packet.specs.declared.types.Read.{Read}
+use Rattle.protocol.specs.Reading.{readOf}
+use Rattle.protocol.specs.declared.types.Packet.{Packet}
+use Rattle.protocol.specs.declared.types.Read.{Read}
 use Rattle.peer.specs.Calls.{Call}
 use Rattle.peer.specs.Claims.{BytesClaim, Distinct, DoneClaim, GrantClaim, InOrder, WriteClaim, isDone, isMatch, receivesOf, takes}
 use Rattle.peer.specs.Expected.{expected, expectedBytes, expectedReply, targetOfCall}

@@ -5,7 +5,7 @@ use mathlib.Core.Path.{_≡_}
 use mathlib.Core.List.{List, _∷_}
 use mathlib.Core.Bool.{true}
 use lib.ListN.{length}
-use Rattle.packet.specs.declared.types.Refusal.{Refusal}
+use Rattle.protocol.specs.declared.types.Refusal.{Refusal}
 use Rattle.peer.specs.declared.types.Answer.{Answer}
 use Rattle.peer.specs.Refusing.{refusalsOf, among}
 use Rattle.engine.specs.declared.types.Ready.{Ready}

@@ -7,7 +7,7 @@ use mathlib.Core.Path.{_≡_, sym, ap, subst, _∙_}
 use native.Mathlib.Omega.{arith}
 use Rattle.laws.specs.Parts.{storeAt}
 use Rattle.laws.proofs.Storing.{length-store, store-nothing}
-use Rattle.packet.specs.declared.types.Refusal.{Refusal}
+use Rattle.protocol.specs.declared.types.Refusal.{Refusal}
 use Rattle.peer.specs.Calls.{peerStep}
 use Rattle.peer.specs.State.{freshPeer}
 use Rattle.peer.specs.declared.types.Answer.{Answer}

@@ -16,7 +16,7 @@ use Rattle.engine.specs.declared.types.Engine.{Engine}
 use Rattle.engine.specs.declared.types.Gate.{Gate}
 use Rattle.engine.proofs.Walking.{Passed, fit-numbers, fit-peer, gate-open, owned, small, through}
 use Rattle.engine.proofs.Worlds.{Good, good-called, good-fits}
-use Rattle.packet.specs.declared.types.Refusal.{Refusal}
+use Rattle.protocol.specs.declared.types.Refusal.{Refusal}
 use Rattle.packed.specs.Running.{Eights}
 
 pub record Standing (good : Bool) (e : Engine) : Type 0 where

@@ -1,7 +1,7 @@
 -- An answer as eight words: its number, then what it says in 01's order, then zeros.
 use Prim.Native.Nat.{ℕ}
 use mathlib.Core.List.{List, [], _∷_}
-use Rattle.packet.specs.declared.types.CqData.{CqData}
+use Rattle.protocol.specs.declared.types.CqData.{CqData}
 use Rattle.peer.specs.declared.types.Answer.{Answer}
 use Rattle.words.specs.Presence.{cqBit, cqValue}
 

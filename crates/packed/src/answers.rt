@@ -1,6 +1,6 @@
 // An answer, as eight words.
-use packet::CqData;
 use peer::Answer;
+use protocol::CqData;
 ghost use mathlib.Core.Path.{_≡_};
 ghost use Rattle.packed.specs.Answers.{doneWords, answerWords};
 

@@ -1,11 +1,11 @@
 // Flags of a packet.
-use crate::table::TypeRow;
-use crate::types::Connid;
-use crate::types::CqData;
-use crate::types::Header;
+use protocol::Connid;
+use protocol::CqData;
+use protocol::Header;
+use protocol::TypeRow;
 ghost use mathlib.Core.Path.{_≡_};
 ghost use Prim.Native.Nat.{_<_, _≤_};
-ghost use Rattle.packet.specs.Flags.{hasFlag, flagsFit, flagsOf, rawAddressBit, cqDataBit, connidBit};
+ghost use Rattle.protocol.specs.Flags.{hasFlag, flagsFit, flagsOf, rawAddressBit, cqDataBit, connidBit};
 
 pub(crate) const RAW_ADDRESS: u16 = 0x1;
 

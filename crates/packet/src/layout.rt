@@ -1,13 +1,13 @@
 // The fields of each type, read from a packet and written into one.
-use crate::table::Shape;
-use crate::table::TypeRow;
-use crate::types::Fields;
+use protocol::Fields;
+use protocol::Shape;
+use protocol::TypeRow;
 ghost use mathlib.Core.Path.{_≡_};
 ghost use Prim.Native.Nat.{_≤_};
 ghost use lib.ListN.{length};
 ghost use Rattle.laws.specs.Parts.{storeAt};
-ghost use Rattle.packet.specs.Layout.{untagged, layout, fieldsAt, fieldsIn, fieldBytes, noFields};
-ghost use Rattle.packet.specs.Rules.{Sound};
+ghost use Rattle.protocol.specs.Layout.{untagged, layout, fieldsAt, fieldsIn, fieldBytes, noFields};
+ghost use Rattle.protocol.specs.Rules.{Sound};
 
 // No field has a number yet.
 fn none() -> Fields

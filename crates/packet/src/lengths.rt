@@ -1,8 +1,8 @@
 // The rules on a packet's lengths.
-use crate::table::Shape;
-use crate::types::Fields;
+use protocol::Fields;
+use protocol::Shape;
 ghost use mathlib.Core.Path.{_≡_};
-ghost use Rattle.packet.specs.Lengths.{lengthsFit};
+ghost use Rattle.protocol.specs.Lengths.{lengthsFit};
 
 // Whether a packet may have these numbers and so many bytes of data.
 pub(crate) fn fit(shape: Shape, fields: Fields, size: usize) -> bool

@@ -3,18 +3,18 @@
 use crate::flags;
 use crate::flags::CONNID;
 use crate::flags::CQ_DATA;
-use crate::table::TypeRow;
-use crate::types::Connid;
-use crate::types::CqData;
+use protocol::Connid;
+use protocol::CqData;
+use protocol::TypeRow;
 ghost use mathlib.Core.Path.{_≡_};
 ghost use mathlib.Core.Bool.{true};
 ghost use Prim.Native.Nat.{_+_, _≤_, _<_, _^_};
 ghost use lib.ListN.{length};
 ghost use Rattle.laws.specs.Parts.{storeAt};
-ghost use Rattle.packet.specs.Flags.{hasFlag, cqDataFlag, connidFlag};
-ghost use Rattle.packet.specs.Options.{rawAddressBytes, cqDataBytes, connidBytes, multiuseBytes, cqDataIn, connidIn};
+ghost use Rattle.protocol.specs.Flags.{hasFlag, cqDataFlag, connidFlag};
+ghost use Rattle.protocol.specs.Options.{rawAddressBytes, cqDataBytes, connidBytes, multiuseBytes, cqDataIn, connidIn};
 ghost use Rattle.wire.specs.LittleEndian.{leBytes};
-ghost use Rattle.packet.specs.Rules.{Sound, NumberWidth};
+ghost use Rattle.protocol.specs.Rules.{Sound, NumberWidth};
 
 pub(crate) fn read_cq_data(flags: u16, bytes: &[u8], at: usize) -> CqData
     requires { ⌜ (hasFlag flags cqDataFlag ≡ true → at + 8 ≤ length (now bytes)) ⌝ }

@@ -3,25 +3,14 @@ use crate::flags;
 use crate::flags::CONNID;
 use crate::flags::CQ_DATA;
 use crate::flags::RAW_ADDRESS;
-use crate::table::TypeRow;
-use crate::types::Span;
+use protocol::Extent;
+use protocol::Sections;
+use protocol::Span;
+use protocol::TypeRow;
 ghost use mathlib.Core.Path.{_≡_};
 ghost use Prim.Native.Nat.{_<_, _^_};
-ghost use Rattle.packet.specs.Sections.{cqDataLength, connidLength, connidAt, sectionsFrom, extentOf};
-ghost use Rattle.packet.specs.Rules.{Sound};
-
-// The raw address, and where CQ data, connid and data begin.
-pub struct Sections {
-    pub raw: Span,
-    pub cq_at: usize,
-    pub connid_at: usize,
-    pub data_at: usize,
-}
-
-pub enum Extent {
-    Whole(Sections),
-    Cut,
-}
+ghost use Rattle.protocol.specs.Sections.{cqDataLength, connidLength, connidAt, sectionsFrom, extentOf};
+ghost use Rattle.protocol.specs.Rules.{Sound};
 
 // The bytes that CQ data and connid take where they are flagged.
 pub(crate) fn cq_data_length(flags: u16) -> usize

@@ -2,36 +2,31 @@
 use crate::flags;
 use crate::layout;
 use crate::lengths;
+use crate::limits::ABOVE_LIMIT;
+use crate::limits::BAD_FLAGS;
+use crate::limits::BAD_LENGTH;
+use crate::limits::BAD_TYPE;
+use crate::limits::LIMIT;
+use crate::limits::NO_ROOM;
+use crate::limits::VERSION;
 use crate::options;
 use crate::sections;
 use crate::table;
-use crate::table::Found;
-use crate::table::TypeRow;
-use crate::types::ABOVE_LIMIT;
-use crate::types::BAD_FLAGS;
-use crate::types::BAD_LENGTH;
-use crate::types::BAD_TYPE;
-use crate::types::Header;
-use crate::types::LIMIT;
-use crate::types::NO_ROOM;
-use crate::types::Refusal;
-use crate::types::VERSION;
-use crate::types::Written;
+use protocol::Found;
+use protocol::Header;
+use protocol::Length;
+use protocol::Refusal;
+use protocol::TypeRow;
+use protocol::Written;
 ghost use mathlib.Core.Path.{_≡_};
 ghost use Prim.Native.Nat.{_≤_, _+_};
 ghost use lib.ListN.{length};
 ghost use Rattle.laws.specs.Parts.{storeAt};
-ghost use Rattle.packet.specs.Flags.{flagsOf};
-ghost use Rattle.packet.specs.Writing.{baseBytes, mandatoryBytes, packetBytes, writeAs, writeOf};
-ghost use Rattle.packet.specs.Refusals.{refusal};
-ghost use Rattle.packet.specs.Totals.{headLength, limitedTo, totalOf};
-ghost use Rattle.packet.specs.Rules.{Sound};
-
-// A packet's length, if the limit allows it.
-pub enum Length {
-    Bytes(usize),
-    Above,
-}
+ghost use Rattle.protocol.specs.Flags.{flagsOf};
+ghost use Rattle.protocol.specs.Writing.{baseBytes, mandatoryBytes, packetBytes, writeAs, writeOf};
+ghost use Rattle.protocol.specs.Refusals.{refusal};
+ghost use Rattle.protocol.specs.Totals.{headLength, limitedTo, totalOf};
+ghost use Rattle.protocol.specs.Rules.{Sound};
 
 fn refused(number: u8) -> Written
     ensures { λ r. ⌜ r ≡ Written.Refused (refusal number) ⌝ }

@@ -2,7 +2,7 @@
 use crate::print::number;
 use crate::print::numbers;
 use crate::print::text;
-use packet::Fields;
+use protocol::Fields;
 
 // Table 3.6.
 fn cts(f: Fields) {

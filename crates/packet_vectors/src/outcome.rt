@@ -1,12 +1,12 @@
 // A vector is read, or values are written, and one line says what came of it.
 use crate::fields;
 use crate::print;
-use packet::Header;
-use packet::Packet;
-use packet::Read;
-use packet::Refusal;
-use packet::Span;
-use packet::Written;
+use protocol::Header;
+use protocol::Packet;
+use protocol::Read;
+use protocol::Refusal;
+use protocol::Span;
+use protocol::Written;
 
 // What a buffer holds before a packet is written to it.
 pub(crate) const FILL: u8 = 0xEE;

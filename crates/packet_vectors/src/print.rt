@@ -1,9 +1,9 @@
 // Words and numbers of a line on standard output. A name is given with the spaces around it.
 use crate::words::word;
 use libc::STDOUT_FILENO;
-use packet::Connid;
-use packet::CqData;
-use packet::Span;
+use protocol::Connid;
+use protocol::CqData;
+use protocol::Span;
 
 pub(crate) fn text(bytes: &[u8]) {
     io::write_all(STDOUT_FILENO, bytes);

@@ -9,10 +9,10 @@ use crate::words::find;
 use crate::words::number;
 use crate::words::others;
 use crate::words::word;
-use packet::Connid;
-use packet::CqData;
-use packet::Fields;
-use packet::Header;
+use protocol::Connid;
+use protocol::CqData;
+use protocol::Fields;
+use protocol::Header;
 
 // The largest number of 64 bits: a field may have any.
 const ANY: u64 = 18446744073709551615;

@@ -1,6 +1,6 @@
 -- A connid in two words: 1 and its value, or 0 and 0.
 use Prim.Native.Nat.{ℕ}
-use Rattle.packet.specs.declared.types.Connid.{Connid}
+use Rattle.protocol.specs.declared.types.Connid.{Connid}
 
 abbrev pub connidBit : Connid → ℕ
 connidBit Connid.Absent = 0

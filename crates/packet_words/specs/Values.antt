@@ -6,15 +6,15 @@ use lib.ListN.{length, getD}
 use lib.Dec.{leb, eqb}
 use Rattle.laws.specs.Choose.{pick}
 use Rattle.laws.specs.Parts.{storeAt}
-use Rattle.packet.specs.declared.types.Connid.{Connid}
-use Rattle.packet.specs.declared.types.CqData.{CqData}
-use Rattle.packet.specs.declared.types.Fields.{Fields}
-use Rattle.packet.specs.declared.types.Header.{Header}
-use Rattle.packet.specs.declared.types.Packet.{Packet}
-use Rattle.packet.specs.declared.types.Read.{Read}
-use Rattle.packet.specs.declared.types.Written.{Written}
-use Rattle.packet.specs.Reading.{readOf}
-use Rattle.packet.specs.Writing.{writeOf}
+use Rattle.protocol.specs.declared.types.Connid.{Connid}
+use Rattle.protocol.specs.declared.types.CqData.{CqData}
+use Rattle.protocol.specs.declared.types.Fields.{Fields}
+use Rattle.protocol.specs.declared.types.Header.{Header}
+use Rattle.protocol.specs.declared.types.Packet.{Packet}
+use Rattle.protocol.specs.declared.types.Read.{Read}
+use Rattle.protocol.specs.declared.types.Written.{Written}
+use Rattle.protocol.specs.Reading.{readOf}
+use Rattle.protocol.specs.Writing.{writeOf}
 use Rattle.words.specs.Presence.{bitOf, cqBit, cqValue}
 use Rattle.packet_words.specs.Presence.{connidBit, connidValue}
 

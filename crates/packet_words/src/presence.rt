@@ -1,5 +1,5 @@
 // A connid, in two words: whether it is there, and its value, or 0.
-use packet::Connid;
+use protocol::Connid;
 ghost use mathlib.Core.Path.{_≡_};
 ghost use Rattle.packet_words.specs.Presence.{connidBit, connidValue};
 

@@ -4,8 +4,8 @@ use crate::types::FEW_WORDS;
 use crate::types::LIMIT;
 use crate::types::TAKEN;
 use crate::types::VALUES;
-use packet::Packet;
-use packet::Read;
+use protocol::Packet;
+use protocol::Read;
 ghost use mathlib.Core.Path.{_≡_};
 ghost use Rattle.packet_words.specs.Values.{valueWords, readInto};
 

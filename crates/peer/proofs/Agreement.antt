@@ -11,9 +11,9 @@ use native.Mathlib.Omega.{arith}
 use Rattle.bitmap.specs.Map.{cleared, countSet, firstClear, marked}
 use Rattle.bitmap.specs.Offsets.{firstNot}
 use Rattle.laws.specs.Choose.{pick}
-use Rattle.packet.specs.Reading.{readOf}
-use Rattle.packet.specs.Values.{bytesAt}
-use Rattle.packet.specs.declared.types.Read.{Read}
+use Rattle.protocol.specs.Reading.{readOf}
+use Rattle.protocol.specs.Values.{bytesAt}
+use Rattle.protocol.specs.declared.types.Read.{Read}
 use Rattle.peer.specs.Calls.{Call, cancel, cancelAt, cancelEffect, packet, packetEffect, peerStep, placedIn, post, postEffect, readEffect, report, reportAt, reportEffect}
 use Rattle.peer.specs.Coverage.{Segment, allOf, covers}
 use Rattle.peer.specs.Effects.{Effect, accept, advance, begun, carry, grantOf, opened, progressOf, settledAs, truncatedAt}

@@ -9,24 +9,24 @@ use mathlib.Core.Logic.{⊎-elim}
 use mathlib.Core.Path.{_≡_, refl, sym, ap, _∙_, subst}
 use native.Mathlib.Omega.{arith}
 use Rattle.laws.specs.Choose.{pick}
-use Rattle.packet.specs.Layout.{fieldsAt, fieldsIn, layout, numberAt, tag, untagged}
-use Rattle.packet.specs.Lengths.{lengthsFit}
-use Rattle.packet.specs.Reading.{headerIn, packetIn, readOf}
-use Rattle.packet.specs.Types.{row, rowIn, rowOf, rows}
-use Rattle.packet.specs.declared.table.Found.the-variants.{Row}
-use Rattle.packet.specs.declared.table.Shape.{Shape}
-use Rattle.packet.specs.declared.table.Shape.the-variants.{Cts, CtsData, Eager, LongCts, Medium}
-use Rattle.packet.specs.declared.table.TypeRow.{TypeRow}
-use Rattle.packet.specs.declared.types.Packet.{Packet}
-use Rattle.packet.specs.declared.types.Read.{Read}
+use Rattle.protocol.specs.Layout.{fieldsAt, fieldsIn, layout, numberAt, tag, untagged}
+use Rattle.protocol.specs.Lengths.{lengthsFit}
+use Rattle.protocol.specs.Reading.{headerIn, packetIn, readOf}
+use Rattle.protocol.specs.Types.{row, rowIn, rowOf, rows}
+use Rattle.protocol.specs.declared.table.Found.the-variants.{Row}
+use Rattle.protocol.specs.declared.table.Shape.{Shape}
+use Rattle.protocol.specs.declared.table.Shape.the-variants.{Cts, CtsData, Eager, LongCts, Medium}
+use Rattle.protocol.specs.declared.table.TypeRow.{TypeRow}
+use Rattle.protocol.specs.declared.types.Packet.{Packet}
+use Rattle.protocol.specs.declared.types.Read.{Read}
 use Rattle.peer.specs.InWords.{ReadAsTheTableSays, Told}
 use Rattle.peer.specs.Incomings.{incomingOf}
 use Rattle.peer.specs.declared.types.Incoming.{Incoming}
 use Rattle.wire.specs.LittleEndian.{leAt}
 use Rattle.laws.proofs.Choosing.{and-right, or-cases}
-use Rattle.packet.proofs.Accepted.{ReadAs, as-read, dataFrom, packetOf}
-use Rattle.packet.proofs.Served.{served-read}
-use Rattle.packet.proofs.TableRule.{row-kind, row-passes}
+use Rattle.protocol.proofs.Accepted.{ReadAs, as-read, dataFrom, packetOf}
+use Rattle.protocol.proofs.Served.{served-read}
+use Rattle.protocol.proofs.TableRule.{row-kind, row-passes}
 
 -- an even type is not tagged, and is read with tag 0
 even-plain : (k : ℕ) (r : TypeRow) → rowOf k ≡ Row r → k % 2 ≡ 0 → r .tagged ≡ false

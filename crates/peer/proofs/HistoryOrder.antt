@@ -4,8 +4,8 @@ use mathlib.Core.Bool.{true, false, false≢true}
 use mathlib.Core.List.{List}
 use mathlib.Core.Path.{_≡_, sym, ap, _∙_}
 use native.Mathlib.Omega.{arith}
-use Rattle.packet.specs.Reading.{readOf}
-use Rattle.packet.specs.declared.types.Packet.{Packet}
+use Rattle.protocol.specs.Reading.{readOf}
+use Rattle.protocol.specs.declared.types.Packet.{Packet}
 use Rattle.peer.specs.Calls.{packet}
 use Rattle.peer.specs.Claims.{InOrder, MatchedInOrder, history}
 use Rattle.peer.specs.Expected.{expected}

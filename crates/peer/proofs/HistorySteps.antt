@@ -5,8 +5,8 @@ use mathlib.Core.List.{List, [], _∷_}
 use mathlib.Core.Logic.{⊎-elim}
 use mathlib.Core.Path.{_≡_, refl, sym, ap, subst}
 use native.Mathlib.Omega.{arith}
-use Rattle.packet.specs.Reading.{readOf}
-use Rattle.packet.specs.declared.types.Read.{Read}
+use Rattle.protocol.specs.Reading.{readOf}
+use Rattle.protocol.specs.declared.types.Read.{Read}
 use Rattle.peer.specs.Calls.{Call, cancel, packet, post, report}
 use Rattle.peer.specs.Claims.{history, plainAfter, takes}
 use Rattle.peer.specs.Expected.{expected, targetOfCall, targetOfRead}

@@ -8,10 +8,10 @@ use mathlib.Core.List.{List}
 use mathlib.Core.Path.{_≡_, refl, sym, ap, ap₂, _∙_}
 use native.Mathlib.Omega.{arith}
 use Rattle.bitmap.specs.Map.{cleared, marked}
-use Rattle.packet.specs.Reading.{readOf}
-use Rattle.packet.specs.Values.{bytesAt}
-use Rattle.packet.specs.declared.types.Packet.{Packet}
-use Rattle.packet.specs.declared.types.Read.{Read}
+use Rattle.protocol.specs.Reading.{readOf}
+use Rattle.protocol.specs.Values.{bytesAt}
+use Rattle.protocol.specs.declared.types.Packet.{Packet}
+use Rattle.protocol.specs.declared.types.Read.{Read}
 use Rattle.peer.specs.Calls.{Call, cancel, cancelAt, cancelEffect, countOlder, countPosted, missingIn, packet, packetEffect, peerStep, placed, placedIn, post, postEffect, readEffect, renumbered, renumberedPhase, report, reportAt, reportEffect, someInTheWay}
 use Rattle.peer.specs.Effects.{Effect, accept, advance, begun, carry, extended, grantOf, opened, progressOf, quiet, settledAs, truncatedAt, withPhase}
 use Rattle.peer.specs.Formed.{Formed}

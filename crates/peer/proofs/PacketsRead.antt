@@ -9,27 +9,27 @@ use mathlib.Core.Logic.{_⊎_, inl, inr}
 use mathlib.Core.Path.{_≡_, refl, sym, ap, _∙_, subst}
 use native.Mathlib.Omega.{arith}
 use Rattle.laws.specs.Choose.{pick}
-use Rattle.packet.specs.Layout.{fieldsAt, fieldsIn, layout, numberAt, seg-offset, tag, untagged}
-use Rattle.packet.specs.Lengths.{lengthsFit}
-use Rattle.packet.specs.Reading.{headerIn, packetIn, readOf}
-use Rattle.packet.specs.Types.{rowOf}
-use Rattle.packet.specs.Values.{bytesAt}
-use Rattle.packet.specs.declared.table.Found.the-variants.{Row}
-use Rattle.packet.specs.declared.table.Shape.{Shape}
-use Rattle.packet.specs.declared.table.Shape.the-variants.{Cts, CtsData, Eager, LongCts, Medium}
-use Rattle.packet.specs.declared.table.TypeRow.{TypeRow}
-use Rattle.packet.specs.declared.types.Fields.{Fields}
-use Rattle.packet.specs.declared.types.Packet.{Packet}
-use Rattle.packet.specs.declared.types.Read.{Read}
+use Rattle.protocol.specs.Layout.{fieldsAt, fieldsIn, layout, numberAt, seg-offset, tag, untagged}
+use Rattle.protocol.specs.Lengths.{lengthsFit}
+use Rattle.protocol.specs.Reading.{headerIn, packetIn, readOf}
+use Rattle.protocol.specs.Types.{rowOf}
+use Rattle.protocol.specs.Values.{bytesAt}
+use Rattle.protocol.specs.declared.table.Found.the-variants.{Row}
+use Rattle.protocol.specs.declared.table.Shape.{Shape}
+use Rattle.protocol.specs.declared.table.Shape.the-variants.{Cts, CtsData, Eager, LongCts, Medium}
+use Rattle.protocol.specs.declared.table.TypeRow.{TypeRow}
+use Rattle.protocol.specs.declared.types.Fields.{Fields}
+use Rattle.protocol.specs.declared.types.Packet.{Packet}
+use Rattle.protocol.specs.declared.types.Read.{Read}
 use Rattle.peer.specs.Coverage.{inside}
 use Rattle.peer.specs.Formed.{Formed}
 use Rattle.peer.specs.Incomings.{incomingOf, isEager, isLong, isRtm}
 use Rattle.wire.specs.LittleEndian.{leAt}
 use Rattle.laws.proofs.Choosing.{and-right, pick-false, pick-true}
 use Rattle.laws.proofs.Storing.{length-part}
-use Rattle.packet.proofs.Accepted.{ReadAs, as-read, dataFrom, packetOf}
-use Rattle.packet.proofs.Served.{served-read}
-use Rattle.packet.proofs.TableRule.{row-passes}
+use Rattle.protocol.proofs.Accepted.{ReadAs, as-read, dataFrom, packetOf}
+use Rattle.protocol.proofs.Served.{served-read}
+use Rattle.protocol.proofs.TableRule.{row-passes}
 
 -- ---- the types by their shapes
 

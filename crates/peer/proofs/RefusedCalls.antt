@@ -6,16 +6,16 @@ use mathlib.Core.Bool.{Bool, true, false}
 use mathlib.Core.List.{List, [], _∷_}
 use mathlib.Core.Path.{_≡_, refl, sym, ap, _∙_}
 use native.Mathlib.Omega.{arith}
-use Rattle.packet.specs.Reading.{packetIn, readFlags, readLengths, readOf, readSections, readTyped}
-use Rattle.packet.specs.Sections.{extentOf}
-use Rattle.packet.specs.Types.{admit, rowOf}
-use Rattle.packet.specs.Values.{bytesAt}
-use Rattle.packet.specs.declared.sections.Extent.{Extent}
-use Rattle.packet.specs.declared.table.Found.the-variants.{Row, Unknown}
-use Rattle.packet.specs.declared.table.TypeRow.{TypeRow}
-use Rattle.packet.specs.declared.types.Packet.{Packet}
-use Rattle.packet.specs.declared.types.Read.{Read}
-use Rattle.packet.specs.declared.types.Refusal.{Refusal}
+use Rattle.protocol.specs.Reading.{packetIn, readFlags, readLengths, readOf, readSections, readTyped}
+use Rattle.protocol.specs.Sections.{extentOf}
+use Rattle.protocol.specs.Types.{admit, rowOf}
+use Rattle.protocol.specs.Values.{bytesAt}
+use Rattle.protocol.specs.declared.sections.Extent.{Extent}
+use Rattle.protocol.specs.declared.table.Found.the-variants.{Row, Unknown}
+use Rattle.protocol.specs.declared.table.TypeRow.{TypeRow}
+use Rattle.protocol.specs.declared.types.Packet.{Packet}
+use Rattle.protocol.specs.declared.types.Read.{Read}
+use Rattle.protocol.specs.declared.types.Refusal.{Refusal}
 use Rattle.peer.specs.Calls.{Call, cancel, cancelAt, cancelEffect, packet, packetEffect, peerStep, placedIn, post, postEffect, readEffect, report, reportAt, reportEffect}
 use Rattle.peer.specs.Effects.{Effect, accept, advance, begun, carry, opened, refuse, settledAs, truncatedAt}
 use Rattle.peer.specs.Incomings.{incomingOf}
@@ -70,7 +70,7 @@ read-listed all limit bs =
     sections r f Extent.Cut = unfold readSections in refl
     sections r f (Extent.Whole s) = unfold readSections in lengths r (packetIn r f bs s)
 
-    typed : (x : Rattle.packet.specs.declared.table.Found.Found) → Listed (readTyped x bs)
+    typed : (x : Rattle.protocol.specs.declared.table.Found.Found) → Listed (readTyped x bs)
     typed Unknown = unfold readTyped in refl
     typed (Row r) = unfold readTyped readFlags in branch Listed _ _ _ (λ x. sections r (leAt 2 bs 2) (extentOf r (leAt 2 bs 2) bs)) (λ x. refl)
 

@@ -11,15 +11,15 @@ use mathlib.Core.Path.{_≡_, refl, sym, ap, _∙_, subst}
 use native.Mathlib.Omega.{arith}
 use Rattle.bitmap.specs.Map.{cleared, marked}
 use Rattle.laws.specs.Choose.{pick}
-use Rattle.packet.specs.Cts.{ctsBytes}
-use Rattle.packet.specs.Layout.{fieldBytes, layout}
-use Rattle.packet.specs.Options.{connidBytes, cqDataBytes, multiuseBytes, rawAddressBytes}
-use Rattle.packet.specs.Reading.{readOf}
-use Rattle.packet.specs.Values.{bytesAt}
-use Rattle.packet.specs.Writing.{baseBytes, mandatoryBytes, packetBytes}
-use Rattle.packet.specs.declared.types.CqData.{CqData}
-use Rattle.packet.specs.declared.types.Read.{Read}
-use Rattle.packet.specs.declared.types.Refusal.{Refusal}
+use Rattle.protocol.specs.Cts.{ctsBytes}
+use Rattle.protocol.specs.Layout.{fieldBytes, layout}
+use Rattle.protocol.specs.Options.{connidBytes, cqDataBytes, multiuseBytes, rawAddressBytes}
+use Rattle.protocol.specs.Reading.{readOf}
+use Rattle.protocol.specs.Values.{bytesAt}
+use Rattle.protocol.specs.Writing.{baseBytes, mandatoryBytes, packetBytes}
+use Rattle.protocol.specs.declared.types.CqData.{CqData}
+use Rattle.protocol.specs.declared.types.Read.{Read}
+use Rattle.protocol.specs.declared.types.Refusal.{Refusal}
 use Rattle.peer.specs.Calls.{Call, cancel, cancelAt, cancelEffect, missingIn, packet, packetEffect, peerStep, placed, placedIn, post, postEffect, readEffect, report, reportAt, reportEffect}
 use Rattle.peer.specs.Claims.{SegmentIn, WriteClaim}
 use Rattle.peer.specs.Coverage.{Segment, allOf, byteOf, covers}

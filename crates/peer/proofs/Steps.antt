@@ -10,10 +10,10 @@ use mathlib.Core.Logic.{inr}
 use mathlib.Core.Path.{_≡_, refl, sym, ap, ap₂, _∙_, subst}
 use native.Mathlib.Decide.{decLt, ℕ-discrete}
 use native.Mathlib.Omega.{arith}
-use Rattle.packet.specs.Reading.{readOf}
-use Rattle.packet.specs.Values.{bytesAt}
-use Rattle.packet.specs.declared.types.Read.{Read}
-use Rattle.packet.specs.declared.types.Refusal.{Refusal}
+use Rattle.protocol.specs.Reading.{readOf}
+use Rattle.protocol.specs.Values.{bytesAt}
+use Rattle.protocol.specs.declared.types.Read.{Read}
+use Rattle.protocol.specs.declared.types.Refusal.{Refusal}
 use Rattle.peer.specs.Calls.{Call, cancel, cancelAt, cancelEffect, countOlder, countPosted, packet, packetEffect, peerStep, placed, placedIn, post, postEffect, readEffect, renumbered, renumberedPhase, report, reportAt, reportEffect}
 use Rattle.peer.specs.Coverage.{covers}
 use Rattle.peer.specs.Effects.{Effect, quiet, refuse, withPhase}

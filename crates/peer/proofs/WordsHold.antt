@@ -10,7 +10,7 @@ use mathlib.Core.Logic.{_⊎_, _↔_, _≢_, inl, inr, ⊎-elim}
 use mathlib.Core.Path.{_≡_, refl, sym, ap, ap₂, _∙_, subst}
 use native.Mathlib.Decide.{decLt, ℕ-discrete}
 use native.Mathlib.Omega.{arith}
-use Rattle.packet.specs.InWords.{bitOf}
+use Rattle.protocol.specs.InWords.{bitOf}
 use Rattle.peer.specs.InWords.{AheadIsTheDistance, EagerIs64And65, EmptyOverlapsNothing, FoundIsTheLowestOpen, LongIs68And69, MediumIs66And67, NothingFoundIsNoneOpen, OpenUnder, OtherMessageDiffers, OverlapIsASharedByte, PlainFitsPlain, RtmIs64To69, SameMessageIsAllEqual, TaggedFitsOutsideIgnore, UnfitIsNoneWaiting}
 use Rattle.peer.specs.Matching.{ahead, fits, older, sameMessage, sameOutside}
 use Rattle.peer.specs.Plain.{Entry, Role, entryAt, firstHere, firstPosted, idle, openIn, receiving, waiting}
@@ -21,9 +21,9 @@ use Rattle.peer.specs.declared.types.Inbound.{Inbound}
 use Rattle.peer.specs.declared.types.Incoming.{Incoming}
 use Rattle.peer.specs.declared.types.Receive.{Receive}
 use Rattle.laws.proofs.Choosing.{branch, clashing, pick-either, pick-false, pick-true, tested}
-use Rattle.packet.proofs.BitWords.{same-bits}
-use Rattle.packet.proofs.TableRule.{row-kind, row-passes}
-use Rattle.packet.proofs.WordsHold.{both-tests, eq-words}
+use Rattle.protocol.proofs.BitWords.{same-bits}
+use Rattle.protocol.proofs.TableRule.{row-kind, row-passes}
+use Rattle.protocol.proofs.WordsHold.{both-tests, eq-words}
 use Rattle.peer.proofs.EntrySearch.{foremost}
 
 -- ---- ranges

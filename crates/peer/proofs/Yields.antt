@@ -9,9 +9,9 @@ use mathlib.Core.List.{List}
 use mathlib.Core.Path.{_≡_, refl, sym, ap, _∙_}
 use native.Mathlib.Decide.{ℕ-discrete}
 use native.Mathlib.Omega.{arith}
-use Rattle.packet.specs.Reading.{readOf}
-use Rattle.packet.specs.Values.{bytesAt}
-use Rattle.packet.specs.declared.types.Read.{Read}
+use Rattle.protocol.specs.Reading.{readOf}
+use Rattle.protocol.specs.Values.{bytesAt}
+use Rattle.protocol.specs.declared.types.Read.{Read}
 use Rattle.peer.specs.Calls.{Call, cancel, cancelAt, cancelEffect, packet, packetEffect, peerStep, placed, placedIn, post, postEffect, readEffect, renumbered, renumberedPhase, report, reportAt, reportEffect}
 use Rattle.peer.specs.Effects.{Effect, accept, advance, begun, carry, extended, grantOf, opened, settledAs, truncatedAt}
 use Rattle.peer.specs.Incomings.{incomingOf}

@@ -5,8 +5,8 @@ use lib.ListN.{length, set}
 use lib.Dec.{leb, eqb}
 use Rattle.laws.specs.Choose.{pick}
 use Rattle.bitmap.specs.Map.{marked, cleared, firstClear}
-use Rattle.packet.specs.declared.types.Refusal.{Refusal}
-use Rattle.packet.specs.Cts.{ctsBytes}
+use Rattle.protocol.specs.declared.types.Refusal.{Refusal}
+use Rattle.protocol.specs.Cts.{ctsBytes}
 use Rattle.peer.specs.declared.types.Receive.{Receive}
 use Rattle.peer.specs.declared.types.Message.{Message}
 use Rattle.peer.specs.declared.types.Inbound.{Inbound}

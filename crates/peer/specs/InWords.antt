@@ -7,13 +7,13 @@ use mathlib.Core.List.{List, [], _∷_, List·Memᴰ}
 use mathlib.Core.Logic.{_⊎_, _↔_, _≢_}
 use mathlib.Core.Path.{_≡_}
 use Rattle.bitmap.specs.Offsets.{countOf, firstNot, someOf}
-use Rattle.packet.specs.InWords.{bitOf}
-use Rattle.packet.specs.Reading.{readOf}
-use Rattle.packet.specs.Types.{rowOf}
-use Rattle.packet.specs.declared.table.Found.the-variants.{Row}
-use Rattle.packet.specs.declared.table.TypeRow.{TypeRow}
-use Rattle.packet.specs.declared.types.Packet.{Packet}
-use Rattle.packet.specs.declared.types.Read.{Read}
+use Rattle.protocol.specs.InWords.{bitOf}
+use Rattle.protocol.specs.Reading.{readOf}
+use Rattle.protocol.specs.Types.{rowOf}
+use Rattle.protocol.specs.declared.table.Found.the-variants.{Row}
+use Rattle.protocol.specs.declared.table.TypeRow.{TypeRow}
+use Rattle.protocol.specs.declared.types.Packet.{Packet}
+use Rattle.protocol.specs.declared.types.Read.{Read}
 use Rattle.peer.specs.Coverage.{Segment, allOf, covers}
 use Rattle.peer.specs.Incomings.{incomingOf, isEager, isLong, isMedium, isRtm}
 use Rattle.peer.specs.Matching.{ahead, fits, sameMessage}

@@ -3,7 +3,7 @@ use Prim.Native.Nat.{ℕ, _/_}
 use mathlib.Core.Bool.{Bool}
 use lib.Dec.{leb, eqb}
 use Rattle.laws.specs.Choose.{pick}
-use Rattle.packet.specs.declared.types.Packet.{Packet}
+use Rattle.protocol.specs.declared.types.Packet.{Packet}
 use Rattle.peer.specs.declared.types.Incoming.{Incoming}
 
 -- types 64 and 65, 66 and 67, 68 and 69

@@ -1,9 +1,9 @@
 -- The refusals of one peer's calls, by the numbers of 01's table, and what an answer says in 01's words.
 use Prim.Native.Nat.{ℕ}
 use mathlib.Core.List.{List, [], _∷_}
-use Rattle.packet.specs.Refusals.{refusal}
-use Rattle.packet.specs.declared.types.CqData.{CqData}
-use Rattle.packet.specs.declared.types.Refusal.{Refusal}
+use Rattle.protocol.specs.Refusals.{refusal}
+use Rattle.protocol.specs.declared.types.CqData.{CqData}
+use Rattle.protocol.specs.declared.types.Refusal.{Refusal}
 use Rattle.peer.specs.declared.types.Answer.{Answer}
 
 -- "reply buffer below 24 bytes"

@@ -1,5 +1,5 @@
 // The refusals of one peer's calls, by 01's table.
-use packet::Refusal;
+use protocol::Refusal;
 
 pub const SHORT_REPLY: Refusal = Refusal { number: 5 };
 

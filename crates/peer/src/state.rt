@@ -6,7 +6,7 @@ use crate::types::Phase;
 use crate::types::Receive;
 use crate::types::Slot;
 use crate::types::Step;
-use packet::Refusal;
+use protocol::Refusal;
 ghost use mathlib.Core.Path.{_≡_};
 ghost use Prim.Native.Nat.{_<_};
 ghost use lib.ListN.{set};

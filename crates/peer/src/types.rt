@@ -1,6 +1,6 @@
 // The state of one peer, what a packet says, and what a call answers.
-use packet::CqData;
-use packet::Refusal;
+use protocol::CqData;
+use protocol::Refusal;
 
 // What a post asks for: a range of the peer's area, for messages of a kind and a tag.
 pub struct Receive {

@@ -8,22 +8,22 @@ use mathlib.Core.Path.{_≡_, refl, sym, _∙_}
 use native.Mathlib.Omega.{arith}
 use Rattle.laws.specs.Choose.{pick}
 use Rattle.laws.specs.Parts.{storeAt}
-use Rattle.packet.specs.Flags.{flagsFit, flagsOf}
-use Rattle.packet.specs.Layout.{fieldsAt, fieldsIn, layout}
-use Rattle.packet.specs.Lengths.{lengthsFit}
-use Rattle.packet.specs.Reading.{headerIn, packetIn, readFlags, readLengths, readOf, readSections, readTyped}
-use Rattle.packet.specs.Refusals.{badType}
-use Rattle.packet.specs.Sections.{afterRaw, connidLength, cqDataLength, extentOf, rawSpan, sectionsAt, sectionsFrom}
-use Rattle.packet.specs.Types.{admit, rowOf}
-use Rattle.packet.specs.Writing.{Outcome, packetBytes, refused, writeAs, writeBytes, writeOf, writeTyped}
-use Rattle.packet.specs.declared.table.Found.{Found}
-use Rattle.packet.specs.declared.table.Found.the-variants.{Row, Unknown}
-use Rattle.packet.specs.declared.table.TypeRow.{TypeRow}
-use Rattle.packet.specs.declared.types.Header.{Header}
-use Rattle.packet.specs.declared.types.Packet.{Packet}
-use Rattle.packet.specs.declared.types.Read.{Read}
-use Rattle.packet.specs.declared.types.Refusal.{Refusal}
-use Rattle.packet.specs.declared.types.Written.{Written}
+use Rattle.protocol.specs.Flags.{flagsFit, flagsOf}
+use Rattle.protocol.specs.Layout.{fieldsAt, fieldsIn, layout}
+use Rattle.protocol.specs.Lengths.{lengthsFit}
+use Rattle.protocol.specs.Reading.{headerIn, packetIn, readFlags, readLengths, readOf, readSections, readTyped}
+use Rattle.protocol.specs.Refusals.{badType}
+use Rattle.protocol.specs.Sections.{afterRaw, connidLength, cqDataLength, extentOf, rawSpan, sectionsAt, sectionsFrom}
+use Rattle.protocol.specs.Types.{admit, rowOf}
+use Rattle.protocol.specs.Writing.{Outcome, packetBytes, refused, writeAs, writeBytes, writeOf, writeTyped}
+use Rattle.protocol.specs.declared.table.Found.{Found}
+use Rattle.protocol.specs.declared.table.Found.the-variants.{Row, Unknown}
+use Rattle.protocol.specs.declared.table.TypeRow.{TypeRow}
+use Rattle.protocol.specs.declared.types.Header.{Header}
+use Rattle.protocol.specs.declared.types.Packet.{Packet}
+use Rattle.protocol.specs.declared.types.Read.{Read}
+use Rattle.protocol.specs.declared.types.Refusal.{Refusal}
+use Rattle.protocol.specs.declared.types.Written.{Written}
 use Rattle.wire.specs.LittleEndian.{leAt}
 use Rattle.laws.proofs.Choosing.{pick-ap, pick-first, pick-second}
 

@@ -10,12 +10,12 @@ use mathlib.Core.Path.{_≡_, refl, sym}
 use native.Mathlib.Nat.{mod-lt}
 use native.Mathlib.Omega.{arith}
 use Rattle.laws.specs.Choose.{pick}
-use Rattle.packet.specs.Flags.{connidBit, connidFlag, cqDataBit, cqDataFlag, flagsFit, flagsOf, hasFlag, rawAddressBit, rawAddressFlag}
-use Rattle.packet.specs.Rules.{Sound}
-use Rattle.packet.specs.declared.table.TypeRow.{TypeRow}
-use Rattle.packet.specs.declared.types.Connid.{Connid}
-use Rattle.packet.specs.declared.types.CqData.{CqData}
-use Rattle.packet.specs.declared.types.Header.{Header}
+use Rattle.protocol.specs.Flags.{connidBit, connidFlag, cqDataBit, cqDataFlag, flagsFit, flagsOf, hasFlag, rawAddressBit, rawAddressFlag}
+use Rattle.protocol.specs.Rules.{Sound}
+use Rattle.protocol.specs.declared.table.TypeRow.{TypeRow}
+use Rattle.protocol.specs.declared.types.Connid.{Connid}
+use Rattle.protocol.specs.declared.types.CqData.{CqData}
+use Rattle.protocol.specs.declared.types.Header.{Header}
 
 abbrev pub hasCqData : CqData → Bool
 hasCqData CqData.Absent = false

@@ -9,18 +9,18 @@ use mathlib.Core.Path.{_≡_, refl, sym, ap, ap₂, _∙_}
 use native.Mathlib.Omega.{arith}
 use Rattle.laws.specs.Choose.{pick}
 use Rattle.laws.specs.Parts.{part}
-use Rattle.packet.specs.Layout.{Field, credit-request, fieldBytes, fieldsIn, layout, msg-id, msg-length, numberAt, numberIn, ordinal, recv-id, recv-length, sameField, seg-length, seg-offset, send-id, tag, untagged, width, widths}
-use Rattle.packet.specs.Lengths.{lengthsFit}
-use Rattle.packet.specs.Types.{row, rowOf}
-use Rattle.packet.specs.declared.table.Found.the-variants.{Row}
-use Rattle.packet.specs.declared.table.Shape.{Shape}
-use Rattle.packet.specs.declared.table.Shape.the-variants.{Cts, CtsData, Eager, LongCts, Medium}
-use Rattle.packet.specs.declared.table.TypeRow.{TypeRow}
-use Rattle.packet.specs.declared.types.Fields.{Fields}
+use Rattle.protocol.specs.Layout.{Field, credit-request, fieldBytes, fieldsIn, layout, msg-id, msg-length, numberAt, numberIn, ordinal, recv-id, recv-length, sameField, seg-length, seg-offset, send-id, tag, untagged, width, widths}
+use Rattle.protocol.specs.Lengths.{lengthsFit}
+use Rattle.protocol.specs.Types.{row, rowOf}
+use Rattle.protocol.specs.declared.table.Found.the-variants.{Row}
+use Rattle.protocol.specs.declared.table.Shape.{Shape}
+use Rattle.protocol.specs.declared.table.Shape.the-variants.{Cts, CtsData, Eager, LongCts, Medium}
+use Rattle.protocol.specs.declared.table.TypeRow.{TypeRow}
+use Rattle.protocol.specs.declared.types.Fields.{Fields}
 use Rattle.wire.specs.LittleEndian.{leAt, leBytes}
 use Rattle.laws.proofs.Choosing.{and-left, and-right, pick-false, pick-true, tested}
 use Rattle.laws.proofs.Storing.{part-add}
-use Rattle.packet.proofs.TableRule.{row-passes}
+use Rattle.protocol.proofs.TableRule.{row-passes}
 use Rattle.wire.proofs.Laws.{bytes-again, le-behind, length-le}
 
 pub length-fields : (gs : List Field) (v : Fields) → length (fieldBytes gs v) ≡ widths gs

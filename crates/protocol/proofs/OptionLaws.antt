@@ -9,20 +9,20 @@ use mathlib.Core.Path.{_≡_, refl}
 use native.Mathlib.Omega.{arith}
 use Rattle.laws.specs.Choose.{pick}
 use Rattle.laws.specs.Parts.{part}
-use Rattle.packet.specs.Flags.{connidFlag, cqDataFlag, flagsOf, hasFlag, rawAddressFlag}
-use Rattle.packet.specs.Options.{connidBytes, connidIn, connidOrZero, cqDataBytes, cqDataIn, multiuseBytes, rawAddressBytes}
-use Rattle.packet.specs.RoundTrip.{cqDataOrZero}
-use Rattle.packet.specs.Rules.{Sound}
-use Rattle.packet.specs.Sections.{afterRaw, connidLength, cqDataLength, rawLength, rawSpan}
-use Rattle.packet.specs.Values.{bytesAt}
-use Rattle.packet.specs.declared.table.TypeRow.{TypeRow}
-use Rattle.packet.specs.declared.types.Connid.{Connid}
-use Rattle.packet.specs.declared.types.CqData.{CqData}
-use Rattle.packet.specs.declared.types.Header.{Header}
+use Rattle.protocol.specs.Flags.{connidFlag, cqDataFlag, flagsOf, hasFlag, rawAddressFlag}
+use Rattle.protocol.specs.Options.{connidBytes, connidIn, connidOrZero, cqDataBytes, cqDataIn, multiuseBytes, rawAddressBytes}
+use Rattle.protocol.specs.RoundTrip.{cqDataOrZero}
+use Rattle.protocol.specs.Rules.{Sound}
+use Rattle.protocol.specs.Sections.{afterRaw, connidLength, cqDataLength, rawLength, rawSpan}
+use Rattle.protocol.specs.Values.{bytesAt}
+use Rattle.protocol.specs.declared.table.TypeRow.{TypeRow}
+use Rattle.protocol.specs.declared.types.Connid.{Connid}
+use Rattle.protocol.specs.declared.types.CqData.{CqData}
+use Rattle.protocol.specs.declared.types.Header.{Header}
 use Rattle.wire.specs.LittleEndian.{leAt, leBytes}
 use Rattle.laws.proofs.Choosing.{tested}
 use Rattle.laws.proofs.Storing.{length-part, part-add, part-middle}
-use Rattle.packet.proofs.FlagLaws.{connid-flag, cq-data-flag, hasConnid, hasCqData}
+use Rattle.protocol.proofs.FlagLaws.{connid-flag, cq-data-flag, hasConnid, hasCqData}
 use Rattle.wire.proofs.Laws.{bytes-again, le-behind, le-behind-wide, length-le}
 
 -- how long they are

@@ -9,28 +9,28 @@ use mathlib.Core.Logic.{_⊎_, _↔_, inl, inr}
 use mathlib.Core.Path.{_≡_, refl, sym, ap, _∙_}
 use native.Mathlib.Omega.{arith}
 use Rattle.laws.specs.Choose.{pick}
-use Rattle.packet.specs.Flags.{flagsFit, hasFlag}
-use Rattle.packet.specs.InWords.{Check, Fails, FirstToFail, LengthRule, ReadIfNoneFails, RefusedByFirstToFail, TypesAreTheTables, checkAt, headerCut, headersEnd, noBase, overLimit, readerChecks, refusedAs, wrongFlags, wrongLengths, wrongType, wrongVersion}
-use Rattle.packet.specs.Layout.{fieldsAt, fieldsIn, layout}
-use Rattle.packet.specs.Lengths.{lengthsFit}
-use Rattle.packet.specs.Reading.{headerIn, packetIn, readFlags, readLengths, readOf, readSections, readTyped}
-use Rattle.packet.specs.Refusals.{aboveLimit, badFlags, badType, badVersion, cutShort, refusal}
-use Rattle.packet.specs.Sections.{afterRaw, connidLength, cqDataLength, extentOf, sectionsFrom}
-use Rattle.packet.specs.Types.{admit, row, rowOf}
-use Rattle.packet.specs.declared.sections.Extent.the-variants.{Cut}
-use Rattle.packet.specs.declared.table.Found.{Found}
-use Rattle.packet.specs.declared.table.Found.the-variants.{Row, Unknown}
-use Rattle.packet.specs.declared.table.Shape.{Shape}
-use Rattle.packet.specs.declared.table.Shape.the-variants.{Cts, CtsData, Eager, LongCts, Medium}
-use Rattle.packet.specs.declared.table.TypeRow.{TypeRow}
-use Rattle.packet.specs.declared.types.Fields.{Fields}
-use Rattle.packet.specs.declared.types.Packet.{Packet}
-use Rattle.packet.specs.declared.types.Read.{Read}
-use Rattle.packet.specs.declared.types.Refusal.{Refusal}
+use Rattle.protocol.specs.Flags.{flagsFit, hasFlag}
+use Rattle.protocol.specs.InWords.{Check, Fails, FirstToFail, LengthRule, ReadIfNoneFails, RefusedByFirstToFail, TypesAreTheTables, checkAt, headerCut, headersEnd, noBase, overLimit, readerChecks, refusedAs, wrongFlags, wrongLengths, wrongType, wrongVersion}
+use Rattle.protocol.specs.Layout.{fieldsAt, fieldsIn, layout}
+use Rattle.protocol.specs.Lengths.{lengthsFit}
+use Rattle.protocol.specs.Reading.{headerIn, packetIn, readFlags, readLengths, readOf, readSections, readTyped}
+use Rattle.protocol.specs.Refusals.{aboveLimit, badFlags, badType, badVersion, cutShort, refusal}
+use Rattle.protocol.specs.Sections.{afterRaw, connidLength, cqDataLength, extentOf, sectionsFrom}
+use Rattle.protocol.specs.Types.{admit, row, rowOf}
+use Rattle.protocol.specs.declared.sections.Extent.the-variants.{Cut}
+use Rattle.protocol.specs.declared.table.Found.{Found}
+use Rattle.protocol.specs.declared.table.Found.the-variants.{Row, Unknown}
+use Rattle.protocol.specs.declared.table.Shape.{Shape}
+use Rattle.protocol.specs.declared.table.Shape.the-variants.{Cts, CtsData, Eager, LongCts, Medium}
+use Rattle.protocol.specs.declared.table.TypeRow.{TypeRow}
+use Rattle.protocol.specs.declared.types.Fields.{Fields}
+use Rattle.protocol.specs.declared.types.Packet.{Packet}
+use Rattle.protocol.specs.declared.types.Read.{Read}
+use Rattle.protocol.specs.declared.types.Refusal.{Refusal}
 use Rattle.wire.specs.LittleEndian.{leAt}
 use Rattle.laws.proofs.Choosing.{clashing, pick-ap, pick-cases, pick-false, pick-second, pick-true, tested}
-use Rattle.packet.proofs.Accepted.{packetOf}
-use Rattle.packet.proofs.WordsHold.{both-tests, eq-words, le-words, types-are-the-tables}
+use Rattle.protocol.proofs.Accepted.{packetOf}
+use Rattle.protocol.proofs.WordsHold.{both-tests, eq-words, le-words, types-are-the-tables}
 
 refusal-no-packet : (k : Refusal) (p : Packet) → Read.Refused k ≡ Read.Packet p → ⊥
 refusal-no-packet k p e = let z : _≡_ {A = ℕ} 0 1 = cc in omega arith

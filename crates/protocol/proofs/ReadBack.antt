@@ -9,30 +9,30 @@ use mathlib.Core.Path.{_≡_, refl, sym, ap, _∙_}
 use native.Mathlib.Omega.{arith}
 use Rattle.laws.specs.Choose.{pick}
 use Rattle.laws.specs.Parts.{part}
-use Rattle.packet.specs.Flags.{flagsOf, hasFlag, rawAddressFlag}
-use Rattle.packet.specs.Layout.{fieldsAt, fieldsIn, layout, numberIn}
-use Rattle.packet.specs.Options.{connidBytes, connidIn, cqDataBytes, cqDataIn, multiuseBytes, rawAddressBytes}
-use Rattle.packet.specs.Reading.{headerIn, packetIn}
-use Rattle.packet.specs.RoundTrip.{Numbers}
-use Rattle.packet.specs.Rules.{Sound}
-use Rattle.packet.specs.Sections.{afterRaw, connidAt, rawSpan}
-use Rattle.packet.specs.Types.{row, rowOf}
-use Rattle.packet.specs.Values.{bytesAt, ownNumbers, values, valuesIn}
-use Rattle.packet.specs.Writing.{baseBytes, mandatoryBytes, packetBytes}
-use Rattle.packet.specs.declared.table.Found.the-variants.{Row}
-use Rattle.packet.specs.declared.table.TypeRow.{TypeRow}
-use Rattle.packet.specs.declared.types.Fields.{Fields}
-use Rattle.packet.specs.declared.types.Header.{Header}
+use Rattle.protocol.specs.Flags.{flagsOf, hasFlag, rawAddressFlag}
+use Rattle.protocol.specs.Layout.{fieldsAt, fieldsIn, layout, numberIn}
+use Rattle.protocol.specs.Options.{connidBytes, connidIn, cqDataBytes, cqDataIn, multiuseBytes, rawAddressBytes}
+use Rattle.protocol.specs.Reading.{headerIn, packetIn}
+use Rattle.protocol.specs.RoundTrip.{Numbers}
+use Rattle.protocol.specs.Rules.{Sound}
+use Rattle.protocol.specs.Sections.{afterRaw, connidAt, rawSpan}
+use Rattle.protocol.specs.Types.{row, rowOf}
+use Rattle.protocol.specs.Values.{bytesAt, ownNumbers, values, valuesIn}
+use Rattle.protocol.specs.Writing.{baseBytes, mandatoryBytes, packetBytes}
+use Rattle.protocol.specs.declared.table.Found.the-variants.{Row}
+use Rattle.protocol.specs.declared.table.TypeRow.{TypeRow}
+use Rattle.protocol.specs.declared.types.Fields.{Fields}
+use Rattle.protocol.specs.declared.types.Header.{Header}
 use Rattle.wire.specs.LittleEndian.{leAt}
 use Rattle.laws.proofs.Storing.{part-rest}
-use Rattle.packet.proofs.Accepted.{ReadAs, WrittenAs, connidFrom, dataFrom, packetOf}
-use Rattle.packet.proofs.FlagLaws.{connid-flag, cq-data-flag, flags-small, raw-address-flag}
-use Rattle.packet.proofs.LayoutLaws.{fields-read, lengths-same}
-use Rattle.packet.proofs.OptionLaws.{after-raw, connid-behind, connid-in-multiuse, connid-length, cq-data-length, cq-data-read, raw-read}
-use Rattle.packet.proofs.ReadingLaws.{connid-after, connid-at-four}
-use Rattle.packet.proofs.RowLaws.{ConnidPlace, connid-place, header-bounds}
-use Rattle.packet.proofs.TableRule.{row-kind, sound}
-use Rattle.packet.proofs.WritingLaws.{length-base, length-before, length-mandatory, length-packet}
+use Rattle.protocol.proofs.Accepted.{ReadAs, WrittenAs, connidFrom, dataFrom, packetOf}
+use Rattle.protocol.proofs.FlagLaws.{connid-flag, cq-data-flag, flags-small, raw-address-flag}
+use Rattle.protocol.proofs.LayoutLaws.{fields-read, lengths-same}
+use Rattle.protocol.proofs.OptionLaws.{after-raw, connid-behind, connid-in-multiuse, connid-length, cq-data-length, cq-data-read, raw-read}
+use Rattle.protocol.proofs.ReadingLaws.{connid-after, connid-at-four}
+use Rattle.protocol.proofs.RowLaws.{ConnidPlace, connid-place, header-bounds}
+use Rattle.protocol.proofs.TableRule.{row-kind, sound}
+use Rattle.protocol.proofs.WritingLaws.{length-base, length-before, length-mandatory, length-packet}
 use Rattle.wire.proofs.Laws.{le-behind}
 
 -- the headers of a written packet up to the raw address, up to the CQ data, and all

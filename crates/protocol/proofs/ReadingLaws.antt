@@ -8,20 +8,20 @@ use mathlib.Core.Logic.{⊎-elim}
 use mathlib.Core.Path.{_≡_, refl}
 use native.Mathlib.Omega.{arith}
 use Rattle.laws.specs.Choose.{pick}
-use Rattle.packet.specs.Flags.{connidFlag, cqDataFlag, hasFlag}
-use Rattle.packet.specs.Layout.{fieldsIn, numberAt, tag, untagged, widths}
-use Rattle.packet.specs.Rules.{Inside, Sound}
-use Rattle.packet.specs.Sections.{afterRaw, connidAt, connidLength, cqDataLength, extentOf, rawSpan, sectionsAt, sectionsFrom}
-use Rattle.packet.specs.declared.sections.Extent.the-variants.{Cut, Whole}
-use Rattle.packet.specs.declared.sections.Sections.{Sections}
-use Rattle.packet.specs.declared.table.Shape.{Shape}
-use Rattle.packet.specs.declared.table.Shape.the-variants.{Cts, CtsData, Eager, LongCts, Medium}
-use Rattle.packet.specs.declared.table.TypeRow.{TypeRow}
-use Rattle.packet.specs.declared.types.Fields.{Fields}
-use Rattle.packet.specs.declared.types.Span.{Span}
+use Rattle.protocol.specs.Flags.{connidFlag, cqDataFlag, hasFlag}
+use Rattle.protocol.specs.Layout.{fieldsIn, numberAt, tag, untagged, widths}
+use Rattle.protocol.specs.Rules.{Inside, Sound}
+use Rattle.protocol.specs.Sections.{afterRaw, connidAt, connidLength, cqDataLength, extentOf, rawSpan, sectionsAt, sectionsFrom}
+use Rattle.protocol.specs.declared.sections.Extent.the-variants.{Cut, Whole}
+use Rattle.protocol.specs.declared.sections.Sections.{Sections}
+use Rattle.protocol.specs.declared.table.Shape.{Shape}
+use Rattle.protocol.specs.declared.table.Shape.the-variants.{Cts, CtsData, Eager, LongCts, Medium}
+use Rattle.protocol.specs.declared.table.TypeRow.{TypeRow}
+use Rattle.protocol.specs.declared.types.Fields.{Fields}
+use Rattle.protocol.specs.declared.types.Span.{Span}
 use Rattle.wire.specs.LittleEndian.{leAt}
 use Rattle.laws.proofs.Choosing.{pick-cases, pick-false, pick-small, pick-true}
-use Rattle.packet.proofs.RowLaws.{connid-place, connid-small, header-bounds}
+use Rattle.protocol.proofs.RowLaws.{connid-place, connid-small, header-bounds}
 
 -- the fields with another tag
 abbrev pub withTag : Fields → ℕ → Fields

@@ -4,13 +4,13 @@ use mathlib.Core.Path.{_≡_, ap, _∙_}
 use native.Mathlib.Nat.{zero-add}
 use native.Mathlib.Omega.{arith}
 use Rattle.laws.specs.Parts.{part, storeAt}
-use Rattle.packet.specs.RoundTrip.{LengthIsPackets, ReadsWhatWasWritten, WritesWhatWasRead}
-use Rattle.packet.specs.Types.{row}
-use Rattle.packet.specs.Writing.{packetBytes, writeOf}
+use Rattle.protocol.specs.RoundTrip.{LengthIsPackets, ReadsWhatWasWritten, WritesWhatWasRead}
+use Rattle.protocol.specs.Types.{row}
+use Rattle.protocol.specs.Writing.{packetBytes, writeOf}
 use Rattle.laws.proofs.Storing.{drop-store, part-store}
-use Rattle.packet.proofs.Accepted.{as-read, as-written, read-as, write-as}
-use Rattle.packet.proofs.ReadBack.{written-reads, written-values}
-use Rattle.packet.proofs.WriteBack.{write-back}
+use Rattle.protocol.proofs.Accepted.{as-read, as-written, read-as, write-as}
+use Rattle.protocol.proofs.ReadBack.{written-reads, written-values}
+use Rattle.protocol.proofs.WriteBack.{write-back}
 
 pub length-is-packets : LengthIsPackets
 unfolding part

@@ -7,11 +7,11 @@ use mathlib.Core.Logic.{_⊎_, inl, inr, ⊎-elim}
 use mathlib.Core.Path.{_≡_, refl}
 use native.Mathlib.Omega.{arith}
 use Rattle.laws.specs.Choose.{pick}
-use Rattle.packet.specs.Layout.{Field, fieldsAt, layout, tag, untagged, widths}
-use Rattle.packet.specs.Rules.{NumberWidth, Sound, connidOf, multiuseOf}
-use Rattle.packet.specs.declared.table.Shape.{Shape}
-use Rattle.packet.specs.declared.table.Shape.the-variants.{Cts, CtsData, Eager, LongCts, Medium}
-use Rattle.packet.specs.declared.table.TypeRow.{TypeRow}
+use Rattle.protocol.specs.Layout.{Field, fieldsAt, layout, tag, untagged, widths}
+use Rattle.protocol.specs.Rules.{NumberWidth, Sound, connidOf, multiuseOf}
+use Rattle.protocol.specs.declared.table.Shape.{Shape}
+use Rattle.protocol.specs.declared.table.Shape.the-variants.{Cts, CtsData, Eager, LongCts, Medium}
+use Rattle.protocol.specs.declared.table.TypeRow.{TypeRow}
 use Rattle.laws.proofs.Choosing.{pick-ap, pick-small}
 
 pub layout-tagged : (r : TypeRow) → r .tagged ≡ true → layout r ≡ untagged (r .shape) ++ (tag ∷ [])

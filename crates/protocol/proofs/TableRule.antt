@@ -9,11 +9,11 @@ use mathlib.Core.Logic.{⊎-elim, ⊎-map}
 use mathlib.Core.Path.{_≡_, refl}
 use native.Mathlib.Omega.{arith}
 use Rattle.laws.specs.Choose.{pick}
-use Rattle.packet.specs.Layout.{fieldsAt, layout, widths}
-use Rattle.packet.specs.Rules.{Sound, connidOf, multiuseOf}
-use Rattle.packet.specs.Types.{rowIn, rowOf, rows}
-use Rattle.packet.specs.declared.table.Found.the-variants.{Row}
-use Rattle.packet.specs.declared.table.TypeRow.{TypeRow}
+use Rattle.protocol.specs.Layout.{fieldsAt, layout, widths}
+use Rattle.protocol.specs.Rules.{Sound, connidOf, multiuseOf}
+use Rattle.protocol.specs.Types.{rowIn, rowOf, rows}
+use Rattle.protocol.specs.declared.table.Found.the-variants.{Row}
+use Rattle.protocol.specs.declared.table.TypeRow.{TypeRow}
 use Rattle.laws.proofs.Choosing.{all-true, allTrue, and-left, and-right, or-cases, pick-cases}
 
 -- a row that is found in a table has the type that was looked for, and passes a test that all its rows pass

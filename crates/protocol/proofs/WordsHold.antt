@@ -13,24 +13,24 @@ use native.Mathlib.Nat.{zero-div, pow-succ', div-one, div-div-eq-div-mul}
 use native.Mathlib.Omega.{arith}
 use Rattle.laws.specs.Choose.{pick}
 use Rattle.laws.specs.Parts.{part}
-use Rattle.packet.specs.Flags.{flagsFit, hasFlag}
-use Rattle.packet.specs.InWords.{CtsFlagsFit, FlagsFitBitByBit, Known, NumbersAreLittleEndian, ReadInSections, RtmFlagsFit, TaggedRtmsAreOdd, TypesAreTheTables, bitOf, headersEnd}
-use Rattle.packet.specs.Options.{cqDataIn}
-use Rattle.packet.specs.Reading.{headerIn, packetIn}
-use Rattle.packet.specs.Sections.{afterRaw, connidLength, cqDataLength}
-use Rattle.packet.specs.Types.{admit, rowIn, rowOf, rows}
-use Rattle.packet.specs.Values.{bytesAt}
-use Rattle.packet.specs.declared.table.Found.{Found}
-use Rattle.packet.specs.declared.table.Found.the-variants.{Row, Unknown}
-use Rattle.packet.specs.declared.table.TypeRow.{TypeRow}
-use Rattle.packet.specs.declared.types.Packet.{Packet}
+use Rattle.protocol.specs.Flags.{flagsFit, hasFlag}
+use Rattle.protocol.specs.InWords.{CtsFlagsFit, FlagsFitBitByBit, Known, NumbersAreLittleEndian, ReadInSections, RtmFlagsFit, TaggedRtmsAreOdd, TypesAreTheTables, bitOf, headersEnd}
+use Rattle.protocol.specs.Options.{cqDataIn}
+use Rattle.protocol.specs.Reading.{headerIn, packetIn}
+use Rattle.protocol.specs.Sections.{afterRaw, connidLength, cqDataLength}
+use Rattle.protocol.specs.Types.{admit, rowIn, rowOf, rows}
+use Rattle.protocol.specs.Values.{bytesAt}
+use Rattle.protocol.specs.declared.table.Found.{Found}
+use Rattle.protocol.specs.declared.table.Found.the-variants.{Row, Unknown}
+use Rattle.protocol.specs.declared.table.TypeRow.{TypeRow}
+use Rattle.protocol.specs.declared.types.Packet.{Packet}
 use Rattle.wire.specs.LittleEndian.{leAt, leOf}
 use Rattle.laws.proofs.Choosing.{allTrue, and-intro, and-left, and-right, clashing, or-cases, pick-cases, pick-false, pick-first, pick-true}
 use Rattle.laws.proofs.Reading.{getD-part}
 use Rattle.laws.proofs.Storing.{part-all, part-rest}
-use Rattle.packet.proofs.Accepted.{as-read, packetOf}
-use Rattle.packet.proofs.BitWords.{allBelow, bitOf-past, bitOf-without, each-below, same-bits}
-use Rattle.packet.proofs.TableRule.{row-kind, row-passes, sound}
+use Rattle.protocol.proofs.Accepted.{as-read, packetOf}
+use Rattle.protocol.proofs.BitWords.{allBelow, bitOf-past, bitOf-without, each-below, same-bits}
+use Rattle.protocol.proofs.TableRule.{row-kind, row-passes, sound}
 use Rattle.wire.proofs.Laws.{le-at-fits}
 
 -- ---- tests in words

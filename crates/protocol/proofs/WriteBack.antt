@@ -8,30 +8,30 @@ use mathlib.Core.Path.{_≡_, refl, sym, ap, ap₂, _∙_}
 use native.Mathlib.Omega.{arith}
 use Rattle.laws.specs.Choose.{pick}
 use Rattle.laws.specs.Parts.{part, storeAt}
-use Rattle.packet.specs.Flags.{connidFlag, flagsOf, hasFlag, rawAddressFlag}
-use Rattle.packet.specs.Layout.{fieldBytes, fieldsAt, fieldsIn, layout, widths}
-use Rattle.packet.specs.Options.{connidBytes, connidIn, connidOrZero, cqDataBytes, cqDataIn, multiuseBytes, rawAddressBytes}
-use Rattle.packet.specs.Reading.{headerIn, packetIn}
-use Rattle.packet.specs.RoundTrip.{blankOf, blanked, blankedAs}
-use Rattle.packet.specs.Sections.{afterRaw, connidAt, connidLength, cqDataLength, rawLength, rawSpan}
-use Rattle.packet.specs.Types.{row, rowOf}
-use Rattle.packet.specs.Values.{bytesAt}
-use Rattle.packet.specs.Writing.{baseBytes, mandatoryBytes, packetBytes, writeOf}
-use Rattle.packet.specs.declared.table.Found.the-variants.{Row}
-use Rattle.packet.specs.declared.table.TypeRow.{TypeRow}
-use Rattle.packet.specs.declared.types.Connid.{Connid}
-use Rattle.packet.specs.declared.types.Packet.{Packet}
-use Rattle.packet.specs.declared.types.Written.{Written}
+use Rattle.protocol.specs.Flags.{connidFlag, flagsOf, hasFlag, rawAddressFlag}
+use Rattle.protocol.specs.Layout.{fieldBytes, fieldsAt, fieldsIn, layout, widths}
+use Rattle.protocol.specs.Options.{connidBytes, connidIn, connidOrZero, cqDataBytes, cqDataIn, multiuseBytes, rawAddressBytes}
+use Rattle.protocol.specs.Reading.{headerIn, packetIn}
+use Rattle.protocol.specs.RoundTrip.{blankOf, blanked, blankedAs}
+use Rattle.protocol.specs.Sections.{afterRaw, connidAt, connidLength, cqDataLength, rawLength, rawSpan}
+use Rattle.protocol.specs.Types.{row, rowOf}
+use Rattle.protocol.specs.Values.{bytesAt}
+use Rattle.protocol.specs.Writing.{baseBytes, mandatoryBytes, packetBytes, writeOf}
+use Rattle.protocol.specs.declared.table.Found.the-variants.{Row}
+use Rattle.protocol.specs.declared.table.TypeRow.{TypeRow}
+use Rattle.protocol.specs.declared.types.Connid.{Connid}
+use Rattle.protocol.specs.declared.types.Packet.{Packet}
+use Rattle.protocol.specs.declared.types.Written.{Written}
 use Rattle.wire.specs.LittleEndian.{leAt, leBytes}
 use Rattle.laws.proofs.Choosing.{tested}
 use Rattle.laws.proofs.Storing.{length-part, length-store, part-add, part-rest, parts-all, store-back, store-front, store-nothing}
-use Rattle.packet.proofs.Accepted.{ReadAs, WrittenAs, connidFrom, dataFrom, packetOf, write-as}
-use Rattle.packet.proofs.FlagLaws.{flags-again}
-use Rattle.packet.proofs.LayoutLaws.{layout-again}
-use Rattle.packet.proofs.OptionLaws.{cq-data-again, has-connid, has-cq-data, raw-again}
-use Rattle.packet.proofs.ReadingLaws.{connid-after, connid-at-four}
-use Rattle.packet.proofs.RowLaws.{ConnidPlace, connid-place}
-use Rattle.packet.proofs.TableRule.{row-kind, sound}
+use Rattle.protocol.proofs.Accepted.{ReadAs, WrittenAs, connidFrom, dataFrom, packetOf, write-as}
+use Rattle.protocol.proofs.FlagLaws.{flags-again}
+use Rattle.protocol.proofs.LayoutLaws.{layout-again}
+use Rattle.protocol.proofs.OptionLaws.{cq-data-again, has-connid, has-cq-data, raw-again}
+use Rattle.protocol.proofs.ReadingLaws.{connid-after, connid-at-four}
+use Rattle.protocol.proofs.RowLaws.{ConnidPlace, connid-place}
+use Rattle.protocol.proofs.TableRule.{row-kind, sound}
 use Rattle.wire.proofs.Laws.{bytes-again, bytes-again-wide, bytes-none, bytes-zero}
 
 -- the bytes between multiuse and a connid behind the other headers

@@ -10,23 +10,23 @@ use mathlib.Core.Path.{_≡_, refl, sym, ap, _∙_}
 use native.Mathlib.Omega.{arith}
 use Rattle.laws.specs.Choose.{pick}
 use Rattle.laws.specs.Parts.{storeAt}
-use Rattle.packet.specs.Flags.{flagsOf}
-use Rattle.packet.specs.Layout.{Field, fieldBytes, fieldsAt, layout, numberIn, tag, untagged, width, widths}
-use Rattle.packet.specs.Options.{connidBytes, cqDataBytes, multiuseBytes, rawAddressBytes}
-use Rattle.packet.specs.Rules.{Sound}
-use Rattle.packet.specs.Totals.{headLength, limitedTo, totalOf}
-use Rattle.packet.specs.Writing.{baseBytes, mandatoryBytes, packetBytes}
-use Rattle.packet.specs.declared.table.TypeRow.{TypeRow}
-use Rattle.packet.specs.declared.types.Fields.{Fields}
-use Rattle.packet.specs.declared.types.Header.{Header}
-use Rattle.packet.specs.declared.writer.Length.the-variants.{Above, Bytes}
+use Rattle.protocol.specs.Flags.{flagsOf}
+use Rattle.protocol.specs.Layout.{Field, fieldBytes, fieldsAt, layout, numberIn, tag, untagged, width, widths}
+use Rattle.protocol.specs.Options.{connidBytes, cqDataBytes, multiuseBytes, rawAddressBytes}
+use Rattle.protocol.specs.Rules.{Sound}
+use Rattle.protocol.specs.Totals.{headLength, limitedTo, totalOf}
+use Rattle.protocol.specs.Writing.{baseBytes, mandatoryBytes, packetBytes}
+use Rattle.protocol.specs.declared.table.TypeRow.{TypeRow}
+use Rattle.protocol.specs.declared.types.Fields.{Fields}
+use Rattle.protocol.specs.declared.types.Header.{Header}
+use Rattle.protocol.specs.declared.types.Length.the-variants.{Above, Bytes}
 use Rattle.wire.specs.LittleEndian.{leBytes}
 use Rattle.laws.proofs.Choosing.{pick-cases, pick-true}
 use Rattle.laws.proofs.Storing.{length-store, store-next, store-nothing}
-use Rattle.packet.proofs.LayoutLaws.{length-fields}
-use Rattle.packet.proofs.OptionLaws.{connid-length, cq-data-length, length-multiuse, length-raw}
-use Rattle.packet.proofs.ReadingLaws.{options-short}
-use Rattle.packet.proofs.RowLaws.{header-bounds, layout-tagged, tag-ends}
+use Rattle.protocol.proofs.LayoutLaws.{length-fields}
+use Rattle.protocol.proofs.OptionLaws.{connid-length, cq-data-length, length-multiuse, length-raw}
+use Rattle.protocol.proofs.ReadingLaws.{options-short}
+use Rattle.protocol.proofs.RowLaws.{header-bounds, layout-tagged, tag-ends}
 use Rattle.wire.proofs.Laws.{length-le}
 
 fields-append : (gs hs : List Field) (v : Fields) → fieldBytes (gs ++ hs) v ≡ fieldBytes gs v ++ fieldBytes hs v

@@ -2,12 +2,12 @@
 use Prim.Native.Nat.{ℕ}
 use mathlib.Core.List.{List, []}
 use mathlib.Core.Bool.{false}
-use Rattle.packet.specs.declared.table.Shape.the-variants.{Cts}
-use Rattle.packet.specs.declared.types.Connid.{Connid}
-use Rattle.packet.specs.declared.types.CqData.{CqData}
-use Rattle.packet.specs.declared.types.Header.{Header}
-use Rattle.packet.specs.Types.{row}
-use Rattle.packet.specs.Writing.{packetBytes}
+use Rattle.protocol.specs.declared.table.Shape.the-variants.{Cts}
+use Rattle.protocol.specs.declared.types.Connid.{Connid}
+use Rattle.protocol.specs.declared.types.CqData.{CqData}
+use Rattle.protocol.specs.declared.types.Header.{Header}
+use Rattle.protocol.specs.Types.{row}
+use Rattle.protocol.specs.Writing.{packetBytes}
 
 abbrev pub ctsHeader : ℕ → ℕ → ℕ → Header
 ctsHeader sendId recvId recvLength =

@@ -7,20 +7,20 @@ use mathlib.Core.List.{List, [], _∷_}
 use mathlib.Core.Logic.{_⊎_, _↔_}
 use mathlib.Core.Path.{_≡_}
 use Rattle.laws.specs.Choose.{pick}
-use Rattle.packet.specs.Flags.{flagsFit}
-use Rattle.packet.specs.Layout.{fieldsAt, fieldsIn, layout}
-use Rattle.packet.specs.Reading.{readOf}
-use Rattle.packet.specs.Refusals.{refusal}
-use Rattle.packet.specs.Types.{admit, rowOf}
-use Rattle.packet.specs.Values.{bytesAt}
-use Rattle.packet.specs.declared.table.Found.the-variants.{Row}
-use Rattle.packet.specs.declared.table.Shape.{Shape}
-use Rattle.packet.specs.declared.table.Shape.the-variants.{Cts, CtsData, Eager, LongCts, Medium}
-use Rattle.packet.specs.declared.table.TypeRow.{TypeRow}
-use Rattle.packet.specs.declared.types.CqData.{CqData}
-use Rattle.packet.specs.declared.types.Fields.{Fields}
-use Rattle.packet.specs.declared.types.Packet.{Packet}
-use Rattle.packet.specs.declared.types.Read.{Read}
+use Rattle.protocol.specs.Flags.{flagsFit}
+use Rattle.protocol.specs.Layout.{fieldsAt, fieldsIn, layout}
+use Rattle.protocol.specs.Reading.{readOf}
+use Rattle.protocol.specs.Refusals.{refusal}
+use Rattle.protocol.specs.Types.{admit, rowOf}
+use Rattle.protocol.specs.Values.{bytesAt}
+use Rattle.protocol.specs.declared.table.Found.the-variants.{Row}
+use Rattle.protocol.specs.declared.table.Shape.{Shape}
+use Rattle.protocol.specs.declared.table.Shape.the-variants.{Cts, CtsData, Eager, LongCts, Medium}
+use Rattle.protocol.specs.declared.table.TypeRow.{TypeRow}
+use Rattle.protocol.specs.declared.types.CqData.{CqData}
+use Rattle.protocol.specs.declared.types.Fields.{Fields}
+use Rattle.protocol.specs.declared.types.Packet.{Packet}
+use Rattle.protocol.specs.declared.types.Read.{Read}
 use Rattle.wire.specs.LittleEndian.{leAt}
 
 -- bit k of a number

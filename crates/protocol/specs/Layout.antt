@@ -5,10 +5,10 @@ use mathlib.Core.Bool.{Bool}
 use lib.Dec.{eqb}
 use Rattle.laws.specs.Choose.{pick}
 use Rattle.wire.specs.LittleEndian.{leBytes, leAt}
-use Rattle.packet.specs.declared.table.TypeRow.{TypeRow}
-use Rattle.packet.specs.declared.table.Shape.{Shape}
-use Rattle.packet.specs.declared.table.Shape.the-variants.{Cts, CtsData, Eager, Medium, LongCts}
-use Rattle.packet.specs.declared.types.Fields.{Fields}
+use Rattle.protocol.specs.declared.table.TypeRow.{TypeRow}
+use Rattle.protocol.specs.declared.table.Shape.{Shape}
+use Rattle.protocol.specs.declared.table.Shape.the-variants.{Cts, CtsData, Eager, Medium, LongCts}
+use Rattle.protocol.specs.declared.types.Fields.{Fields}
 
 pub data Field : Type 0 where
   msg-id recv-id send-id msg-length seg-length recv-length seg-offset credit-request tag : Field

@@ -6,10 +6,10 @@ use mathlib.Core.Bool.{Bool}
 use lib.ListN.{length}
 use Rattle.laws.specs.Choose.{pick}
 use Rattle.wire.specs.LittleEndian.{leBytes, leAt}
-use Rattle.packet.specs.declared.table.TypeRow.{TypeRow}
-use Rattle.packet.specs.declared.types.CqData.{CqData}
-use Rattle.packet.specs.declared.types.Connid.{Connid}
-use Rattle.packet.specs.Flags.{hasFlag, cqDataFlag, connidFlag}
+use Rattle.protocol.specs.declared.table.TypeRow.{TypeRow}
+use Rattle.protocol.specs.declared.types.CqData.{CqData}
+use Rattle.protocol.specs.declared.types.Connid.{Connid}
+use Rattle.protocol.specs.Flags.{hasFlag, cqDataFlag, connidFlag}
 
 -- as bytes
 

@@ -6,22 +6,22 @@ use lib.Dec.{ltb, eqb}
 use lib.ListN.{length, getD}
 use Rattle.laws.specs.Choose.{pick}
 use Rattle.wire.specs.LittleEndian.{leAt}
-use Rattle.packet.specs.declared.table.TypeRow.{TypeRow}
-use Rattle.packet.specs.declared.table.Found.{Found}
-use Rattle.packet.specs.declared.table.Found.the-variants.{Row, Unknown}
-use Rattle.packet.specs.declared.types.Header.{Header}
-use Rattle.packet.specs.declared.types.Packet.{Packet}
-use Rattle.packet.specs.declared.types.Read.{Read}
-use Rattle.packet.specs.declared.sections.Sections.{Sections}
-use Rattle.packet.specs.declared.sections.Extent.{Extent}
-use Rattle.packet.specs.declared.sections.Extent.the-variants.{Whole, Cut}
-use Rattle.packet.specs.Types.{rowOf, admit}
-use Rattle.packet.specs.Flags.{hasFlag, flagsFit, rawAddressFlag}
-use Rattle.packet.specs.Layout.{layout, fieldsAt, fieldsIn}
-use Rattle.packet.specs.Lengths.{lengthsFit}
-use Rattle.packet.specs.Options.{cqDataIn, connidIn}
-use Rattle.packet.specs.Sections.{span, extentOf}
-use Rattle.packet.specs.Refusals.{aboveLimit, cutShort, badVersion, badType, badFlags, badLength}
+use Rattle.protocol.specs.declared.table.TypeRow.{TypeRow}
+use Rattle.protocol.specs.declared.table.Found.{Found}
+use Rattle.protocol.specs.declared.table.Found.the-variants.{Row, Unknown}
+use Rattle.protocol.specs.declared.types.Header.{Header}
+use Rattle.protocol.specs.declared.types.Packet.{Packet}
+use Rattle.protocol.specs.declared.types.Read.{Read}
+use Rattle.protocol.specs.declared.sections.Sections.{Sections}
+use Rattle.protocol.specs.declared.sections.Extent.{Extent}
+use Rattle.protocol.specs.declared.sections.Extent.the-variants.{Whole, Cut}
+use Rattle.protocol.specs.Types.{rowOf, admit}
+use Rattle.protocol.specs.Flags.{hasFlag, flagsFit, rawAddressFlag}
+use Rattle.protocol.specs.Layout.{layout, fieldsAt, fieldsIn}
+use Rattle.protocol.specs.Lengths.{lengthsFit}
+use Rattle.protocol.specs.Options.{cqDataIn, connidIn}
+use Rattle.protocol.specs.Sections.{span, extentOf}
+use Rattle.protocol.specs.Refusals.{aboveLimit, cutShort, badVersion, badType, badFlags, badLength}
 
 -- the numbers of a packet of this type, with the flags f and the sections s
 unfoldable pub headerIn : TypeRow → ℕ → List ℕ → Sections → Header

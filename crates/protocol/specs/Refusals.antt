@@ -1,6 +1,6 @@
 -- The refusals of reader and writer, by the numbers of 01's table.
 use Prim.Native.Nat.{ℕ}
-use Rattle.packet.specs.declared.types.Refusal.{Refusal}
+use Rattle.protocol.specs.declared.types.Refusal.{Refusal}
 
 abbrev pub refusal : ℕ → Refusal
 refusal k = record { number = k }

@@ -6,23 +6,23 @@ use mathlib.Core.Bool.{true}
 use mathlib.Core.List.{List}
 use lib.ListN.{length, getD, take, drop, replicate}
 use Rattle.laws.specs.Parts.{storeAt}
-use Rattle.packet.specs.declared.table.Found.{Found}
-use Rattle.packet.specs.declared.table.Found.the-variants.{Row, Unknown}
-use Rattle.packet.specs.declared.table.TypeRow.{TypeRow}
-use Rattle.packet.specs.declared.types.Connid.{Connid}
-use Rattle.packet.specs.declared.types.CqData.{CqData}
-use Rattle.packet.specs.declared.types.Header.{Header}
-use Rattle.packet.specs.declared.types.Packet.{Packet}
-use Rattle.packet.specs.declared.types.Read.{Read}
-use Rattle.packet.specs.declared.types.Span.{Span}
-use Rattle.packet.specs.declared.types.Written.{Written}
-use Rattle.packet.specs.Layout.{Field, width, numberIn}
-use Rattle.packet.specs.Options.{connidOrZero}
-use Rattle.packet.specs.Reading.{readOf}
-use Rattle.packet.specs.Sections.{span}
-use Rattle.packet.specs.Types.{rowOf}
-use Rattle.packet.specs.Values.{values, valuesIn, bytesAt}
-use Rattle.packet.specs.Writing.{writeOf, packetBytes}
+use Rattle.protocol.specs.declared.table.Found.{Found}
+use Rattle.protocol.specs.declared.table.Found.the-variants.{Row, Unknown}
+use Rattle.protocol.specs.declared.table.TypeRow.{TypeRow}
+use Rattle.protocol.specs.declared.types.Connid.{Connid}
+use Rattle.protocol.specs.declared.types.CqData.{CqData}
+use Rattle.protocol.specs.declared.types.Header.{Header}
+use Rattle.protocol.specs.declared.types.Packet.{Packet}
+use Rattle.protocol.specs.declared.types.Read.{Read}
+use Rattle.protocol.specs.declared.types.Span.{Span}
+use Rattle.protocol.specs.declared.types.Written.{Written}
+use Rattle.protocol.specs.Layout.{Field, width, numberIn}
+use Rattle.protocol.specs.Options.{connidOrZero}
+use Rattle.protocol.specs.Reading.{readOf}
+use Rattle.protocol.specs.Sections.{span}
+use Rattle.protocol.specs.Types.{rowOf}
+use Rattle.protocol.specs.Values.{values, valuesIn, bytesAt}
+use Rattle.protocol.specs.Writing.{writeOf, packetBytes}
 
 abbrev pub cqDataOrZero : CqData → ℕ
 cqDataOrZero CqData.Absent = 0

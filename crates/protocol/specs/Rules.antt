@@ -3,12 +3,12 @@ use Prim.Native.Nat.{ℕ, _+_, _%_, _≤_}
 use mathlib.Core.Path.{_≡_}
 use mathlib.Core.Bool.{true}
 use mathlib.Core.Logic.{_⊎_}
-use Rattle.packet.specs.declared.table.TypeRow.{TypeRow}
-use Rattle.packet.specs.declared.table.Shape.{Shape}
-use Rattle.packet.specs.declared.table.Shape.the-variants.{Cts, CtsData, Eager, Medium, LongCts}
-use Rattle.packet.specs.declared.sections.Sections.{Sections}
-use Rattle.packet.specs.Flags.{hasFlag, cqDataFlag, connidFlag}
-use Rattle.packet.specs.Layout.{layout, fieldsAt, widths}
+use Rattle.protocol.specs.declared.table.TypeRow.{TypeRow}
+use Rattle.protocol.specs.declared.table.Shape.{Shape}
+use Rattle.protocol.specs.declared.table.Shape.the-variants.{Cts, CtsData, Eager, Medium, LongCts}
+use Rattle.protocol.specs.declared.sections.Sections.{Sections}
+use Rattle.protocol.specs.Flags.{hasFlag, cqDataFlag, connidFlag}
+use Rattle.protocol.specs.Layout.{layout, fieldsAt, widths}
 
 -- bytes of the multiuse field, which is CTS's alone
 abbrev pub multiuseOf : Shape → ℕ

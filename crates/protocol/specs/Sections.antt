@@ -5,12 +5,12 @@ use lib.Dec.{ltb, eqb}
 use lib.ListN.{length}
 use Rattle.laws.specs.Choose.{pick}
 use Rattle.wire.specs.LittleEndian.{leAt}
-use Rattle.packet.specs.declared.table.TypeRow.{TypeRow}
-use Rattle.packet.specs.declared.types.Span.{Span}
-use Rattle.packet.specs.declared.sections.Sections.{Sections}
-use Rattle.packet.specs.declared.sections.Extent.{Extent}
-use Rattle.packet.specs.declared.sections.Extent.the-variants.{Whole, Cut}
-use Rattle.packet.specs.Flags.{hasFlag, rawAddressFlag, cqDataFlag, connidFlag}
+use Rattle.protocol.specs.declared.table.TypeRow.{TypeRow}
+use Rattle.protocol.specs.declared.types.Span.{Span}
+use Rattle.protocol.specs.declared.sections.Sections.{Sections}
+use Rattle.protocol.specs.declared.sections.Extent.{Extent}
+use Rattle.protocol.specs.declared.sections.Extent.the-variants.{Whole, Cut}
+use Rattle.protocol.specs.Flags.{hasFlag, rawAddressFlag, cqDataFlag, connidFlag}
 
 abbrev pub span : ℕ → ℕ → Span
 span at size = record { at = at; size = size }

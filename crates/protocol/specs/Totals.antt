@@ -3,10 +3,10 @@ use Prim.Native.Nat.{ℕ, _+_}
 use mathlib.Core.Bool.{Bool}
 use lib.Dec.{ltb}
 use Rattle.laws.specs.Choose.{pick}
-use Rattle.packet.specs.declared.table.TypeRow.{TypeRow}
-use Rattle.packet.specs.declared.writer.Length.{Length}
-use Rattle.packet.specs.declared.writer.Length.the-variants.{Bytes, Above}
-use Rattle.packet.specs.Sections.{cqDataLength, connidLength}
+use Rattle.protocol.specs.declared.table.TypeRow.{TypeRow}
+use Rattle.protocol.specs.declared.types.Length.{Length}
+use Rattle.protocol.specs.declared.types.Length.the-variants.{Bytes, Above}
+use Rattle.protocol.specs.Sections.{cqDataLength, connidLength}
 
 -- the headers without the raw address
 unfoldable pub headLength : TypeRow → ℕ → ℕ

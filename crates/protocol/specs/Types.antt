@@ -4,11 +4,11 @@ use mathlib.Core.List.{List, [], _∷_}
 use mathlib.Core.Bool.{Bool, true, false, _||_}
 use lib.Dec.{eqb}
 use Rattle.laws.specs.Choose.{pick}
-use Rattle.packet.specs.declared.table.TypeRow.{TypeRow}
-use Rattle.packet.specs.declared.table.Shape.{Shape}
-use Rattle.packet.specs.declared.table.Shape.the-variants.{Cts, CtsData, Eager, Medium, LongCts}
-use Rattle.packet.specs.declared.table.Found.{Found}
-use Rattle.packet.specs.declared.table.Found.the-variants.{Row, Unknown}
+use Rattle.protocol.specs.declared.table.TypeRow.{TypeRow}
+use Rattle.protocol.specs.declared.table.Shape.{Shape}
+use Rattle.protocol.specs.declared.table.Shape.the-variants.{Cts, CtsData, Eager, Medium, LongCts}
+use Rattle.protocol.specs.declared.table.Found.{Found}
+use Rattle.protocol.specs.declared.table.Found.the-variants.{Row, Unknown}
 
 -- type, shape; bytes of the mandatory header, of multiuse and of the connid header; tagged, served; flags it must have, flags it may have
 abbrev pub row : ℕ → Shape → ℕ → ℕ → ℕ → Bool → Bool → ℕ → ℕ → TypeRow

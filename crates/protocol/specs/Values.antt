@@ -5,16 +5,16 @@ use mathlib.Core.List.{List, [], map}
 use mathlib.Core.Option.{Option, some, none}
 use Rattle.laws.specs.Choose.{pick}
 use Rattle.laws.specs.Parts.{part}
-use Rattle.packet.specs.declared.table.Found.{Found}
-use Rattle.packet.specs.declared.table.Found.the-variants.{Row, Unknown}
-use Rattle.packet.specs.declared.types.CqData.{CqData}
-use Rattle.packet.specs.declared.types.Connid.{Connid}
-use Rattle.packet.specs.declared.types.Fields.{Fields}
-use Rattle.packet.specs.declared.types.Header.{Header}
-use Rattle.packet.specs.declared.types.Packet.{Packet}
-use Rattle.packet.specs.declared.types.Span.{Span}
-use Rattle.packet.specs.Layout.{layout, numberIn}
-use Rattle.packet.specs.Types.{rowOf}
+use Rattle.protocol.specs.declared.table.Found.{Found}
+use Rattle.protocol.specs.declared.table.Found.the-variants.{Row, Unknown}
+use Rattle.protocol.specs.declared.types.CqData.{CqData}
+use Rattle.protocol.specs.declared.types.Connid.{Connid}
+use Rattle.protocol.specs.declared.types.Fields.{Fields}
+use Rattle.protocol.specs.declared.types.Header.{Header}
+use Rattle.protocol.specs.declared.types.Packet.{Packet}
+use Rattle.protocol.specs.declared.types.Span.{Span}
+use Rattle.protocol.specs.Layout.{layout, numberIn}
+use Rattle.protocol.specs.Types.{rowOf}
 
 pub record Values : Type 0 where
   pub kind : ℕ

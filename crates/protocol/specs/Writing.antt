@@ -6,18 +6,18 @@ use lib.ListN.{length}
 use Rattle.laws.specs.Choose.{pick}
 use Rattle.laws.specs.Parts.{storeAt}
 use Rattle.wire.specs.LittleEndian.{leBytes}
-use Rattle.packet.specs.declared.table.TypeRow.{TypeRow}
-use Rattle.packet.specs.declared.table.Found.{Found}
-use Rattle.packet.specs.declared.table.Found.the-variants.{Row, Unknown}
-use Rattle.packet.specs.declared.types.Header.{Header}
-use Rattle.packet.specs.declared.types.Refusal.{Refusal}
-use Rattle.packet.specs.declared.types.Written.{Written}
-use Rattle.packet.specs.Types.{rowOf}
-use Rattle.packet.specs.Flags.{flagsOf, flagsFit}
-use Rattle.packet.specs.Layout.{layout, fieldBytes}
-use Rattle.packet.specs.Lengths.{lengthsFit}
-use Rattle.packet.specs.Options.{multiuseBytes, rawAddressBytes, cqDataBytes, connidBytes}
-use Rattle.packet.specs.Refusals.{aboveLimit, badType, badFlags, badLength, noRoom}
+use Rattle.protocol.specs.declared.table.TypeRow.{TypeRow}
+use Rattle.protocol.specs.declared.table.Found.{Found}
+use Rattle.protocol.specs.declared.table.Found.the-variants.{Row, Unknown}
+use Rattle.protocol.specs.declared.types.Header.{Header}
+use Rattle.protocol.specs.declared.types.Refusal.{Refusal}
+use Rattle.protocol.specs.declared.types.Written.{Written}
+use Rattle.protocol.specs.Types.{rowOf}
+use Rattle.protocol.specs.Flags.{flagsOf, flagsFit}
+use Rattle.protocol.specs.Layout.{layout, fieldBytes}
+use Rattle.protocol.specs.Lengths.{lengthsFit}
+use Rattle.protocol.specs.Options.{multiuseBytes, rawAddressBytes, cqDataBytes, connidBytes}
+use Rattle.protocol.specs.Refusals.{aboveLimit, badType, badFlags, badLength, noRoom}
 
 -- type 1, version 1, flags 2
 unfoldable pub baseBytes : ℕ → ℕ → List ℕ

@@ -13,10 +13,10 @@ use native.Mathlib.Numerals.{add-one}
 use native.Mathlib.Omega.{arith}
 use Rattle.bitmap.specs.Map.{firstClear}
 use Rattle.laws.specs.Parts.{part}
-use Rattle.packet.specs.Reading.{packetIn, readOf}
-use Rattle.packet.specs.declared.table.TypeRow.{TypeRow}
-use Rattle.packet.specs.declared.types.Packet.{Packet}
-use Rattle.packet.specs.declared.types.Read.{Read}
+use Rattle.protocol.specs.Reading.{packetIn, readOf}
+use Rattle.protocol.specs.declared.table.TypeRow.{TypeRow}
+use Rattle.protocol.specs.declared.types.Packet.{Packet}
+use Rattle.protocol.specs.declared.types.Read.{Read}
 use Rattle.receiving.specs.Asks.{Beginning, Carrying, Granting, Judging, Limited, Mapped, Mapping, Placed, Storing}
 use Rattle.peer.specs.Calls.{cancelAt, renumbered, renumberedPhase}
 use Rattle.peer.specs.Effects.{grantOf, opened, progressOf, quiet, refuse, withPhase}
@@ -41,8 +41,8 @@ use Rattle.wire.specs.LittleEndian.{leAt}
 use Rattle.bitmap.proofs.BitLaws.{first-clear-le}
 use Rattle.laws.proofs.Choosing.{pick-first, pick-second}
 use Rattle.laws.proofs.Storing.{store-nothing}
-use Rattle.packet.proofs.Accepted.{ReadAs, as-read, packetOf}
-use Rattle.packet.proofs.Served.{served-read}
+use Rattle.protocol.proofs.Accepted.{ReadAs, as-read, packetOf}
+use Rattle.protocol.proofs.Served.{served-read}
 use Rattle.peer.proofs.Ages.{length-renumbered, phase-renumbered}
 use Rattle.peer.proofs.Kept.{begun-standing, continued-standing}
 use Rattle.peer.proofs.Valid.{Valid, Within, fits-valid, open-within}

@@ -8,19 +8,19 @@ use mathlib.Core.Path.{_≡_, refl, ap, _∙_}
 use native.Mathlib.Omega.{arith}
 use Rattle.laws.specs.Choose.{pick}
 use Rattle.laws.specs.Parts.{storeAt}
-use Rattle.packet.specs.Cts.{ctsBytes, ctsHeader}
-use Rattle.packet.specs.Flags.{connidBit, cqDataBit, flagsFit, flagsOf, rawAddressBit}
-use Rattle.packet.specs.Layout.{fieldBytes, layout}
-use Rattle.packet.specs.Lengths.{lengthsFit}
-use Rattle.packet.specs.Options.{connidBytes, cqDataBytes, multiuseBytes, rawAddressBytes}
-use Rattle.packet.specs.Types.{row, rowIn, rowOf}
-use Rattle.packet.specs.Writing.{baseBytes, mandatoryBytes, packetBytes, writeOf}
-use Rattle.packet.specs.declared.table.Shape.the-variants.{Cts}
-use Rattle.packet.specs.declared.table.TypeRow.{TypeRow}
-use Rattle.packet.specs.declared.types.Written.{Written}
+use Rattle.protocol.specs.Cts.{ctsBytes, ctsHeader}
+use Rattle.protocol.specs.Flags.{connidBit, cqDataBit, flagsFit, flagsOf, rawAddressBit}
+use Rattle.protocol.specs.Layout.{fieldBytes, layout}
+use Rattle.protocol.specs.Lengths.{lengthsFit}
+use Rattle.protocol.specs.Options.{connidBytes, cqDataBytes, multiuseBytes, rawAddressBytes}
+use Rattle.protocol.specs.Types.{row, rowIn, rowOf}
+use Rattle.protocol.specs.Writing.{baseBytes, mandatoryBytes, packetBytes, writeOf}
+use Rattle.protocol.specs.declared.table.Shape.the-variants.{Cts}
+use Rattle.protocol.specs.declared.table.TypeRow.{TypeRow}
+use Rattle.protocol.specs.declared.types.Written.{Written}
 use Rattle.wire.specs.LittleEndian.{leBytes}
-use Rattle.packet.proofs.Accepted.{WrittenAs, write-as}
-use Rattle.packet.specs.Writing as writing
+use Rattle.protocol.proofs.Accepted.{WrittenAs, write-as}
+use Rattle.protocol.specs.Writing as writing
 
 cts-length : (send recv n : ℕ) → length (ctsBytes send recv n) ≡ 24
 unfolding ctsBytes packetBytes mandatoryBytes baseBytes multiuseBytes fieldBytes layout rawAddressBytes cqDataBytes connidBytes leBytes pick

@@ -1,15 +1,15 @@
 // How much a grant is for, and the CTS that says so.
-use packet::Connid;
-use packet::CqData;
-use packet::Fields;
-use packet::Header;
 use peer::Message;
 use peer::Peer;
+use protocol::Connid;
+use protocol::CqData;
+use protocol::Fields;
+use protocol::Header;
 ghost use mathlib.Core.Path.{_≡_};
 ghost use Prim.Native.Nat.{_*_, _≤_, _<_, min, max};
 ghost use lib.ListN.{length};
 ghost use Rattle.laws.specs.Parts.{storeAt};
-ghost use Rattle.packet.specs.Cts.{ctsHeader, ctsBytes};
+ghost use Rattle.protocol.specs.Cts.{ctsHeader, ctsBytes};
 ghost use Rattle.receiving.specs.Asks.{Granting};
 ghost use Rattle.peer.specs.Effects.{grantOf};
 

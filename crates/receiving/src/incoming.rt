@@ -1,8 +1,8 @@
 // What a packet that was read says of its message and of its segment.
 use crate::kinds;
-use packet::Header;
-use packet::Packet;
 use peer::Incoming;
+use protocol::Header;
+use protocol::Packet;
 ghost use mathlib.Core.Path.{_≡_};
 ghost use Rattle.laws.specs.Choose.{pick};
 ghost use Rattle.peer.specs.Incomings.{isRtm, isEager, incomingOf};

@@ -1,10 +1,10 @@
 // A packet of one peer, from its bytes to what it leaves.
 use crate::effects;
 use crate::incoming;
-use packet::Read;
 use peer::Peer;
 use peer::Step;
 use peer::refusals::SHORT_REPLY;
+use protocol::Read;
 ghost use mathlib.Core.Path.{_≡_};
 ghost use lib.ListN.{length};
 ghost use Rattle.receiving.specs.Asks.{Limited, Mapped};

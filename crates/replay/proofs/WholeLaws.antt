@@ -13,7 +13,7 @@ use Rattle.laws.proofs.Choosing.{branch, pick-either}
 use Rattle.laws.proofs.Storing.{length-store, store-next, store-start}
 use Rattle.text.specs.Lines.{bytesOf}
 use Rattle.text.proofs.LineLaws.{length-line}
-use Rattle.packet.specs.declared.types.Refusal.{Refusal}
+use Rattle.protocol.specs.declared.types.Refusal.{Refusal}
 use Rattle.engine.specs.Left.{world}
 use Rattle.engine.specs.SetUp.{Prepared, engineOf, lentFits, notStarted, numbersFit, setUp}
 use Rattle.engine.specs.Steps.{World}

@@ -1,5 +1,5 @@
 // What a replay answers.
-use packet::Refusal;
+use protocol::Refusal;
 
 // Why a replay ended: the trace did, or it may take no more entries; an entry is bad that starts at
 // this place; the set-up was refused; or the text has too little room, and nothing was done.

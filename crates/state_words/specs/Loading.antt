@@ -5,7 +5,7 @@ use mathlib.Core.Bool.{Bool}
 use lib.ListN.{getD}
 use lib.Dec.{eqb}
 use Rattle.laws.specs.Choose.{pick}
-use Rattle.packet.specs.declared.types.CqData.{CqData}
+use Rattle.protocol.specs.declared.types.CqData.{CqData}
 use Rattle.peer.specs.declared.types.Receive.{Receive}
 use Rattle.peer.specs.declared.types.Message.{Message}
 use Rattle.peer.specs.declared.types.Phase.{Phase}

@@ -1,7 +1,7 @@
 -- What may be absent, in two words: 1 and its value, or 0 and 0.
 use Prim.Native.Nat.{ℕ}
 use mathlib.Core.Bool.{Bool, true, false}
-use Rattle.packet.specs.declared.types.CqData.{CqData}
+use Rattle.protocol.specs.declared.types.CqData.{CqData}
 
 abbrev pub bitOf : Bool → ℕ
 bitOf true = 1

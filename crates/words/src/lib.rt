@@ -1,6 +1,6 @@
 // Numbers as 64-bit words, for callers in other languages: words copied into others; and what may be
 // absent, in two words, whether it is there and its value, or 0.
-use packet::CqData;
+use protocol::CqData;
 ghost use mathlib.Core.Path.{_≡_};
 ghost use Prim.Native.Nat.{_+_, _≤_};
 ghost use lib.ListN.{length};

@@ -12,15 +12,15 @@ use Rattle.guarantees.specs.Runs.{Act, post, packet, Request, Seen, freshWorld,
 use Rattle.laws.specs.Choose.{pick}
 use Rattle.laws.specs.Parts.{part, storeAt}
 use Rattle.wire.specs.LittleEndian.{leOf, leAt}
-use Rattle.packet.specs.Cts.{ctsBytes}
-use Rattle.packet.specs.Flags.{hasFlag, flagsFit, rawAddressBit, cqDataBit, connidBit, flagsOf}
-use Rattle.packet.specs.Layout.{layout, fieldBytes, numberAt, fieldsIn}
-use Rattle.packet.specs.Lengths.{lengthsFit}
-use Rattle.packet.specs.Options.{rawAddressBytes, cqDataBytes, connidBytes, connidOrZero, multiuseBytes, cqDataIn, connidIn}
-use Rattle.packet.specs.Reading.{headerIn, packetIn, readLengths, readSections, readFlags, readTyped, readOf}
-use Rattle.packet.specs.Sections.{rawSpan, afterRaw, cqDataLength, connidLength, connidAt, sectionsFrom, extentOf}
-use Rattle.packet.specs.Types.{rowIn, rowOf, admit}
-use Rattle.packet.specs.Writing.{baseBytes, mandatoryBytes, packetBytes}
+use Rattle.protocol.specs.Cts.{ctsBytes}
+use Rattle.protocol.specs.Flags.{hasFlag, flagsFit, rawAddressBit, cqDataBit, connidBit, flagsOf}
+use Rattle.protocol.specs.Layout.{layout, fieldBytes, numberAt, fieldsIn}
+use Rattle.protocol.specs.Lengths.{lengthsFit}
+use Rattle.protocol.specs.Options.{rawAddressBytes, cqDataBytes, connidBytes, connidOrZero, multiuseBytes, cqDataIn, connidIn}
+use Rattle.protocol.specs.Reading.{headerIn, packetIn, readLengths, readSections, readFlags, readTyped, readOf}
+use Rattle.protocol.specs.Sections.{rawSpan, afterRaw, cqDataLength, connidLength, connidAt, sectionsFrom, extentOf}
+use Rattle.protocol.specs.Types.{rowIn, rowOf, admit}
+use Rattle.protocol.specs.Writing.{baseBytes, mandatoryBytes, packetBytes}
 use Rattle.bitmap.specs.Map.{bit, bitAt, setBit, clearBit, marked, cleared, touched, countSet, firstClear}
 use Rattle.peer.specs.Calls.{someInTheWay, countPosted, countOlder, renumbered, placed, placedIn, postEffect, readEffect, packetEffect, cancelAt, cancelEffect, reportAt, reportEffect, peerStep}
 use Rattle.peer.specs.Effects.{progressOf, grantOf, settledAs, accept, begun, truncatedAt, carry}

@@ -1,6 +1,6 @@
 -- `packet::flags::connid_bit` meets its contract.
 use borrow.Author.Needs.{needs}
-use Rattle.packet.specs.Flags.{connidBit}
+use Rattle.protocol.specs.Flags.{connidBit}
 use Rattle.packet.proofs.flags.connid_bit.Statement.{statement}
 use Rattle.packet.proofs.flags.connid_bit.Tie as tie
 

@@ -1,6 +1,6 @@
 -- `packet::flags::cq_data_bit` meets its contract.
 use borrow.Author.Needs.{needs}
-use Rattle.packet.specs.Flags.{cqDataBit}
+use Rattle.protocol.specs.Flags.{cqDataBit}
 use Rattle.packet.proofs.flags.cq_data_bit.Statement.{statement}
 use Rattle.packet.proofs.flags.cq_data_bit.Tie as tie
 

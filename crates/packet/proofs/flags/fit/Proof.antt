@@ -1,7 +1,7 @@
 -- `packet::flags::fit` meets its contract.
 use lib.Bits.{and-le-l}
 use mathlib.Core.Path.{refl}
-use Rattle.packet.specs.Flags.{flagsFit}
+use Rattle.protocol.specs.Flags.{flagsFit}
 use Rattle.packet.proofs.flags.fit.Statement.{statement}
 use Rattle.packet.proofs.flags.fit.Tie as tie
 

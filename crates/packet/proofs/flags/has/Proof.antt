@@ -1,7 +1,7 @@
 -- `packet::flags::has` meets its contract.
 use borrow.Author.Needs.{needs}
 use mathlib.Core.Path.{refl}
-use Rattle.packet.specs.Flags.{hasFlag}
+use Rattle.protocol.specs.Flags.{hasFlag}
 use Rattle.packet.proofs.flags.has.Statement.{statement}
 use Rattle.packet.proofs.flags.has.Tie as tie
 

@@ -1,6 +1,6 @@
 -- `packet::flags::raw_address_bit` meets its contract.
 use Rattle.laws.specs.Choose.{pick}
-use Rattle.packet.specs.Flags.{rawAddressBit}
+use Rattle.protocol.specs.Flags.{rawAddressBit}
 use Rattle.packet.proofs.flags.raw_address_bit.Statement.{statement}
 use Rattle.packet.proofs.flags.raw_address_bit.Tie as tie
 

@@ -1,8 +1,8 @@
 -- `packet::flags::written` meets its contract. The sum does not wrap: the flags of the optional headers are at most 0x8003 together.
 use borrow.Author.Needs.{needs}
 use native.Mathlib.Omega.{arith}
-use Rattle.packet.specs.Flags.{flagsOf}
-use Rattle.packet.proofs.FlagLaws.{options-small}
+use Rattle.protocol.specs.Flags.{flagsOf}
+use Rattle.protocol.proofs.FlagLaws.{options-small}
 use Rattle.packet.proofs.flags.written.Statement.{statement}
 use Rattle.packet.proofs.flags.written.Tie as tie
 

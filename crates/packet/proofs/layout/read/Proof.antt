@@ -3,9 +3,9 @@ use Prim.Native.Nat.{_+_, _-_}
 use borrow.Author.Needs.{needs}
 use mathlib.Core.Path.{_≡_, sym}
 use native.Mathlib.Omega.{arith}
-use Rattle.packet.specs.Layout.{fieldsAt, untagged, widths}
-use Rattle.packet.proofs.ReadingLaws.{fields-tagged}
-use Rattle.packet.proofs.RowLaws.{layout-plain, layout-tagged, tag-ends}
+use Rattle.protocol.specs.Layout.{fieldsAt, untagged, widths}
+use Rattle.protocol.proofs.ReadingLaws.{fields-tagged}
+use Rattle.protocol.proofs.RowLaws.{layout-plain, layout-tagged, tag-ends}
 use Rattle.packet.proofs.layout.read.Statement.{statement}
 use Rattle.packet.proofs.layout.read.Tie as tie
 

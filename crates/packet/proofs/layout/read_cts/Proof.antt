@@ -1,7 +1,7 @@
 -- `packet::layout::read_cts` meets its contract.
 use borrow.Author.Needs.{needs}
 use Rattle.laws.specs.Choose.{pick}
-use Rattle.packet.specs.Layout.{fieldsIn, numberAt}
+use Rattle.protocol.specs.Layout.{fieldsIn, numberAt}
 use Rattle.packet.proofs.layout.read_cts.Statement.{statement}
 use Rattle.packet.proofs.layout.read_cts.Tie as tie
 

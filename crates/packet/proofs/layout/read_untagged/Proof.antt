@@ -1,8 +1,8 @@
 -- `packet::layout::read_untagged` meets its contract: by the rule of the table a shape's fields lie inside the header, behind multiuse.
 use borrow.Author.Needs.{needs}
 use native.Mathlib.Omega.{arith}
-use Rattle.packet.specs.declared.table.Shape.the-variants.{Cts, CtsData, Eager, LongCts, Medium}
-use Rattle.packet.proofs.RowLaws.{shape-fits}
+use Rattle.protocol.specs.declared.table.Shape.the-variants.{Cts, CtsData, Eager, LongCts, Medium}
+use Rattle.protocol.proofs.RowLaws.{shape-fits}
 use Rattle.packet.proofs.layout.read_untagged.Statement.{statement}
 use Rattle.packet.proofs.layout.read_untagged.Tie as tie
 

@@ -1,8 +1,8 @@
 -- `packet::layout::write` meets its contract: the tag ends the header, where the shape's fields end.
 use borrow.Author.Needs.{needs}
 use native.Mathlib.Omega.{arith}
-use Rattle.packet.proofs.RowLaws.{layout-plain, tag-ends}
-use Rattle.packet.proofs.WritingLaws.{tag-stored}
+use Rattle.protocol.proofs.RowLaws.{layout-plain, tag-ends}
+use Rattle.protocol.proofs.WritingLaws.{tag-stored}
 use Rattle.packet.proofs.layout.write.Statement.{statement}
 use Rattle.packet.proofs.layout.write.Tie as tie
 

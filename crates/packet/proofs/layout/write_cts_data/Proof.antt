@@ -1,9 +1,9 @@
 -- `packet::layout::write_cts_data` meets its contract.
 use borrow.Author.Needs.{needs}
 use native.Mathlib.Omega.{arith}
-use Rattle.packet.specs.Layout.{untagged}
-use Rattle.packet.specs.declared.table.Shape.the-variants.{CtsData}
-use Rattle.packet.proofs.WritingLaws.{fields-stored}
+use Rattle.protocol.specs.Layout.{untagged}
+use Rattle.protocol.specs.declared.table.Shape.the-variants.{CtsData}
+use Rattle.protocol.proofs.WritingLaws.{fields-stored}
 use Rattle.packet.proofs.layout.write_cts_data.Statement.{statement}
 use Rattle.packet.proofs.layout.write_cts_data.Tie as tie
 

@@ -1,9 +1,9 @@
 -- `packet::layout::write_eager` meets its contract.
 use borrow.Author.Needs.{needs}
 use native.Mathlib.Omega.{arith}
-use Rattle.packet.specs.Layout.{untagged}
-use Rattle.packet.specs.declared.table.Shape.the-variants.{Eager}
-use Rattle.packet.proofs.WritingLaws.{fields-stored}
+use Rattle.protocol.specs.Layout.{untagged}
+use Rattle.protocol.specs.declared.table.Shape.the-variants.{Eager}
+use Rattle.protocol.proofs.WritingLaws.{fields-stored}
 use Rattle.packet.proofs.layout.write_eager.Statement.{statement}
 use Rattle.packet.proofs.layout.write_eager.Tie as tie
 

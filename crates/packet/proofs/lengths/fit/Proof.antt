@@ -1,7 +1,7 @@
 -- `packet::lengths::fit` meets its contract.
 use borrow.Author.Needs.{needs}
 use borrow.Author.Tests.{le-leb, lt-leb, eq-eqb, ne-eqb}
-use Rattle.packet.specs.Lengths.{lengthsFit}
+use Rattle.protocol.specs.Lengths.{lengthsFit}
 use Rattle.packet.proofs.lengths.fit.Statement.{statement}
 use Rattle.packet.proofs.lengths.fit.Tie as tie
 

@@ -2,7 +2,7 @@
 use borrow.Author.Needs.{needs}
 use mathlib.Core.Path.{sym, _∙_}
 use Rattle.laws.specs.Choose.{pick}
-use Rattle.packet.specs.Options.{connidIn}
+use Rattle.protocol.specs.Options.{connidIn}
 use Rattle.packet.proofs.options.read_connid.Statement.{statement}
 use Rattle.packet.proofs.options.read_connid.Tie as tie
 

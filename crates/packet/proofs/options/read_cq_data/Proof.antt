@@ -2,7 +2,7 @@
 use borrow.Author.Needs.{needs}
 use mathlib.Core.Path.{sym, _∙_}
 use Rattle.laws.specs.Choose.{pick}
-use Rattle.packet.specs.Options.{cqDataIn}
+use Rattle.protocol.specs.Options.{cqDataIn}
 use Rattle.packet.proofs.options.read_cq_data.Statement.{statement}
 use Rattle.packet.proofs.options.read_cq_data.Tie as tie
 

@@ -2,9 +2,9 @@
 use borrow.Author.Needs.{needs}
 use mathlib.Core.Path.{sym}
 use native.Mathlib.Omega.{arith}
-use Rattle.packet.specs.Options.{connidBytes}
+use Rattle.protocol.specs.Options.{connidBytes}
 use Rattle.laws.proofs.Storing.{store-nothing}
-use Rattle.packet.proofs.RowLaws.{connid-width}
+use Rattle.protocol.proofs.RowLaws.{connid-width}
 use Rattle.wire.proofs.Laws.{length-le}
 use Rattle.packet.proofs.options.write_connid.Statement.{statement}
 use Rattle.packet.proofs.options.write_connid.Tie as tie

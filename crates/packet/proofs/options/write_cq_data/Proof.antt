@@ -2,7 +2,7 @@
 use borrow.Author.Needs.{needs}
 use mathlib.Core.Path.{refl, sym}
 use native.Mathlib.Omega.{arith}
-use Rattle.packet.specs.Options.{cqDataBytes}
+use Rattle.protocol.specs.Options.{cqDataBytes}
 use Rattle.laws.proofs.Storing.{store-nothing}
 use Rattle.wire.proofs.Laws.{length-le}
 use Rattle.packet.proofs.options.write_cq_data.Statement.{statement}

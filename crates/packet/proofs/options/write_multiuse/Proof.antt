@@ -1,7 +1,7 @@
 -- `packet::options::write_multiuse` meets its contract.
 use borrow.Author.Needs.{needs}
-use Rattle.packet.specs.Options.{connidOrZero, multiuseBytes}
-use Rattle.packet.proofs.RowLaws.{multiuse-width}
+use Rattle.protocol.specs.Options.{connidOrZero, multiuseBytes}
+use Rattle.protocol.proofs.RowLaws.{multiuse-width}
 use Rattle.wire.proofs.Laws.{length-le}
 use Rattle.packet.proofs.options.write_multiuse.Statement.{statement}
 use Rattle.packet.proofs.options.write_multiuse.Tie as tie

@@ -4,7 +4,7 @@ use mathlib.Core.Path.{refl, sym}
 use native.Mathlib.Omega.{arith}
 use Rattle.wire.specs.LittleEndian.{leBytes}
 use Rattle.laws.proofs.Storing.{store-nothing}
-use Rattle.packet.proofs.RowLaws.{width-eight}
+use Rattle.protocol.proofs.RowLaws.{width-eight}
 use Rattle.packet.proofs.options.write_number.Statement.{statement}
 use Rattle.packet.proofs.options.write_number.Tie as tie
 

@@ -7,10 +7,10 @@ use mathlib.Core.Bool.{true}
 use mathlib.Core.Path.{sym, _∙_}
 use native.Mathlib.Omega.{arith}
 use Rattle.laws.specs.Choose.{pick}
-use Rattle.packet.specs.Options.{rawAddressBytes}
+use Rattle.protocol.specs.Options.{rawAddressBytes}
 use Rattle.wire.specs.LittleEndian.{leBytes}
 use Rattle.laws.proofs.Storing.{store-next, store-nothing}
-use Rattle.packet.proofs.OptionLaws.{length-raw}
+use Rattle.protocol.proofs.OptionLaws.{length-raw}
 use Rattle.wire.proofs.Laws.{length-le}
 use Rattle.packet.proofs.options.write_raw_address.Statement.{statement}
 use Rattle.packet.proofs.options.write_raw_address.Tie as tie

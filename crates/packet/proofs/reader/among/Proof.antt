@@ -8,13 +8,13 @@ use mathlib.Core.Logic.{⊎-elim}
 use mathlib.Core.Path.{_≡_, sym, _∙_}
 use native.Mathlib.Omega.{arith}
 use Rattle.laws.specs.Choose.{pick}
-use Rattle.packet.specs.Reading.{readOf, readTyped}
-use Rattle.packet.specs.Types.{admit, rowOf}
-use Rattle.packet.specs.declared.table.Found.{Found}
-use Rattle.packet.specs.declared.table.Found.the-variants.{Row, Unknown}
-use Rattle.packet.specs.declared.table.TypeRow.{TypeRow}
+use Rattle.protocol.specs.Reading.{readOf, readTyped}
+use Rattle.protocol.specs.Types.{admit, rowOf}
+use Rattle.protocol.specs.declared.table.Found.{Found}
+use Rattle.protocol.specs.declared.table.Found.the-variants.{Row, Unknown}
+use Rattle.protocol.specs.declared.table.TypeRow.{TypeRow}
 use Rattle.laws.proofs.Choosing.{pick-cases}
-use Rattle.packet.proofs.TableRule.{sound}
+use Rattle.protocol.proofs.TableRule.{sound}
 use Rattle.packet.proofs.reader.among.Statement.{statement}
 use Rattle.packet.proofs.reader.among.Tie as tie
 

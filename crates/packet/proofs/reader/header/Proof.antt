@@ -1,6 +1,6 @@
 -- `packet::reader::header` meets its contract.
 use borrow.Author.Needs.{needs}
-use Rattle.packet.specs.Reading.{headerIn}
+use Rattle.protocol.specs.Reading.{headerIn}
 use Rattle.packet.proofs.reader.header.Statement.{statement}
 use Rattle.packet.proofs.reader.header.Tie as tie
 

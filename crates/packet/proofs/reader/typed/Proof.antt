@@ -3,9 +3,9 @@ use borrow.Author.Needs.{needs}
 use borrow.Author.Tests.{not-true, not-false}
 use mathlib.Core.Path.{_≡_, sym, _∙_}
 use Rattle.laws.specs.Choose.{pick}
-use Rattle.packet.specs.Reading.{readFlags, readSections}
-use Rattle.packet.specs.Sections.{extentOf}
-use Rattle.packet.proofs.ReadingLaws.{extent-inside}
+use Rattle.protocol.specs.Reading.{readFlags, readSections}
+use Rattle.protocol.specs.Sections.{extentOf}
+use Rattle.protocol.proofs.ReadingLaws.{extent-inside}
 use Rattle.packet.proofs.reader.typed.Statement.{statement}
 use Rattle.packet.proofs.reader.typed.Tie as tie
 

@@ -2,7 +2,7 @@
 use borrow.Author.Needs.{needs}
 use borrow.Author.Tests.{not-true, not-false}
 use Rattle.laws.specs.Choose.{pick}
-use Rattle.packet.specs.Reading.{packetIn, readLengths}
+use Rattle.protocol.specs.Reading.{packetIn, readLengths}
 use Rattle.packet.proofs.reader.whole.Statement.{statement}
 use Rattle.packet.proofs.reader.whole.Tie as tie
 

@@ -1,7 +1,7 @@
 -- `packet::sections::connid_at` meets its contract.
 use borrow.Author.Tests.{eq-eqb, ne-eqb}
 use Rattle.laws.specs.Choose.{pick}
-use Rattle.packet.specs.Sections.{connidAt}
+use Rattle.protocol.specs.Sections.{connidAt}
 use Rattle.packet.proofs.sections.connid_at.Statement.{statement}
 use Rattle.packet.proofs.sections.connid_at.Tie as tie
 

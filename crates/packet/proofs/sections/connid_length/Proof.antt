@@ -1,7 +1,7 @@
 -- `packet::sections::connid_length` meets its contract.
 use borrow.Author.Needs.{needs}
 use Rattle.laws.specs.Choose.{pick}
-use Rattle.packet.specs.Sections.{connidLength}
+use Rattle.protocol.specs.Sections.{connidLength}
 use Rattle.packet.proofs.sections.connid_length.Statement.{statement}
 use Rattle.packet.proofs.sections.connid_length.Tie as tie
 

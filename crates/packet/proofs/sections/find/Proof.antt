@@ -6,9 +6,9 @@ use mathlib.Core.Path.{sym}
 use native.Mathlib.Nat.{add-assoc, add-zero}
 use native.Mathlib.Omega.{arith}
 use Rattle.laws.specs.Choose.{pick}
-use Rattle.packet.specs.Sections.{afterRaw, extentOf, rawSpan}
-use Rattle.packet.proofs.ReadingLaws.{cut-before}
-use Rattle.packet.proofs.RowLaws.{header-bounds}
+use Rattle.protocol.specs.Sections.{afterRaw, extentOf, rawSpan}
+use Rattle.protocol.proofs.ReadingLaws.{cut-before}
+use Rattle.protocol.proofs.RowLaws.{header-bounds}
 use Rattle.packet.proofs.sections.find.Statement.{statement}
 use Rattle.packet.proofs.sections.find.Tie as tie
 

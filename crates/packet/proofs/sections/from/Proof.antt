@@ -3,8 +3,8 @@ use borrow.Author.Needs.{needs}
 use borrow.Author.Tests.{lt-ltb, le-ltb}
 use native.Mathlib.Omega.{arith}
 use Rattle.laws.specs.Choose.{pick}
-use Rattle.packet.specs.Sections.{sectionsFrom}
-use Rattle.packet.proofs.ReadingLaws.{options-short}
+use Rattle.protocol.specs.Sections.{sectionsFrom}
+use Rattle.protocol.proofs.ReadingLaws.{options-short}
 use Rattle.packet.proofs.sections.from.Statement.{statement}
 use Rattle.packet.proofs.sections.from.Tie as tie
 

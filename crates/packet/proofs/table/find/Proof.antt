@@ -9,9 +9,9 @@ use mathlib.Core.Path.{_≡_, refl, sym, _∙_}
 use native.Mathlib.Numerals.{add-one}
 use native.Mathlib.Omega.{arith}
 use Rattle.laws.specs.Choose.{pick}
-use Rattle.packet.specs.Types.{rowIn, rowOf, rows}
-use Rattle.packet.specs.declared.table.Found.the-variants.{Row, Unknown}
-use Rattle.packet.specs.declared.table.TypeRow.{TypeRow}
+use Rattle.protocol.specs.Types.{rowIn, rowOf, rows}
+use Rattle.protocol.specs.declared.table.Found.the-variants.{Row, Unknown}
+use Rattle.protocol.specs.declared.table.TypeRow.{TypeRow}
 use Rattle.packet.proofs.table.find.Statement.{statement}
 use Rattle.packet.proofs.table.find.Tie as tie
 

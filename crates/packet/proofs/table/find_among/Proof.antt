@@ -1,7 +1,7 @@
 -- `packet::table::find_among` meets its contract.
 use borrow.Author.Needs.{needs}
 use Rattle.laws.specs.Choose.{pick}
-use Rattle.packet.specs.Types.{admit}
+use Rattle.protocol.specs.Types.{admit}
 use Rattle.packet.proofs.table.find_among.Statement.{statement}
 use Rattle.packet.proofs.table.find_among.Tie as tie
 

@@ -1,7 +1,7 @@
 -- `packet::writer::limited` meets its contract.
 use borrow.Author.Tests.{lt-ltb, le-ltb}
 use Rattle.laws.specs.Choose.{pick}
-use Rattle.packet.specs.Totals.{limitedTo}
+use Rattle.protocol.specs.Totals.{limitedTo}
 use Rattle.packet.proofs.writer.limited.Statement.{statement}
 use Rattle.packet.proofs.writer.limited.Tie as tie
 

@@ -4,10 +4,10 @@ use borrow.Author.Needs.{needs}
 use lib.ListN.{length, length-append}
 use mathlib.Core.List.{_++_}
 use native.Mathlib.Omega.{arith}
-use Rattle.packet.specs.Options.{connidBytes, cqDataBytes, rawAddressBytes}
-use Rattle.packet.specs.Writing.{mandatoryBytes, packetBytes}
+use Rattle.protocol.specs.Options.{connidBytes, cqDataBytes, rawAddressBytes}
+use Rattle.protocol.specs.Writing.{mandatoryBytes, packetBytes}
 use Rattle.laws.proofs.Storing.{store-next}
-use Rattle.packet.proofs.WritingLaws.{length-mandatory, length-packet, raw-fits}
+use Rattle.protocol.proofs.WritingLaws.{length-mandatory, length-packet, raw-fits}
 use Rattle.packet.proofs.writer.put.Statement.{statement}
 use Rattle.packet.proofs.writer.put.Tie as tie
 

@@ -6,7 +6,7 @@ use mathlib.Core.List.{[], _∷_}
 use mathlib.Core.Path.{_≡_, refl}
 use native.Mathlib.Omega.{arith}
 use Rattle.laws.specs.Parts.{storeAt}
-use Rattle.packet.specs.Writing.{baseBytes}
+use Rattle.protocol.specs.Writing.{baseBytes}
 use Rattle.wire.specs.LittleEndian.{leBytes}
 use Rattle.laws.proofs.Storing.{sets-store, store-next}
 use Rattle.wire.proofs.Laws.{length-le}

@@ -3,14 +3,14 @@ use borrow.Author.Needs.{needs}
 use lib.ListN.{length-append}
 use mathlib.Core.List.{_++_}
 use native.Mathlib.Omega.{arith}
-use Rattle.packet.specs.Flags.{flagsOf}
-use Rattle.packet.specs.Layout.{fieldBytes, fieldsAt, layout}
-use Rattle.packet.specs.Options.{multiuseBytes}
-use Rattle.packet.specs.Writing.{baseBytes, mandatoryBytes}
+use Rattle.protocol.specs.Flags.{flagsOf}
+use Rattle.protocol.specs.Layout.{fieldBytes, fieldsAt, layout}
+use Rattle.protocol.specs.Options.{multiuseBytes}
+use Rattle.protocol.specs.Writing.{baseBytes, mandatoryBytes}
 use Rattle.laws.proofs.Storing.{store-next}
-use Rattle.packet.proofs.LayoutLaws.{length-fields}
-use Rattle.packet.proofs.OptionLaws.{length-multiuse}
-use Rattle.packet.proofs.WritingLaws.{length-base}
+use Rattle.protocol.proofs.LayoutLaws.{length-fields}
+use Rattle.protocol.proofs.OptionLaws.{length-multiuse}
+use Rattle.protocol.proofs.WritingLaws.{length-base}
 use Rattle.packet.proofs.writer.put_mandatory.Statement.{statement}
 use Rattle.packet.proofs.writer.put_mandatory.Tie as tie
 

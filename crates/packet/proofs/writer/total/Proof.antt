@@ -5,9 +5,9 @@ use borrow.Author.Tests.{not-true, not-false}
 use mathlib.Core.Path.{sym}
 use native.Mathlib.Omega.{arith}
 use Rattle.laws.specs.Choose.{pick}
-use Rattle.packet.specs.Totals.{totalOf}
+use Rattle.protocol.specs.Totals.{totalOf}
 use Rattle.laws.proofs.Choosing.{pick-either}
-use Rattle.packet.proofs.WritingLaws.{above-limit, head-small}
+use Rattle.protocol.proofs.WritingLaws.{above-limit, head-small}
 use Rattle.packet.proofs.writer.total.Statement.{statement}
 use Rattle.packet.proofs.writer.total.Tie as tie
 

@@ -6,9 +6,9 @@ use lib.ListN.{length}
 use mathlib.Core.Path.{_≡_, sym, _∙_}
 use native.Mathlib.Omega.{arith}
 use Rattle.laws.specs.Choose.{pick}
-use Rattle.packet.specs.Totals.{limitedTo}
-use Rattle.packet.specs.Writing.{packetBytes, writeAs, writeBytes}
-use Rattle.packet.proofs.WritingLaws.{limited-above, limited-bytes, total-is}
+use Rattle.protocol.specs.Totals.{limitedTo}
+use Rattle.protocol.specs.Writing.{packetBytes, writeAs, writeBytes}
+use Rattle.protocol.proofs.WritingLaws.{limited-above, limited-bytes, total-is}
 use Rattle.packet.proofs.writer.typed.Statement.{statement}
 use Rattle.packet.proofs.writer.typed.Tie as tie
 

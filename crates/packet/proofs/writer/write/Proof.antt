@@ -1,8 +1,8 @@
 -- `packet::writer::write` meets its contract. What `typed` requires, the rule of the table, holds of a row that is found.
 use borrow.Author.Needs.{needs}
 use mathlib.Core.Path.{sym, _∙_}
-use Rattle.packet.specs.Writing.{writeOf, writeTyped}
-use Rattle.packet.proofs.TableRule.{sound}
+use Rattle.protocol.specs.Writing.{writeOf, writeTyped}
+use Rattle.protocol.proofs.TableRule.{sound}
 use Rattle.packet.proofs.writer.write.Statement.{statement}
 use Rattle.packet.proofs.writer.write.Tie as tie
 
