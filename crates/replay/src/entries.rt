@@ -32,7 +32,7 @@ pub(crate) fn run(
     let mut written = at;
     let mut taken: usize = 0;
     while taken < budget && place < trace.len() {
-        match trace::read_entry(trace, place) {
+        match trace_reader::read_entry(trace, place) {
             Found::Bad => {
                 let ending = Ending::Bad(place);
                 return Replayed {

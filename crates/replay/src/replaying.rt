@@ -114,7 +114,7 @@ pub fn replay(
             ending: Ending::NoRoom,
         };
     }
-    match trace::read_set_up(trace) {
+    match trace_reader::read_set_up(trace) {
         SetUp::Bad => tell(text, Ending::Bad(0)),
         SetUp::Are(n, area, limit, next) => {
             let bytes = lent(n, area, arena.len());

@@ -1,11 +1,4 @@
 pub mod NumberLaws
 pub mod EntryLaws
 pub mod GroupLaws
-pub mod GroupsRead
 pub mod ShortestForm
-pub mod WritingLaws
-pub mod RoundTrips
-pub mod Walks
-pub mod ReaderTypes
-pub mod TakenApart
-pub mod ReaderCalls

@@ -1,4 +1,4 @@
--- A number is read only where its shortest form stands, `NumberShortest` of specs/RoundTrip.antt: by induction over the groups.
+-- A number is read only where its shortest form stands, `NumberShortest` of specs/ShortestForm.antt: by induction over the groups.
 use Prim.Native.Nat.{ℕ, zero, suc, _+_, _-_, _*_, _/_, _%_, _^_, _≤_, _<_}
 use borrow.Author.Tests.{leb-false, ltb-true, ltb-false}
 use lib.Dec.{eqb, leb, ltb}
@@ -11,7 +11,7 @@ use mathlib.Core.Path.{_≡_, _∙_}
 use native.Mathlib.Omega.{arith}
 use Rattle.laws.specs.Parts.{part}
 use Rattle.trace.specs.Numbers.{groups, lastGroup, numberAt, numberBytes, numberFrom}
-use Rattle.trace.specs.RoundTrip.{NumberShortest}
+use Rattle.trace.specs.ShortestForm.{NumberShortest}
 use Rattle.trace.specs.declared.types.Number.the-variants.{Is, Bad}
 use Rattle.laws.proofs.Choosing.{pick-cases, pick-second}
 use Rattle.trace.proofs.GroupLaws.{groups-last, groups-suc, rest-sum}

@@ -1,4 +1,4 @@
-// What is read from a trace, each with the place behind it, and what the writer answers.
+// What is read from a trace, each with the place behind it.
 use peer::Receive;
 
 pub enum Number {
@@ -33,10 +33,4 @@ pub enum Entry {
 pub enum Found {
     Entry(Entry, usize),
     Bad,
-}
-
-// The place behind what was written, or that the buffer is too short.
-pub enum Written {
-    Next(usize),
-    Short,
 }

@@ -1,0 +1,4 @@
+pub mod GroupCounts
+pub mod GroupsRead
+pub mod WritingLaws
+pub mod RoundTrips

@@ -1,0 +1,18 @@
+-- A number is read only where its one shortest form stands (01, "Replay": "below 2^64, shortest form only").
+use Prim.Native.Nat.{ℕ, _+_, _-_, _^_, _<_}
+use mathlib.Core.List.{List}
+use mathlib.Core.Path.{_≡_}
+use lib.ListN.{length, getD}
+use Rattle.laws.specs.Parts.{part}
+use Rattle.trace.specs.declared.types.Number.the-variants.{Is}
+use Rattle.trace.specs.Numbers.{numberAt, numberBytes}
+
+-- what machine integers are
+abbrev pub Small : ℕ → Type 0
+Small v = v < 2 ^ 64
+
+-- what is read is small, and its shortest form stands where it is read, up to the place behind it
+abbrev pub NumberShortest : Type 0
+NumberShortest =
+    (s : List ℕ) (at v next : ℕ) → ((i : ℕ) → getD s i 0 < 256) → numberAt s at ≡ Is v next
+    → Small v × (next ≡ at + length (numberBytes v)) × (part s at (next - at) ≡ numberBytes v)

@@ -1,0 +1,4 @@
+pub mod Walks
+pub mod ReaderTypes
+pub mod TakenApart
+pub mod ReaderCalls
