@@ -1,6 +1,5 @@
 // One peer: its slots and their steps, the definitions of its calls, and what is proved of them.
 // The code of the calls stands in `posting`, `receiving` and `lending`.
-pub mod refusals;
 mod state;
 mod types;
 

@@ -1,15 +1,15 @@
 // A receive posted, and a slot cancelled.
 use crate::ages;
 use crate::places;
+use crate::refusals::BAD_SLOT;
+use crate::refusals::NO_SLOT;
+use crate::refusals::OUTSIDE_AREA;
+use crate::refusals::OVERLAPS;
 use peer::Answer;
 use peer::Peer;
 use peer::Receive;
 use peer::Step;
 use peer::Vacancy;
-use peer::refusals::BAD_SLOT;
-use peer::refusals::NO_SLOT;
-use peer::refusals::OUTSIDE_AREA;
-use peer::refusals::OVERLAPS;
 ghost use mathlib.Core.Path.{_≡_};
 ghost use mathlib.Core.List.{List};
 ghost use Prim.Native.Nat.{ℕ};

@@ -2,6 +2,7 @@
 mod ages;
 mod calls;
 mod places;
+mod refusals;
 
 pub use calls::cancel;
 pub use calls::post;

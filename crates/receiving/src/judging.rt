@@ -1,18 +1,18 @@
 // What is to be done with a packet: all its tests after the reader's. The area is not read.
 use crate::kinds;
 use crate::matching;
+use crate::refusals::BEYOND_GRANT;
+use crate::refusals::DIFFERS;
+use crate::refusals::EARLY;
+use crate::refusals::LATE;
+use crate::refusals::NO_RECEIVE;
+use crate::refusals::REPEATED;
 use peer::Fit;
 use peer::Found;
 use peer::Inbound;
 use peer::Incoming;
 use peer::Peer;
 use peer::Verdict;
-use peer::refusals::BEYOND_GRANT;
-use peer::refusals::DIFFERS;
-use peer::refusals::EARLY;
-use peer::refusals::LATE;
-use peer::refusals::NO_RECEIVE;
-use peer::refusals::REPEATED;
 ghost use mathlib.Core.Path.{_≡_};
 ghost use mathlib.Core.Bool.{true};
 ghost use Prim.Native.Nat.{_+_};

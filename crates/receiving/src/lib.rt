@@ -7,6 +7,7 @@ mod judging;
 mod kinds;
 mod matching;
 mod packets;
+mod refusals;
 mod segment;
 
 pub use packets::packet;

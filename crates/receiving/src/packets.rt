@@ -1,9 +1,9 @@
 // A packet of one peer, from its bytes to what it leaves.
 use crate::effects;
 use crate::incoming;
+use crate::refusals::SHORT_REPLY;
 use peer::Peer;
 use peer::Step;
-use peer::refusals::SHORT_REPLY;
 use protocol::Read;
 ghost use mathlib.Core.Path.{_≡_};
 ghost use lib.ListN.{length};
