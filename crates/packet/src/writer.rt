@@ -19,7 +19,7 @@ use protocol::Refusal;
 use protocol::TypeRow;
 use protocol::Written;
 ghost use mathlib.Core.Path.{_≡_};
-ghost use Prim.Native.Nat.{_≤_, _+_};
+ghost use Prim.Native.Nat.{_≤_};
 ghost use lib.ListN.{length};
 ghost use Rattle.laws.specs.Parts.{storeAt};
 ghost use Rattle.protocol.specs.Flags.{flagsOf};

@@ -37,10 +37,7 @@ fn opened(receive: Receive, h: Incoming) -> Inbound
         credit_request: h.credit_request,
         cq_data,
     };
-    Inbound {
-        receive: receive,
-        message,
-    }
+    Inbound { receive, message }
 }
 
 // One search of the map: every byte is in, all that was granted is, or neither.

@@ -6,7 +6,7 @@ use protocol::CqData;
 use protocol::Fields;
 use protocol::Header;
 ghost use mathlib.Core.Path.{_≡_};
-ghost use Prim.Native.Nat.{_*_, _≤_, _<_, min, max};
+ghost use Prim.Native.Nat.{_≤_, min, max};
 ghost use lib.ListN.{length};
 ghost use Rattle.laws.specs.Parts.{storeAt};
 ghost use Rattle.protocol.specs.Cts.{ctsHeader, ctsBytes};

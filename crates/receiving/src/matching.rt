@@ -9,7 +9,6 @@ use peer::Phase;
 use peer::Receive;
 use peer::Slot;
 ghost use mathlib.Core.Path.{_≡_};
-ghost use Prim.Native.Nat.{_+_};
 ghost use Rattle.peer.specs.Matching.{openHere, findOpen, fits, older, olderHere, oldest, ahead, sameMessage};
 
 // How far an id is ahead of the next one, round at 2^32.
