@@ -12,7 +12,8 @@ use native.Mathlib.Nat.{add-zero, add-suc, suc-add}
 use native.Mathlib.Omega.{arith}
 use Rattle.bitmap.specs.Map.{bitAt, cleared, firstClear, marked, touched}
 use Rattle.laws.specs.Choose.{pick}
-use Rattle.bitmap.proofs.Edited.{cleared-edited, edited-in, edited-out, eq-or-ne, le-or-lt, length-edited, marked-edited}
+use Rattle.laws.proofs.Comparing.{eq-or-ne, le-or-lt}
+use Rattle.bitmap.proofs.Edited.{cleared-edited, edited-in, edited-out, length-edited, marked-edited}
 use Rattle.bitmap.proofs.Word.{bit-small, no-bit, or-other, or-same, without, without-other, without-same}
 
 pub bitAt-small : (m : List ℕ) (i : ℕ) → bitAt m i < 2

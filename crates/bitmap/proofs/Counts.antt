@@ -14,10 +14,10 @@ use mathlib.Core.Path.{_≡_, refl, sym, ap, _∙_}
 use native.Mathlib.Nat.{add-assoc, add-zero, add-suc, add-comm, mod-lt, mod-one}
 use native.Mathlib.Numerals.{one-add}
 use native.Mathlib.Omega.{arith}
+use Rattle.laws.proofs.Comparing.{eq-or-ne}
 use Rattle.bitmap.specs.Map.{bit, bitAt, countSet, touched}
 use Rattle.bitmap.specs.Mask.{partOf}
 use Rattle.bitmap.proofs.BitLaws.{bitAt-small}
-use Rattle.bitmap.proofs.Edited.{eq-or-ne}
 use Rattle.bitmap.proofs.Stores.{part-whole}
 
 -- ---- counting

@@ -1,35 +1,17 @@
 -- A range of the map edited bit by bit, each by a function of its word and of the bit's weight: what marking and clearing share.
 use Prim.Native.Nat.{ℕ, zero, suc, _+_, _-_, _*_, _/_, _%_, _^_, _≤_, _<_}
-use borrow.Author.Tests.{leb-true, leb-false, eqb-true, eqb-false}
 use lib.Bits.{bitOr}
-use lib.Dec.{leb, eqb}
 use lib.ListN.{length, getD, set, length-set}
 use lib.Seq.{set-out, getD-set-same, getD-set-other, set-getD, set-set}
-use mathlib.Core.Bool.{Bool, true, false}
 use mathlib.Core.List.{List}
 use mathlib.Core.Logic.{_⊎_, inl, inr, ⊎-elim}
 use mathlib.Core.Path.{_≡_, refl, ap, _∙_}
 use native.Mathlib.Nat.{add-assoc, add-zero, add-suc}
 use native.Mathlib.Omega.{arith}
+use Rattle.laws.proofs.Comparing.{eq-or-ne, le-or-lt}
 use Rattle.bitmap.specs.Map.{bit, bitAt, clearBit, cleared, marked, setBit}
 use Rattle.bitmap.specs.Mask.{maskOf}
 use Rattle.bitmap.proofs.Word.{and-pow, mask-suc, mask-zero, without}
-
--- the cases of an order and of an equation
-
-pub le-or-lt : (a b : ℕ) → (a ≤ b) ⊎ (b < a)
-le-or-lt a b = go (leb a b) refl
-  where
-    go : (t : Bool) → leb a b ≡ t → (a ≤ b) ⊎ (b < a)
-    go true e = inl (leb-true a b e)
-    go false e = inr (leb-false a b e)
-
-pub eq-or-ne : (a b : ℕ) → (a ≡ b) ⊎ (a ≡ b → ⊥)
-eq-or-ne a b = go (eqb a b) refl
-  where
-    go : (t : Bool) → eqb a b ≡ t → (a ≡ b) ⊎ (a ≡ b → ⊥)
-    go true e = inl (eqb-true a b e)
-    go false e = inr (eqb-false a b e)
 
 -- the map with bit i edited
 editBit : (ℕ → ℕ → ℕ) → List ℕ → ℕ → List ℕ

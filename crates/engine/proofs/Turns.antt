@@ -1,7 +1,7 @@
 -- One peer's step in its own part, put back into the whole.
 use Prim.Native.Nat.{ℕ, zero, suc, _+_, _-_, _*_, _/_, _^_, _≤_, _<_}
 use lib.ListN.{length, getD, take, drop, set, replicate, length-replicate, getD-replicate, drop-of-length-le}
-use lib.Seq.{length-take-le, take-all, getD-append-add, getD-drop, paste, paste-zero, paste-suc}
+use lib.Seq.{length-take-le, take-all, getD-append-add, getD-drop, paste, paste-zero, paste-suc, set-getD}
 use mathlib.Core.List.{List, [], map, append-nil}
 use mathlib.Core.Path.{_≡_, sym, ap, ap₂, _∙_}
 use native.Mathlib.Omega.{arith}
@@ -18,8 +18,8 @@ use Rattle.peer.specs.declared.types.Answer.{Answer}
 use Rattle.peer.specs.declared.types.Peer.{Peer}
 use Rattle.bitmap.proofs.BitLaws.{length-cleared}
 use Rattle.bitmap.proofs.Stores.{clear-split, clear-whole}
-use Rattle.engine.proofs.Walking.{getD-any, set-own}
 use Rattle.laws.proofs.Storing.{store-nothing, store-own}
+use Rattle.laws.proofs.Listing.{getD-any}
 
 -- a step that changes nothing but the peer
 pub quiet-turn : (w : World) (p : ℕ) (q : Peer) (a : Answer) → p * (w .engine .area / 64) + w .engine .area / 64 ≤ length (w .map)
@@ -48,8 +48,8 @@ quiet-call w p c d q a h m e =
     ∙ ap (putBack w p) (sym e) ∙ quiet-turn w p q a m
 
 -- a peer that is put back as it was
-pub same-peer : (e : Engine) (p : ℕ) (d : Peer) → p < length (e .peers) → withPeer e p (getD (e .peers) p d) ≡ e
-same-peer e p d h = ap (λ (ps : List Peer). record { peers = ps; n = e .n; area = e .area; limit = e .limit }) (set-own (e .peers) p d h)
+pub same-peer : (e : Engine) (p : ℕ) (d : Peer) → withPeer e p (getD (e .peers) p d) ≡ e
+same-peer e p d = ap (λ (ps : List Peer). record { peers = ps; n = e .n; area = e .area; limit = e .limit }) (set-getD (e .peers) p d)
 
 pub packet-call : (w : World) (p : ℕ) (d : Peer) (bs reply : List ℕ) (l : Lent) → p < length (w .engine .peers)
     → l ≡ leavesAt (w .engine .area) p (w .arena) (w .map) reply (packetEffect (w .engine .limit) (getD (w .engine .peers) p d) (wordsOf w p) bs (length reply))

@@ -2,7 +2,7 @@
 use Prim.Native.Nat.{ℕ, zero, suc, _+_, _*_, _/_, _%_, _≤_, _<_}
 use borrow.Author.Tests.{ltb-true, leb-true}
 use lib.Dec.{leb, ltb, eqb}
-use lib.ListN.{length, getD, take, drop, set, drop-of-length-le}
+use lib.ListN.{length, getD, take, drop, drop-of-length-le}
 use lib.Pow.{high, low}
 use lib.Seq.{length-take-le, drop-cons, getD-take}
 use mathlib.Core.Bool.{Bool, true, false, _&&_}
@@ -20,7 +20,6 @@ use Rattle.engine.specs.declared.types.Gate.{Gate}
 use Rattle.laws.specs.Choose.{pick}
 use Rattle.protocol.specs.declared.types.Refusal.{Refusal}
 use Rattle.peer.specs.Calls.{Call}
-use Rattle.peer.specs.Matching.{fits}
 use Rattle.peer.specs.State.{peerFits}
 use Rattle.peer.specs.declared.types.Peer.{Peer}
 use Rattle.engine.proofs.Worlds.{lent-lengths, part-inside, sized}
@@ -46,18 +45,6 @@ pub map-small : (n area : ℕ) → Small n area → n * (area / 64) ≤ 1024
 map-small n area s =
     let w : area / 64 ≤ 128 = omega (arith, s .short) in
     mul-le-mul (s .few) w
-
--- ---- lists
-
-pub getD-any : {A : Type 0} (l : List A) (i : ℕ) (d e : A) → i < length l → getD l i d ≡ getD l i e
-getD-any [] i d e h = absurd (omega arith)
-getD-any (x ∷ l) zero d e h = refl
-getD-any (x ∷ l) (suc i) d e h = getD-any l i d e (omega arith)
-
-pub set-own : {A : Type 0} (l : List A) (i : ℕ) (d : A) → i < length l → set l i (getD l i d) ≡ l
-set-own [] i d h = refl
-set-own (x ∷ l) zero d h = refl
-set-own {A = A} (x ∷ l) (suc i) d h = ap (λ (m : List A). x ∷ m) (set-own l i d (omega arith))
 
 -- ---- the walk over the peers
 

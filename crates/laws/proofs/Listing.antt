@@ -1,9 +1,11 @@
 -- Laws of lists by their elements, with a default behind their end.
-use Prim.Native.Nat.{ℕ, zero, suc}
-use lib.ListN.{getD, set, replicate}
-use mathlib.Core.List.{List, [], _∷_}
+use Prim.Native.Nat.{ℕ, zero, suc, _<_}
+use lib.ListN.{length, getD, drop, set, replicate, length-set, length-map}
+use lib.Seq.{drop-cons, drop-set-lt, getD-set-same}
+use mathlib.Core.List.{List, [], _∷_, map}
 use mathlib.Core.Logic.{_⊎_, inl, inr, ⊎-elim, ⊎-map}
-use mathlib.Core.Path.{_≡_, refl, ap}
+use mathlib.Core.Path.{_≡_, refl, sym, ap, _∙_}
+use native.Mathlib.Omega.{arith}
 
 module _ {A : Type 0} where
   -- an element replaced: what stands at each place
@@ -28,3 +30,18 @@ module _ {A : Type 0} where
   replicate-each zero a j = refl
   replicate-each (suc n) a zero = refl
   replicate-each (suc n) a (suc j) = replicate-each n a j
+
+-- one default for another, inside a list
+pub getD-any : {A : Type 0} (l : List A) (i : ℕ) (d e : A) → i < length l → getD l i d ≡ getD l i e
+getD-any [] i d e h = absurd (omega arith)
+getD-any (x ∷ l) zero d e h = refl
+getD-any (x ∷ l) (suc i) d e h = getD-any l i d e (omega arith)
+
+-- an element is set, and what stands from there on
+pub drop-set : {A : Type 0} (l : List A) (i : ℕ) (a : A) → i < length l → drop i (set l i a) ≡ a ∷ drop (suc i) l
+drop-set l i a h =
+    rw (drop-cons (set l i a) i a (rw length-set h), getD-set-same l i a a h, drop-set-lt (suc i) l i a (omega arith))
+
+-- an array's length
+pub length-mapped : {A B : Type 0} (f : A → B) (l : List A) (n : ℕ) → length (map f l) ≡ n → length l ≡ n
+length-mapped f l n e = sym (length-map l f) ∙ e

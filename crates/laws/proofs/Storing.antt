@@ -1,9 +1,9 @@
 -- Laws of `part` and `storeAt`: lengths, what is read back, stores side by side, and a store in a part that was lent on.
 use Prim.Native.Nat.{ℕ, _+_, _-_, _≤_, _<_}
 use borrow.Rule.Slice.PartMut.{putMid}
-use lib.ListN.{length, getD, take, drop, set, length-append, take-append-drop, length-take, length-drop, List·getD-eq-default}
+use lib.ListN.{length, getD, take, drop, set, length-append, take-append-drop, length-take, length-drop, drop-of-length-le, List·getD-eq-default}
 use lib.Seq.{length-take-le, take-all, take-length, drop-append-le, getD-take, getD-drop, take-take, drop-drop, take-add, take-at, drop-at, sets, sets-eq, paste}
-use mathlib.Core.List.{List, [], _∷_, _++_, append-assoc}
+use mathlib.Core.List.{List, [], _∷_, _++_, append-assoc, append-nil}
 use mathlib.Core.Path.{_≡_, refl, sym}
 use native.Mathlib.Decide.{decLt}
 use native.Mathlib.Nat.{add-assoc, add-zero, le-refl}
@@ -148,3 +148,29 @@ module _ {A : Type 0} where
       rw (← drop-append-le (at + length s) (take n (drop b l)) (drop n (drop b l)) h, take-append-drop, drop-drop, ← add-assoc) in
       let k : at ≤ n = omega arith in
       rw (take-take at n (drop b l) k, take-add b at l) (simp (append-assoc, e))
+
+  -- a store over all that is there
+  pub store-whole : (l s : List A) → length s ≡ length l → storeAt l 0 s ≡ s
+  unfolding storeAt
+  store-whole l s e =
+      let none : length l ≤ 0 + length s = omega arith in
+      rw (drop-of-length-le l none) (append-nil s)
+
+  -- ---- a part that was lent on and comes back
+
+  pub length-lent : (l : List A) (b n : ℕ) → b + n ≤ length l → length (take (b + n - b) (drop b l)) ≡ n
+  length-lent l b n h = simp (length-take, length-drop) (omega arith)
+
+  -- a part that kept its length, put back
+  pub put-part : (l s : List A) (b n : ℕ) → length s ≡ n → putMid b (b + n - b) l s ≡ storeAt l b s
+  unfolding storeAt
+  put-part l s b n e =
+      let z : b + n - b ≡ length s = omega arith in
+      rw (z, drop-drop) (sym (append-assoc (take b l) s _))
+
+  -- a store in a part that was lent on
+  pub put-store : (l : List A) (b n at : ℕ) (s : List A) → b + n ≤ length l → at + length s ≤ n
+      → putMid b (b + n - b) l (storeAt (take (b + n - b) (drop b l)) at s) ≡ storeAt l (b + at) s
+  put-store l b n at s h k =
+      let z : b + n - b ≡ n = omega arith in
+      rw z (store-part l b n at s h k)

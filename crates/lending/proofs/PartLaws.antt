@@ -1,40 +1,20 @@
--- A part that was lent on and comes back, and one peer's packet put into the whole.
-use Prim.Native.Nat.{ℕ, _+_, _-_, _*_, _/_, _≤_}
+-- One peer's packet, put into the whole of what is lent.
+use Prim.Native.Nat.{ℕ, _+_, _-_, _*_, _/_}
 use borrow.Rule.Slice.PartMut.{putMid}
-use lib.ListN.{length, take, drop, length-take, length-drop}
-use lib.Seq.{drop-drop}
+use lib.ListN.{length, take, drop}
 use mathlib.Core.Bool.{true}
-use mathlib.Core.List.{List, append-assoc}
-use mathlib.Core.Path.{_≡_, sym, ap, _∙_}
-use native.Mathlib.Omega.{arith}
-use Rattle.laws.specs.Parts.{part, storeAt}
-use Rattle.laws.proofs.Storing.{length-part, store-part}
+use mathlib.Core.List.{List}
+use mathlib.Core.Path.{_≡_, ap, _∙_}
+use Rattle.laws.specs.Parts.{part}
+use Rattle.laws.proofs.Storing.{length-part, lent-part, put-part, put-store}
 use Rattle.peer.specs.Calls.{packet, packetEffect, peerStep}
 use Rattle.peer.specs.Effects.{Effect}
 use Rattle.receiving.specs.Left as own
 use Rattle.peer.specs.State.{peerFits, slotCount}
 use Rattle.peer.specs.declared.types.Peer.{Peer}
-use Rattle.laws.proofs.Storing.{lent-part}
 use Rattle.peer.proofs.Kept.{Kept, step-kept}
 use Rattle.peer.proofs.Valid.{fits-valid}
 use Rattle.lending.specs.Lending.{Lent, Owned, leavesAt}
-
-pub length-lent : {A : Type 0} (l : List A) (b n : ℕ) → b + n ≤ length l → length (take (b + n - b) (drop b l)) ≡ n
-length-lent l b n h = simp (length-take, length-drop) (omega arith)
-
--- a part that kept its length, put back
-pub put-part : (l s : List ℕ) (b n : ℕ) → length s ≡ n → putMid b (b + n - b) l s ≡ storeAt l b s
-unfolding storeAt
-put-part l s b n e =
-    let z : b + n - b ≡ length s = omega arith in
-    rw (z, drop-drop) (sym (append-assoc (take b l) s _))
-
--- a store in a part of the arena that was lent on
-pub put-store : (l : List ℕ) (b n at : ℕ) (s : List ℕ) → b + n ≤ length l → at + length s ≤ n
-    → putMid b (b + n - b) l (storeAt (take (b + n - b) (drop b l)) at s) ≡ storeAt l (b + at) s
-put-store l b n at s h k =
-    let z : b + n - b ≡ n = omega arith in
-    rw z (store-part l b n at s h k)
 
 -- ---- a packet's step, put into the whole
 

@@ -7,6 +7,7 @@ use mathlib.Core.Path.{_≡_, sym, ap, subst, _∙_}
 use native.Mathlib.Omega.{arith}
 use Rattle.laws.specs.Parts.{storeAt}
 use Rattle.laws.proofs.Storing.{length-store, store-nothing}
+use Rattle.laws.proofs.Listing.{getD-any}
 use Rattle.protocol.specs.declared.types.Refusal.{Refusal}
 use Rattle.peer.specs.Calls.{peerStep}
 use Rattle.peer.specs.State.{freshPeer}
@@ -18,7 +19,6 @@ use Rattle.engine.specs.Left.{world}
 use Rattle.engine.specs.SetUp.{numbersFit}
 use Rattle.engine.specs.Steps.{Turn, World, putBack, refusedTurn, withPeer, wordsOf}
 use Rattle.engine.specs.declared.types.Gate.{Gate}
-use Rattle.engine.proofs.Walking.{getD-any}
 use Rattle.engine.proofs.Worlds.{turn-own}
 use Rattle.guarantees.specs.Runs.{callOf, turnOf}
 use Rattle.packed.specs.Answers.{answerWords}

@@ -7,15 +7,13 @@ use mathlib.Core.Path.{_≡_, sym, ap, _∙_}
 use native.Mathlib.Nat.{add-zero}
 use native.Mathlib.Omega.{arith}
 use Rattle.laws.specs.Parts.{part, storeAt}
-use Rattle.laws.proofs.Storing.{store-nothing, store-own}
+use Rattle.laws.proofs.Storing.{length-lent, lent-part, put-store, store-nothing, store-own}
 use Rattle.peer.specs.Calls.{packetEffect}
 use Rattle.peer.specs.Effects.{Effect, quiet}
 use Rattle.peer.specs.declared.types.Peer.{Peer}
 use Rattle.peer.specs.declared.types.Step.{Step}
-use Rattle.laws.proofs.Storing.{lent-part}
 use Rattle.lending.specs.Lending.{Lent}
 use Rattle.lending.specs.Lending as own
-use Rattle.lending.proofs.PartLaws.{length-lent, put-store}
 use Rattle.packed.specs.Steps.{leavesAt}
 
 -- a store that keeps the list's length has room there

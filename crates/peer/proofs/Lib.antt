@@ -25,5 +25,4 @@ pub mod HistoryOnce
 pub mod OffsetsHold
 pub mod WordsHold
 pub mod FieldsHold
-pub mod Comparing
 pub mod SlotTurns

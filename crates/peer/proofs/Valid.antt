@@ -1,7 +1,7 @@
 -- A peer that can be, slot by slot and pair by pair, and slots replaced in it.
 use Prim.Native.Nat.{ℕ, zero, suc, _+_, _≤_, _<_}
-use borrow.Author.Tests.{leb-true, not-true, le-leb, eq-eqb, ne-eqb}
-use lib.Dec.{leb, ltb, eqb}
+use borrow.Author.Tests.{leb-true, not-true, le-leb}
+use lib.Dec.{leb, ltb}
 use lib.ListN.{length, set, length-set}
 use mathlib.Core.Bool.{Bool, true, false, not, _&&_, _||_}
 use mathlib.Core.List.{List, [], _∷_}
@@ -17,6 +17,7 @@ use Rattle.peer.specs.declared.types.Phase.the-variants.{Free, Open, Pos
 use Rattle.peer.specs.declared.types.Receive.{Receive}
 use Rattle.peer.specs.declared.types.Slot.{Slot}
 use Rattle.laws.proofs.Choosing.{and-intro, and-left, and-right}
+use Rattle.laws.proofs.Comparing.{eqb-sym}
 use Rattle.peer.proofs.Slots.{phase-other, phase-same}
 
 pub record Valid (area : ℕ) (ss : List Slot) : Type 0 where
@@ -28,12 +29,6 @@ pub record Valid (area : ℕ) (ss : List Slot) : Type 0 where
 pub overlap-sym : (r s : Receive) → overlap r s ≡ overlap s r
 unfolding overlap
 overlap-sym r s = ap₂ ltb (max-comm (r .start) (s .start)) (min-comm (r .start + r .capacity) (s .start + s .capacity))
-
-pub eqb-sym : (a b : ℕ) → eqb a b ≡ eqb b a
-eqb-sym a b = elim (ℕ-discrete a b) as (λ d. eqb a b ≡ eqb b a) [
-  | yes e ↦ eq-eqb a b e ∙ sym (eq-eqb b a (sym e))
-  | no e ↦ ne-eqb a b e ∙ sym (ne-eqb b a (λ x. e (sym x)))
-]
 
 pub clash-sym : (f g : Phase) → clash f g ≡ clash g f
 unfolding clash

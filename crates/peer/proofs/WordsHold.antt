@@ -21,9 +21,9 @@ use Rattle.peer.specs.declared.types.Inbound.{Inbound}
 use Rattle.peer.specs.declared.types.Incoming.{Incoming}
 use Rattle.peer.specs.declared.types.Receive.{Receive}
 use Rattle.laws.proofs.Choosing.{branch, clashing, pick-either, pick-false, pick-true, tested}
+use Rattle.laws.proofs.Comparing.{both-tests, eq-words}
 use Rattle.protocol.proofs.BitWords.{same-bits}
 use Rattle.protocol.proofs.TableRule.{row-kind, row-passes}
-use Rattle.protocol.proofs.WordsHold.{both-tests, eq-words}
 use Rattle.peer.proofs.EntrySearch.{foremost}
 
 -- ---- ranges

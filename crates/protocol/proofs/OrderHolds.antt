@@ -29,8 +29,9 @@ use Rattle.protocol.specs.declared.types.Read.{Read}
 use Rattle.protocol.specs.declared.types.Refusal.{Refusal}
 use Rattle.wire.specs.LittleEndian.{leAt}
 use Rattle.laws.proofs.Choosing.{clashing, pick-ap, pick-cases, pick-false, pick-second, pick-true, tested}
+use Rattle.laws.proofs.Comparing.{both-tests, eq-words, le-words}
 use Rattle.protocol.proofs.Accepted.{packetOf}
-use Rattle.protocol.proofs.WordsHold.{both-tests, eq-words, le-words, types-are-the-tables}
+use Rattle.protocol.proofs.WordsHold.{types-are-the-tables}
 
 refusal-no-packet : (k : Refusal) (p : Packet) → Read.Refused k ≡ Read.Packet p → ⊥
 refusal-no-packet k p e = let z : _≡_ {A = ℕ} 0 1 = cc in omega arith

@@ -1,6 +1,6 @@
 -- Numbers, types, flags and sections are read as 01 says: the statements of specs/InWords.antt but for the reader's order.
 use Prim.Native.Nat.{ℕ, zero, suc, _+_, _-_, _*_, _/_, _%_, _^_, _≤_, _<_, min}
-use borrow.Author.Tests.{ltb-true, leb-true, eqb-true, le-leb, eq-eqb, ne-eqb}
+use borrow.Author.Tests.{ltb-true, leb-true, eqb-true, eq-eqb, ne-eqb}
 use lib.Bits.{bitAnd, and-high}
 use lib.Dec.{leb, ltb, eqb, lit<}
 use lib.ListN.{getD}
@@ -25,25 +25,13 @@ use Rattle.protocol.specs.declared.table.Found.the-variants.{Row, Unknow
 use Rattle.protocol.specs.declared.table.TypeRow.{TypeRow}
 use Rattle.protocol.specs.declared.types.Packet.{Packet}
 use Rattle.wire.specs.LittleEndian.{leAt, leOf}
-use Rattle.laws.proofs.Choosing.{allTrue, and-intro, and-left, and-right, clashing, or-cases, pick-cases, pick-false, pick-first, pick-true}
+use Rattle.laws.proofs.Choosing.{allTrue, and-left, and-right, clashing, or-cases, pick-cases, pick-false, pick-first, pick-true}
 use Rattle.laws.proofs.Reading.{getD-part}
 use Rattle.laws.proofs.Storing.{part-all, part-rest}
 use Rattle.protocol.proofs.Accepted.{as-read, packetOf}
 use Rattle.protocol.proofs.BitWords.{allBelow, bitOf-past, bitOf-without, each-below, same-bits}
 use Rattle.protocol.proofs.TableRule.{row-kind, row-passes, sound}
 use Rattle.wire.proofs.Laws.{le-at-fits}
-
--- ---- tests in words
-
--- a conjunction of two tests in words
-pub both-tests : {a b : Bool} {A B : Type 0} → (a ≡ true) ↔ A → (b ≡ true) ↔ B → ((a && b) ≡ true) ↔ (A × B)
-both-tests {a} {b} p q = (λ e. (p .0 (and-left a b e), q .0 (and-right a b e)), λ w. and-intro a b (p .1 (w .0)) (q .1 (w .1)))
-
-pub le-words : (m n : ℕ) → (leb m n ≡ true) ↔ (m ≤ n)
-le-words m n = (leb-true m n, le-leb m n)
-
-pub eq-words : (m n : ℕ) → (eqb m n ≡ true) ↔ (m ≡ n)
-eq-words m n = (eqb-true m n, eq-eqb m n)
 
 -- ---- numbers
 

@@ -2,40 +2,32 @@
 use Prim.Native.Nat.{ℕ, _+_, _-_, _*_, _≤_, _<_, min, max}
 use borrow.Author.Tests.{leb-true, eqb-false}
 use lib.Dec.{leb}
-use lib.ListN.{length, getD, take, drop, set, drop-of-length-le}
-use lib.Seq.{take-all, paste, paste-suc}
-use mathlib.Core.Bool.{true, false, true≢false, false≢true}
-use mathlib.Core.List.{List, [], append-nil}
-use mathlib.Core.Option.{some}
-use mathlib.Core.Path.{_≡_, refl, sym, ap, _∙_, subst}
-use native.Mathlib.Nat.{zero-add, mul-le-mul}
-use native.Mathlib.Numerals.{add-one}
+use lib.ListN.{length}
+use mathlib.Core.Bool.{true, false}
+use mathlib.Core.List.{List, []}
+use mathlib.Core.Path.{_≡_, refl, sym, ap, subst}
+use native.Mathlib.Nat.{mul-le-mul}
 use native.Mathlib.Omega.{arith}
 use Rattle.bitmap.specs.Map.{firstClear}
-use Rattle.laws.specs.Parts.{part}
 use Rattle.protocol.specs.Reading.{packetIn, readOf}
 use Rattle.protocol.specs.declared.table.TypeRow.{TypeRow}
 use Rattle.protocol.specs.declared.types.Packet.{Packet}
 use Rattle.protocol.specs.declared.types.Read.{Read}
-use Rattle.receiving.specs.Asks.{Beginning, Carrying, Granting, Judging, Limited, Mapped, Mapping, Placed, Storing}
-use Rattle.peer.specs.Calls.{cancelAt, renumbered, renumberedPhase}
-use Rattle.peer.specs.Effects.{grantOf, opened, progressOf, quiet, refuse, withPhase}
+use Rattle.receiving.specs.Asks.{Beginning, Carrying, Granting, Judging, Limited, Placed, Storing}
+use Rattle.peer.specs.Effects.{grantOf, opened, progressOf, quiet}
 use Rattle.peer.specs.Incomings.{isRtm}
 use Rattle.peer.specs.Judging.{judge}
 use Rattle.receiving.specs.Left.{Left, Replied, leaves}
-use Rattle.peer.specs.Matching.{findOpen, fits, sameMessage}
-use Rattle.peer.specs.Numbers.{badSlot}
-use Rattle.peer.specs.State.{freeSlot, isFree, phaseAt, phaseFits, slotCount, slotWith}
+use Rattle.peer.specs.Matching.{findOpen, sameMessage}
+use Rattle.peer.specs.State.{slotCount}
 use Rattle.peer.specs.declared.types.Answer.{Answer}
 use Rattle.peer.specs.declared.types.Found.{Found}
 use Rattle.peer.specs.declared.types.Inbound.{Inbound}
 use Rattle.peer.specs.declared.types.Incoming.{Incoming}
 use Rattle.peer.specs.declared.types.Message.{Message}
 use Rattle.peer.specs.declared.types.Peer.{Peer}
-use Rattle.peer.specs.declared.types.Phase.{Phase}
 use Rattle.peer.specs.declared.types.Progress.{Progress}
 use Rattle.peer.specs.declared.types.Receive.{Receive}
-use Rattle.peer.specs.declared.types.Slot.{Slot}
 use Rattle.peer.specs.declared.types.Verdict.{Verdict}
 use Rattle.wire.specs.LittleEndian.{leAt}
 use Rattle.bitmap.proofs.BitLaws.{first-clear-le}
@@ -43,9 +35,8 @@ use Rattle.laws.proofs.Choosing.{pick-first, pick-second}
 use Rattle.laws.proofs.Storing.{store-nothing}
 use Rattle.protocol.proofs.Accepted.{ReadAs, as-read, packetOf}
 use Rattle.protocol.proofs.Served.{served-read}
-use Rattle.peer.proofs.Ages.{length-renumbered, phase-renumbered}
 use Rattle.peer.proofs.Kept.{begun-standing, continued-standing}
-use Rattle.peer.proofs.Valid.{Valid, Within, fits-valid, open-within}
+use Rattle.peer.proofs.Valid.{Valid, Within, fits-valid}
 use Rattle.peer.proofs.Verdicts.{Judged, again-inside, chosen-at, found-within, judged}
 
 -- ---- a grant

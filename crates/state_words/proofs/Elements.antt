@@ -8,9 +8,9 @@ use mathlib.Core.List.{List, [], _∷_, map}
 use mathlib.Core.Path.{_≡_}
 use mir.Val.{Val}
 use native.Mathlib.Omega.{arith}
+use Rattle.laws.proofs.Listing.{length-mapped}
 use Rattle.peer.specs.State.{slotCount}
 use Rattle.peer.specs.declared.types.Peer.{Peer}
-use Rattle.peer.proofs.Comparing.{length-mapped}
 use Rattle.peer.proofs.types.Peer as peer
 
 each-at : {A D : Type 0} (into : A → D) (own : D → List Val → Fml) (l : List A) (us : List Val) → shadow (each D own (map into l) us) → (i : ℕ) (d : A) → i < length l

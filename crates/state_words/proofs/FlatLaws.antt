@@ -85,13 +85,6 @@ module _ {A : Type 0} where
         rw (flat-next f l i d h)
         (store-next w at (flat f (take i l)) (f (getD l i d)) k (omega arith) (omega (arith, each i h, inside, mul-suc c i)))
 
--- words over all that are there
-pub store-whole : (l s : List ℕ) → length s ≡ length l → storeAt l 0 s ≡ s
-unfolding storeAt
-store-whole l s e =
-    let none : length l ≤ 0 + length s = omega arith in
-    rw (drop-of-length-le l none) (append-nil s)
-
 -- ---- the same words
 
 pub same-refl : (a : List ℕ) → same a a ≡ true

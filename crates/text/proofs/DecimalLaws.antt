@@ -2,13 +2,14 @@
 use Prim.Native.Nat.{ℕ, zero, suc, _+_, _-_, _/_, _%_, _^_, _≤_, _<_}
 use borrow.Author.Tests.{lt-ltb, le-ltb}
 use lib.ListN.{length, take, drop, set, length-append, length-drop, length-set}
-use lib.Seq.{take-all, append-snoc, drop-cons, drop-set-lt, getD-set-same}
+use lib.Seq.{take-all, append-snoc}
 use mathlib.Core.List.{List, [], _∷_, _++_}
 use mathlib.Core.Path.{_≡_, refl, sym}
 use native.Mathlib.Numerals.{sub-one}
 use native.Mathlib.Omega.{arith}
 use Rattle.laws.specs.Choose.{pick}
 use Rattle.laws.proofs.Choosing.{branch}
+use Rattle.laws.proofs.Listing.{drop-set}
 use Rattle.text.specs.Decimals.{digits}
 
 -- one digit
@@ -41,11 +42,6 @@ length-digits (suc k) v =
     (λ t. let n = length-digits k (v / 10) in rw length-append (omega arith))
 
 -- ---- in an array, from its end
-
--- an element is set, and what stands from there on
-pub drop-set : (l : List ℕ) (i a : ℕ) → i < length l → drop i (set l i a) ≡ a ∷ drop (suc i) l
-drop-set l i a h =
-    rw (drop-cons (set l i a) i 0 (rw length-set h), getD-set-same l i a 0 h, drop-set-lt (suc i) l i a (omega arith))
 
 -- the last digit of more is set
 pub set-last : (l : List ℕ) (k v : ℕ) → 0 < k → k < length l → 10 ≤ v

@@ -5,9 +5,9 @@ use lib.ListN.{length}
 use lib.Pow.{high, low}
 use mathlib.Core.Path.{_≡_}
 use native.Mathlib.Omega.{arith}
-use Rattle.peer.specs.Matching.{fits}
-use Rattle.lending.proofs.PartLaws.{length-lent, packet-put}
-use Rattle.peer.proofs.Comparing.{length-mapped}
+use Rattle.laws.proofs.Storing.{length-lent}
+use Rattle.laws.proofs.Listing.{length-mapped}
+use Rattle.lending.proofs.PartLaws.{packet-put}
 use Rattle.lending.proofs.packet_at.Statement.{statement}
 use Rattle.lending.proofs.packet_at.Tie as tie
 

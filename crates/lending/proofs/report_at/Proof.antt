@@ -3,9 +3,7 @@ use Prim.Native.Nat.{_*_, _/_}
 use borrow.Author.Needs.{needs}
 use mathlib.Core.Path.{_≡_}
 use native.Mathlib.Omega.{arith}
-use Rattle.peer.specs.Matching.{fits}
-use Rattle.lending.proofs.PartLaws.{length-lent}
-use Rattle.laws.proofs.Storing.{lent-part}
+use Rattle.laws.proofs.Storing.{length-lent, lent-part}
 use Rattle.lending.proofs.report_at.Statement.{statement}
 use Rattle.lending.proofs.report_at.Tie as tie
 

@@ -4,8 +4,8 @@ use borrow.Author.Needs.{needs}
 use lib.ListN.{length, getD, drop}
 use mathlib.Core.Path.{_≡_, refl, sym, _∙_}
 use native.Mathlib.Omega.{arith}
+use Rattle.laws.proofs.Listing.{length-mapped}
 use Rattle.peer.specs.State.{freeSlot, noneClash, phaseAt}
-use Rattle.peer.proofs.Comparing.{length-mapped}
 use Rattle.peer.proofs.SlotTurns.{free-apart, none-end, none-turn}
 use Rattle.state_check.proofs.is_apart.Statement.{statement}
 use Rattle.state_check.proofs.is_apart.Tie as tie

@@ -5,8 +5,8 @@ use borrow.Author.Tests.{not-true, not-false}
 use lib.ListN.{length, drop}
 use mathlib.Core.Path.{_≡_, sym, _∙_}
 use native.Mathlib.Omega.{arith}
+use Rattle.laws.proofs.Listing.{length-mapped}
 use Rattle.peer.specs.State.{pairsApart}
-use Rattle.peer.proofs.Comparing.{length-mapped}
 use Rattle.peer.proofs.SlotTurns.{pairs-end, pairs-turn}
 use Rattle.state_check.proofs.pairs_apart.Statement.{statement}
 use Rattle.state_check.proofs.pairs_apart.Tie as tie

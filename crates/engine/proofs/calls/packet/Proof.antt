@@ -8,16 +8,15 @@ use mathlib.Core.List.{map}
 use mathlib.Core.Logic.{⊎-elim}
 use mathlib.Core.Path.{_≡_, refl, sym, ap, _∙_}
 use native.Mathlib.Omega.{arith}
+use Rattle.laws.proofs.Listing.{length-mapped}
 use Rattle.engine.specs.Gates.{Small, throughGate}
 use Rattle.engine.specs.Left.{leaves, world}
 use Rattle.lending.specs.Lending.{Owned}
 use Rattle.engine.specs.SetUp.{engineFits}
 use Rattle.peer.specs.Calls.{packet}
-use Rattle.peer.specs.Matching.{fits}
 use Rattle.peer.specs.declared.types.Peer.{Peer}
 use Rattle.engine.proofs.Turns.{left-refused, packet-call}
 use Rattle.engine.proofs.Walking.{Passed, Walked, gate-open, owned, small, through, walk-end, walk-left, walk-start, walk-turn}
-use Rattle.peer.proofs.Comparing.{length-mapped}
 use Rattle.engine.proofs.calls.packet.Statement.{statement}
 use Rattle.engine.proofs.calls.packet.Tie as tie
 

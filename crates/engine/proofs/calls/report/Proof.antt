@@ -8,18 +8,17 @@ use mathlib.Core.List.{map}
 use mathlib.Core.Logic.{⊎-elim}
 use mathlib.Core.Path.{_≡_, refl, sym, ap, _∙_}
 use native.Mathlib.Omega.{arith}
+use Rattle.laws.proofs.Listing.{length-mapped}
 use Rattle.engine.specs.Gates.{Small, throughGate}
 use Rattle.engine.specs.Left.{silent, world}
 use Rattle.lending.specs.Lending.{Owned}
 use Rattle.engine.specs.SetUp.{engineFits}
 use Rattle.engine.specs.declared.types.Engine.{Engine}
 use Rattle.peer.specs.Calls.{peerStep, report}
-use Rattle.peer.specs.Matching.{fits}
 use Rattle.peer.specs.State.{freshPeer}
 use Rattle.peer.specs.declared.types.Peer.{Peer}
 use Rattle.engine.proofs.Turns.{quiet-call, same-peer}
 use Rattle.engine.proofs.Walking.{Passed, Walked, gate-open, owned, small, through, walk-end, walk-left, walk-start, walk-turn}
-use Rattle.peer.proofs.Comparing.{length-mapped}
 use Rattle.engine.proofs.calls.report.Statement.{statement}
 use Rattle.engine.proofs.calls.report.Tie as tie
 
@@ -139,7 +138,7 @@ returns-2 c =
     sym
     (through w (a .peer) (report (a .slot)) (k .before .loop .fits) _ _ (state k) (c .before .before .before .before .gate .ensures) (c .before .before .enum-told .given .1)
     ∙ quiet-call w (a .peer) (report (a .slot)) _ _ _ (omega (arith, len, below t)) (owns t freshPeer .mapped .inMap) (c .report-at .ensures)
-    ∙ ap (λ (e : Engine). silent (record { engine = e; answer = c .report-at .result }) (a .arena .now) (a .map .now)) (same-peer (a .t1) (a .peer) _ (omega (arith, len, below t))))
+    ∙ ap (λ (e : Engine). silent (record { engine = e; answer = c .report-at .result }) (a .arena .now) (a .map .now)) (same-peer (a .t1) (a .peer) _))
 
 pub report-spec : {M : Type 1} → statement M
 report-spec =

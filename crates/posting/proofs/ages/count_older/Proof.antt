@@ -5,9 +5,9 @@ use lib.ListN.{length, drop}
 use mathlib.Core.Path.{_≡_, sym}
 use native.Mathlib.Nat.{add-assoc}
 use native.Mathlib.Omega.{arith}
+use Rattle.laws.proofs.Listing.{length-mapped}
 use Rattle.peer.specs.Calls.{countOlder}
 use Rattle.peer.specs.State.{phaseAt}
-use Rattle.peer.proofs.Comparing.{length-mapped}
 use Rattle.peer.proofs.SlotTurns.{older-end, older-turn, one-older-le}
 use Rattle.posting.proofs.ages.count_older.Statement.{statement}
 use Rattle.posting.proofs.ages.count_older.Tie as tie

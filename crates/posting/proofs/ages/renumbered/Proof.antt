@@ -6,10 +6,10 @@ use lib.Seq.{paste, paste-zero}
 use mathlib.Core.List.{List}
 use mathlib.Core.Path.{_≡_, refl, ap₂, _∙_}
 use native.Mathlib.Omega.{arith}
+use Rattle.laws.proofs.Listing.{length-mapped}
 use Rattle.peer.specs.Calls.{renumbered}
 use Rattle.peer.specs.declared.types.Slot.{Slot}
 use Rattle.posting.proofs.Renumbering.{all-renumbered, renumbered-turn}
-use Rattle.peer.proofs.Comparing.{length-mapped}
 use Rattle.posting.proofs.ages.renumbered.Statement.{statement}
 use Rattle.posting.proofs.ages.renumbered.Tie as tie
 

@@ -6,9 +6,10 @@ use lib.ListN.{length}
 use mathlib.Core.Path.{_≡_, sym, _∙_}
 use native.Mathlib.Omega.{arith}
 use Rattle.laws.specs.Choose.{pick}
+use Rattle.laws.proofs.Comparing.{beyond, not-beyond}
+use Rattle.laws.proofs.Listing.{length-mapped}
 use Rattle.peer.specs.Calls.{placedIn, postEffect}
 use Rattle.peer.specs.declared.types.Phase.{Phase}
-use Rattle.peer.proofs.Comparing.{beyond, length-mapped, not-beyond}
 use Rattle.peer.proofs.Slots.{stands-at, vacant}
 use Rattle.posting.proofs.calls.post.Statement.{statement}
 use Rattle.posting.proofs.calls.post.Tie as tie

@@ -4,8 +4,8 @@ use borrow.Author.Needs.{needs}
 use lib.ListN.{length, drop}
 use mathlib.Core.Path.{_≡_, sym, _∙_}
 use native.Mathlib.Omega.{arith}
+use Rattle.laws.proofs.Listing.{length-mapped}
 use Rattle.peer.specs.Calls.{someInTheWay}
-use Rattle.peer.proofs.Comparing.{length-mapped}
 use Rattle.peer.proofs.SlotTurns.{way-end, way-turn}
 use Rattle.posting.proofs.places.has_in_the_way.Statement.{statement}
 use Rattle.posting.proofs.places.has_in_the_way.Tie as tie

@@ -2,9 +2,9 @@
 use borrow.Author.Needs.{needs}
 use lib.ListN.{length}
 use mathlib.Core.Path.{_≡_, sym, _∙_}
+use Rattle.laws.proofs.Listing.{length-mapped}
 use Rattle.peer.specs.Effects.{carry}
 use Rattle.receiving.proofs.Asking.{begins, cut-slot, goes-on, judging, left-quiet}
-use Rattle.peer.proofs.Comparing.{length-mapped}
 use Rattle.receiving.proofs.effects.carry.Statement.{statement}
 use Rattle.receiving.proofs.effects.carry.Tie as tie
 

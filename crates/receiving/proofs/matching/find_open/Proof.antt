@@ -4,8 +4,8 @@ use borrow.Author.Needs.{needs}
 use lib.ListN.{length, drop}
 use mathlib.Core.Path.{_≡_, sym, _∙_}
 use native.Mathlib.Omega.{arith}
+use Rattle.laws.proofs.Listing.{length-mapped}
 use Rattle.peer.specs.Matching.{findOpen}
-use Rattle.peer.proofs.Comparing.{length-mapped}
 use Rattle.peer.proofs.SlotTurns.{open-end, open-turn}
 use Rattle.receiving.proofs.matching.find_open.Statement.{statement}
 use Rattle.receiving.proofs.matching.find_open.Tie as tie

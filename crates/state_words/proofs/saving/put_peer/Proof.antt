@@ -10,7 +10,7 @@ use Rattle.peer.specs.State.{freeSlot}
 use Rattle.state_words.specs.Flat.{flat}
 use Rattle.state_words.specs.Saving.{slotWords}
 use Rattle.laws.proofs.Storing.{set-next, store-nothing}
-use Rattle.peer.proofs.Comparing.{length-mapped}
+use Rattle.laws.proofs.Listing.{length-mapped}
 use Rattle.state_words.proofs.FlatLaws.{flat-turn}
 use Rattle.state_words.proofs.Sizes.{length-peer, length-slot}
 use Rattle.state_words.proofs.saving.put_peer.Statement.{statement}

@@ -10,10 +10,10 @@ use Rattle.laws.specs.Parts.{storeAt}
 use Rattle.peer.specs.declared.types.Peer.{Peer}
 use Rattle.state_words.specs.Flat.{flat}
 use Rattle.state_words.specs.Saving.{engineWords, peerWords}
-use Rattle.laws.proofs.Storing.{set-next, store-nothing}
-use Rattle.peer.proofs.Comparing.{length-mapped}
+use Rattle.laws.proofs.Storing.{set-next, store-nothing, store-whole}
+use Rattle.laws.proofs.Listing.{length-mapped}
 use Rattle.state_words.proofs.Elements.{slots-each}
-use Rattle.state_words.proofs.FlatLaws.{flat-turn, store-whole}
+use Rattle.state_words.proofs.FlatLaws.{flat-turn}
 use Rattle.state_words.proofs.Sizes.{length-engine, length-peer}
 use Rattle.state_words.proofs.saving.save.Statement.{statement}
 use Rattle.state_words.proofs.saving.save.Tie as tie

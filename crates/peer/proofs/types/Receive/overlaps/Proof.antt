@@ -4,8 +4,8 @@ use borrow.Author.Needs.{needs}
 use borrow.Author.Tests.{le-ltb}
 use mathlib.Core.Path.{sym}
 use native.Mathlib.Omega.{arith}
+use Rattle.laws.proofs.Comparing.{ltb-same}
 use Rattle.peer.specs.State.{overlap}
-use Rattle.peer.proofs.Comparing.{ltb-same}
 use Rattle.peer.proofs.types.Receive.overlaps.Statement.{statement}
 use Rattle.peer.proofs.types.Receive.overlaps.Tie as tie
 
