@@ -1,4 +1,5 @@
 pub mod Walks
+pub mod Sources
 pub mod ReaderTypes
 pub mod TakenApart
 pub mod ReaderCalls

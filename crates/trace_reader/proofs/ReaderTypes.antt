@@ -56,12 +56,13 @@ reader-laws κs = T′.the-laws (namedLft 1 0 tt κs)
 abbrev pub ReaderOwn : Lft → Reader → Val → Fml
 ReaderOwn κ r u = ReaderAt (κ, tt) .own r (u ∷ [])
 
-module _ {M : Type 1} (𝓤 : URA M) where
+-- what the source promises of `at` and of `moved`. No contract here speaks of memory or of a run, and any will do for them
+module _ {M : Type 1} (𝓤 : URA M) (H : Heap 𝓤) (A : Atoms 𝓤) where
   abbrev pub at-says : Clauses 𝓤 at.ended
-  at-says κs a = record { ghost = Unit {0}; requires = λ _. emp 𝓤; ensures = λ _ r _. fact 𝓤 ((r .trace ≡ a .0) × (r .place ≡ a .1 .0)) }
+  at-says = at.clauses 𝓤 H A (λ _. emp 𝓤) (λ _ _ _. emp 𝓤)
 
   abbrev pub moved-says : Clauses 𝓤 moved.ended
-  moved-says κs a = record { ghost = Unit {0}; requires = λ _. emp 𝓤; ensures = λ _ r _. fact 𝓤 ((r .trace ≡ a .0 .trace) × (r .place ≡ a .1 .0)) }
+  moved-says = moved.clauses 𝓤 H A (λ _. emp 𝓤) (λ _ _ _. emp 𝓤)
 
 -- a function with a result of the type R, on a slice and a place, and on a reader
 module _ (R : RattleType) where

@@ -1,5 +1,5 @@
 -- What the walks by hand share: a call whose contract is heard, and how a walk reaches the contract of its function.
-use base.Logic.{comm∗, emp, emp∗, ent, exE, fst∗, id⊢, monoL, sep, snd∗, via}
+use base.Logic.{SProp, comm∗, emp, emp∗, ent, exE, fst∗, id⊢, monoL, sep, snd∗, via}
 use contract.Lifetimes.{AllOutlive, Lfts, Shares}
 use contract.Monad.{fact}
 use contract.Running.{GhostRules, Running, givenOf, tables, tablesOf}
@@ -23,8 +23,14 @@ use prog.Model.{Model}
 use prog.Routine.{Env as Meaning}
 use prog.Wp.{Calls, Closed, Env, Heap, Loops, WpFn}
 use sound.WpLaws.{FmC, WpFn-mono, fmOf}
-use types.Kit.{Given, Item, Post, Seq, _$_, _⊛_, await, later, lands, move, pick, raw, runs, some, split, use1, use2, ‵}
+use types.Kit.{Given, Item, Post, Seq, Step, _$_, _⊛_, await, later, lands, move, pick, prop, raw, runs, some, split, step, use1, use2, ‵}
 use types.Run.{Opds}
+
+-- a goal P ∗ Q, where Q holds of nothing: P is left
+pub adds : {M : Type 1} {𝓤 : URA M} {H : Heap 𝓤} {A : Atoms 𝓤} {K : Type 0} {W : Given 𝓤 H A} {Γ : List (Item 𝓤)} → K → {P Q : SProp 𝓤}
+    → ent 𝓤 (emp 𝓤) Q → Step K W Γ (prop P) Γ (prop (sep 𝓤 P Q))
+adds {𝓤 = 𝓤} t {P} {Q} h =
+    step (λ s. record { prf = via 𝓤 P (s .prf) (via 𝓤 (sep 𝓤 (emp 𝓤) P) (emp∗ 𝓤 P) (via 𝓤 (sep 𝓤 Q P) (monoL 𝓤 P h) (comm∗ 𝓤 Q P))) })
 
 -- a function's contract, as its callers have it
 module _ {M : Type 1} (𝓤 : URA M) (H : Heap 𝓤) (A : Atoms 𝓤) (T : Ended) (c : Clauses 𝓤 T) where

@@ -21,14 +21,16 @@ pub fn at<'a>(trace: &'a [u8], place: usize) -> Reader<'a>
 pub fn set_up<'a>(r: Reader<'a>) -> SetUp
     ensures { λ s. ⌜ s ≡ setUpAt (now (r .entry .trace)) (r .entry .place) ⌝ }
 {
-    trace::set_up_at(r.trace, r.place)
+    let first = r.place;
+    trace::set_up_at(r.trace, first)
 }
 
 // The entry at the reader's place.
 pub fn entry<'a>(r: Reader<'a>) -> Found
     ensures { λ f. ⌜ f ≡ entryAt (now (r .entry .trace)) (r .entry .place) ⌝ }
 {
-    trace::entry_at(r.trace, r.place)
+    let place = r.place;
+    trace::entry_at(r.trace, place)
 }
 
 // The reader at another place of its trace.
