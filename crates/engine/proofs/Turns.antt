@@ -26,7 +26,8 @@ pub quiet-turn : (w : World) (p : ℕ) (q : Peer) (a : Answer) → p * (w .engin
     → putBack w p (quiet q (wordsOf w p) a) ≡ record { world = record { engine = withPeer (w .engine) p q; arena = w .arena; map = w .map }; answer = a; reply = [] }
 unfolding putBack
 quiet-turn w p q a h =
-    rw (store-nothing (w .arena) (p * w .engine .area + 0), store-own (w .map) (p * (w .engine .area / 64)) (w .engine .area / 64) h)
+    ap₂ (λ (x y : List ℕ). record { world = record { engine = withPeer (w .engine) p q; arena = x; map = y }; answer = a; reply = [] })
+    (store-nothing (w .arena) (p * w .engine .area + 0)) (store-own (w .map) (p * (w .engine .area / 64)) (w .engine .area / 64) h)
 
 -- a packet's step
 abbrev pub putIn : Engine → ℕ → Lent → Left

@@ -2,9 +2,9 @@
 use Prim.Native.Nat.{ℕ, _+_, _-_, _≤_}
 use borrow.Author.Tests.{ltb-false, eqb-true, le-ltb, eq-eqb}
 use lib.ListN.{length, getD}
-use mathlib.Core.Bool.{true}
+use mathlib.Core.Bool.{Bool, true}
 use mathlib.Core.List.{List}
-use mathlib.Core.Path.{_≡_, refl, sym, _∙_}
+use mathlib.Core.Path.{_≡_, refl, sym, ap, _∙_}
 use native.Mathlib.Omega.{arith}
 use Rattle.laws.specs.Choose.{pick}
 use Rattle.laws.specs.Parts.{storeAt}
@@ -12,10 +12,11 @@ use Rattle.protocol.specs.Flags.{flagsFit, flagsOf}
 use Rattle.protocol.specs.Layout.{fieldsAt, fieldsIn, layout}
 use Rattle.protocol.specs.Lengths.{lengthsFit}
 use Rattle.protocol.specs.Reading.{headerIn, packetIn, readFlags, readLengths, readOf, readSections, readTyped}
-use Rattle.protocol.specs.Refusals.{badType}
+use Rattle.protocol.specs.Refusals.{badType, noRoom}
 use Rattle.protocol.specs.Sections.{afterRaw, connidLength, cqDataLength, extentOf, rawSpan, sectionsAt, sectionsFrom}
 use Rattle.protocol.specs.Types.{admit, rowOf}
 use Rattle.protocol.specs.Writing.{Outcome, packetBytes, refused, writeAs, writeBytes, writeOf, writeTyped}
+use Rattle.protocol.specs.declared.sections.Extent.the-variants.{Cut, Whole}
 use Rattle.protocol.specs.declared.table.Found.{Found}
 use Rattle.protocol.specs.declared.table.Found.the-variants.{Row, Unknown}
 use Rattle.protocol.specs.declared.table.TypeRow.{TypeRow}
@@ -48,8 +49,13 @@ pub record ReadAs (limit : ℕ) (bs : List ℕ) (r : TypeRow) : Type 0 where
   pub inside : dataFrom r (leAt 2 bs 2) bs ≤ length bs
   pub lengths : lengthsFit (r .shape) (fieldsIn (layout r) (fieldsAt r) bs) (length bs - dataFrom r (leAt 2 bs 2) bs) ≡ true
 
+-- a packet that holds all its headers is whole
+whole-extent : (r : TypeRow) (f : ℕ) (bs : List ℕ) → dataFrom r f bs ≤ length bs → extentOf r f bs ≡ Whole (sectionsAt r f (rawSpan r f bs) (afterRaw r f bs))
+unfolding extentOf sectionsFrom pick
+whole-extent r f bs h = ap (λ (cut : Bool). pick cut Cut (Whole (sectionsAt r f (rawSpan r f bs) (afterRaw r f bs)))) (le-ltb (length bs) (dataFrom r f bs) h)
+
 pub read-as : (limit : ℕ) (bs : List ℕ) (r : TypeRow) → ReadAs limit bs r → readOf true limit bs ≡ Read.Packet (packetOf r (leAt 2 bs 2) bs)
-unfolding readOf readTyped admit readFlags extentOf sectionsFrom readSections readLengths packetIn headerIn pick
+unfolding readOf readTyped admit readFlags readSections readLengths packetIn headerIn pick
 read-as limit bs r a =
     rw (
       le-ltb limit (length bs) (a .allowed),
@@ -57,7 +63,7 @@ read-as limit bs r a =
       eq-eqb (getD bs 1 0) 4 (a .version),
       a .row,
       a .flags,
-      le-ltb (length bs) (dataFrom r (leAt 2 bs 2) bs) (a .inside),
+      whole-extent r (leAt 2 bs 2) bs (a .inside),
       a .lengths,
     )
 
@@ -116,7 +122,11 @@ pub write-as : (h : Header) (raw body out : List ℕ) (r : TypeRow)
     → WrittenAs h raw body out r
     → writeOf h raw body out ≡ record { answer = Written.Length (length (packetBytes r h raw body)); out = storeAt out 0 (packetBytes r h raw body) }
 unfolding writeOf writeTyped writeAs writeBytes pick
-write-as h raw body out r a = rw (a .row, a .flags, a .lengths, le-ltb 8192 _ (a .allowed), le-ltb (length out) _ (a .room))
+write-as h raw body out r a =
+    let bytes = packetBytes r h raw body in
+    let done : Outcome = record { answer = Written.Length (length bytes); out = storeAt out 0 bytes } in
+    let fits = ap (λ (full : Bool). pick full (refused noRoom out) done) (le-ltb (length out) (length bytes) (a .room)) in
+    rw (a .row, a .flags, a .lengths, le-ltb 8192 (length bytes) (a .allowed)) fits
 
 no-length : (k : Refusal) (out : List ℕ) (n : ℕ) (o : Outcome) → o .answer ≡ Written.Length n → refused k out ≡ o → ⊥
 no-length k out n o e q = let z : _≡_ {A = ℕ} 0 1 = cc in omega arith

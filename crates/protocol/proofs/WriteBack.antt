@@ -84,7 +84,8 @@ module _ (bs : List ℕ) (b : (i : ℕ) → getD bs i 0 < 256) (k : ℕ) (r : Ty
     absent-again e =
         let s = sound k r row in
         let x : p .«data» .at ≡ fieldsAt r + middle r f bs = omega (arith, rw e at d) in
-        (rw (x, bytes-zero) (store-front bs 4 (r .multiuse) _ _ (length-replicate (r .multiuse) 0)), omega (arith, rw e at fits))
+        let zeros : multiuseBytes r Connid.Absent ≡ replicate (r .multiuse) 0 = bytes-zero (r .multiuse) in
+        (rw (x, zeros) (store-front bs 4 (r .multiuse) _ _ (length-replicate (r .multiuse) 0)), omega (arith, rw e at fits))
 
     present-again : hasFlag f connidFlag ≡ true → ConnidPlace (r .multiuse) (r .connid)
         → Again (Connid.Present (leAt 4 bs (connidAt r (connidFrom r f bs)))) p

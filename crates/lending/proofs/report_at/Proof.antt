@@ -1,8 +1,9 @@
 -- `lending::report_at` meets its contract.
-use Prim.Native.Nat.{_*_, _/_}
+use Prim.Native.Nat.{ℕ, _*_, _/_}
 use borrow.Author.Needs.{needs}
-use mathlib.Core.Path.{_≡_}
+use mathlib.Core.Path.{_≡_, subst, sym}
 use native.Mathlib.Omega.{arith}
+use Rattle.receiving.specs.Asks.{Mapped}
 use Rattle.laws.proofs.Storing.{length-lent, lent-part}
 use Rattle.lending.proofs.report_at.Statement.{statement}
 use Rattle.lending.proofs.report_at.Tie as tie
@@ -31,7 +32,8 @@ report-requires c κs =
     let a = s .args in
     let m = s .pre in
     let w : 64 * (a .area / 64) ≡ a .area = omega (arith, m .whole) in
-    rw (length-lent (a .map .now) (a .p * (a .area / 64)) (a .area / 64) (m .inMap), w) (record { whole = w; small = m .short; fits = m .fits })
+    let own = length-lent (a .map .now) (a .p * (a .area / 64)) (a .area / 64) (m .inMap) in
+    subst (λ (n : ℕ). Mapped (64 * n) n (a .there)) (sym own) (rw w (record { whole = w; small = m .short; fits = m .fits }))
 
 returns : tie.Need-returns
 returns c =

@@ -1,8 +1,9 @@
 -- `wire::write_bytes` meets its contract. The loop's invariant: the bytes passed stand in their place.
-use Prim.Native.Nat.{_+_, _-_, _≤_, _<_}
-use lib.ListN.{length, length-set}
+use Prim.Native.Nat.{ℕ, _+_, _-_, _≤_, _<_}
+use lib.ListN.{length, getD, set, length-set}
 use lib.Seq.{paste, paste-zero, paste-suc}
-use mathlib.Core.Path.{_≡_, refl}
+use mathlib.Core.List.{List}
+use mathlib.Core.Path.{_≡_, refl, ap, _∙_}
 use native.Mathlib.Numerals.{add-one}
 use native.Mathlib.Omega.{arith}
 use Rattle.laws.proofs.Storing.{paste-store}
@@ -39,7 +40,8 @@ loop-again c =
     let l = c .before .before .loop in
     let hd : a .at + l .i < length (a .s .now) = omega arith in
     let hs : l .i < length (a .bytes .now) = omega arith in
-    (omega arith, simp length-set (l .inv .1), rw (l .inv .2, add-one, paste-suc (a .s .now) (a .at) (a .bytes .now) (l .i) 0 hd hs))
+    let put : List ℕ → List ℕ = λ s. set s (a .at + l .i) (getD (a .bytes .now) (l .i) 0) in
+    (omega arith, simp length-set (l .inv .1), ap put (l .inv .2) ∙ rw (add-one, paste-suc (a .s .now) (a .at) (a .bytes .now) (l .i) 0 hd hs))
 
 add-result : tie.Need-add-result Inv-loop μ-loop
 add-result c = omega arith

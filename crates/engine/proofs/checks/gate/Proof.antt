@@ -18,11 +18,15 @@ returns-2 c = rw (not-false (c .before .before .before .args .fits) (c .before .
 
 returns-3 : tie.Need-returns-3
 unfolding gateOf pick
-returns-3 c = rw (not-false (c .before .before .before .before .args .fits) (c .before .before .before .if1 .left), ← c .before .before .lent-fits .ensures, not-false (c .before .before .lent-fits .result) (c .before .if2 .left), le-ltb _ _ (c .if3 .taken))
+returns-3 c =
+    let a = c .before .before .before .before .args in
+    rw (not-false (a .fits) (c .before .before .before .if1 .left), ← c .before .before .lent-fits .ensures, not-false (c .before .before .lent-fits .result) (c .before .if2 .left), le-ltb (a .peer) (a .n) (c .if3 .taken))
 
 returns-4 : tie.Need-returns-4
 unfolding gateOf pick
-returns-4 c = rw (not-false (c .before .before .before .before .args .fits) (c .before .before .before .if1 .left), ← c .before .before .lent-fits .ensures, not-false (c .before .before .lent-fits .result) (c .before .if2 .left), lt-ltb _ _ (c .if3 .left))
+returns-4 c =
+    let a = c .before .before .before .before .args in
+    rw (not-false (a .fits) (c .before .before .before .if1 .left), ← c .before .before .lent-fits .ensures, not-false (c .before .before .lent-fits .result) (c .before .if2 .left), lt-ltb (a .peer) (a .n) (c .if3 .left))
 
 pub gate-spec : {M : Type 1} → statement M
 gate-spec = tie.close (tie.spec returns lent-fits-requires returns-2 returns-3 returns-4)

@@ -1,10 +1,12 @@
 -- `engine::setting_up::set_up` meets its contract: a map cleared word by word is all zeros.
+use Prim.Native.Nat.{ℕ}
 use borrow.Author.Needs.{needs}
 use borrow.Author.Tests.{not-true, not-false}
 use lib.ListN.{length}
-use mathlib.Core.Path.{sym, _∙_}
+use mathlib.Core.Path.{ap, sym, _∙_}
 use native.Mathlib.Nat.{mul-comm}
 use native.Mathlib.Omega.{arith}
+use Rattle.bitmap.specs.Map.{cleared}
 use Rattle.engine.specs.SetUp.{setUp}
 use Rattle.laws.specs.Choose.{pick}
 use Rattle.engine.proofs.Turns.{cleared-all}
@@ -69,7 +71,8 @@ returns-3 c =
     let n = (sym (c .before .before .before .before .before .before .before .before .numbers-fit .ensures) ∙ not-false _ (c .before .before .before .before .before .before .before .if1 .left)) in
     let l = sym (c .before .before .before .before .before .before .lent-fits .ensures) ∙ not-false _ (c .before .before .before .before .before .if2 .left) in
     let all = cleared-all (a .map .now) (λ i. c .before .before .before .before .before .before .before .before .before .slice-known .given i .fits) in
-    rw (n, l, c .fresh .ensures, c .before .before .before .clear .ensures, mul-comm (length (a .map .now)) 64, all)
+    let made = c .before .before .before .clear .ensures ∙ ap (λ (k : ℕ). cleared (a .map .now) 0 k) (mul-comm (length (a .map .now)) 64) ∙ all in
+    rw (n, l, c .fresh .ensures, made)
 
 pub set-up-spec : {M : Type 1} → statement M
 set-up-spec =

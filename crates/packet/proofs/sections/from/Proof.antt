@@ -1,4 +1,5 @@
 -- `packet::sections::from` meets its contract. The sums do not wrap: CQ data and connid have at most 8 bytes each.
+use Prim.Native.Nat.{_+_}
 use borrow.Author.Needs.{needs}
 use borrow.Author.Tests.{lt-ltb, le-ltb}
 use native.Mathlib.Omega.{arith}
@@ -26,7 +27,9 @@ returns : tie.Need-returns
 unfolding sectionsFrom pick
 returns c =
     let w = c .before in
-    rw (← w .connid-length .ensures, ← w .before .cq-data-length .ensures, lt-ltb _ _ (c .if1 .taken))
+    let a = w .before .before .args in
+    let e = lt-ltb (a .n) (a .at + w .before .cq-data-length .result + w .connid-length .result) (c .if1 .taken) in
+    rw (← w .connid-length .ensures, ← w .before .cq-data-length .ensures, e)
 
 connid-at-requires : tie.Need-connid-at-requires
 connid-at-requires c κs = search needs
@@ -35,7 +38,8 @@ returns-2 : tie.Need-returns-2
 unfolding sectionsFrom pick
 returns-2 c =
     let w = c .before .before in
-    let e = le-ltb _ _ (c .before .if1 .left) in
+    let a = w .before .before .args in
+    let e = le-ltb (a .n) (a .at + w .before .cq-data-length .result + w .connid-length .result) (c .before .if1 .left) in
     rw (c .connid-at .ensures, ← w .connid-length .ensures, ← w .before .cq-data-length .ensures, e)
 
 pub from-spec : {M : Type 1} → statement M

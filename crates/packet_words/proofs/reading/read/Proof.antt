@@ -1,10 +1,17 @@
 -- `packet_words::reading::read` meets its contract.
 use borrow.Author.Needs.{needs}
+use borrow.Author.Tests.{lt-leb, le-leb}
+use mathlib.Core.Bool.{true}
+use mathlib.Core.Path.{_≡_}
+use Rattle.laws.specs.Choose.{pick}
+use Rattle.packet_words.specs.Values.{readInto, valueCount}
+use Rattle.protocol.specs.Reading.{readOf}
 use Rattle.packet_words.proofs.reading.read.Statement.{statement}
 use Rattle.packet_words.proofs.reading.read.Tie as tie
-use borrow.Author.Tests.{lt-leb, le-leb}
-use Rattle.laws.specs.Choose.{pick}
-use Rattle.packet_words.specs.Values.{readInto}
+
+-- what the packet reader answers, with its own limit
+answer : (c : tie.After-read) → c .read .result ≡ readOf true 8192 (c .before .before .before .before .args .bytes .now)
+answer c = c .read .ensures
 
 returns : tie.Need-returns
 unfolding readInto pick
@@ -33,14 +40,14 @@ put-words-requires c κs = search needs
 
 returns-2 : tie.Need-returns-2
 unfolding readInto pick
-returns-2 c = rw (le-leb _ _ (c .before .before .before .before .before .if1 .left), ← c .before .before .before .before .read .ensures, c .before .before .refusal .given .1)
+returns-2 c = rw (le-leb valueCount _ (c .before .before .before .before .before .if1 .left), ← answer (c .before .before .before .before), c .before .before .refusal .given .1)
 
 same-length : tie.Need-same-length
 same-length c = search needs
 
 returns-3 : tie.Need-returns-3
 unfolding readInto pick
-returns-3 c = rw (le-leb _ _ (c .before .before .before .before .before .before .before .before .before .before .if1 .left), ← c .before .before .before .before .before .before .before .before .before .read .ensures, c .before .before .before .before .before .before .before .packet .given .1, c .before .before .put-words .ensures, c .before .before .before .before .value-words .ensures)
+returns-3 c = rw (le-leb _ _ (c .before .before .before .before .before .before .before .before .before .before .if1 .left), ← answer (c .before .before .before .before .before .before .before .before .before), c .before .before .before .before .before .before .before .packet .given .1, c .before .before .put-words .ensures, c .before .before .before .before .value-words .ensures)
 
 pub read-spec : {M : Type 1} → statement M
 read-spec =

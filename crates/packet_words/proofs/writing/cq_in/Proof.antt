@@ -1,8 +1,9 @@
 -- `packet_words::writing::cq_in` meets its contract.
 use borrow.Author.Needs.{needs}
+use borrow.Author.Tests.{eq-eqb, ne-eqb}
+use lib.ListN.{getD}
 use Rattle.packet_words.proofs.writing.cq_in.Statement.{statement}
 use Rattle.packet_words.proofs.writing.cq_in.Tie as tie
-use borrow.Author.Tests.{eq-eqb, ne-eqb}
 use Rattle.laws.specs.Choose.{pick}
 
 shared-slice-read-if1 : tie.Need-shared-slice-read-if1
@@ -13,7 +14,7 @@ shared-slice-read-t7 c = search needs
 
 returns : tie.Need-returns
 unfolding pick
-returns c = rw (eq-eqb _ _ (c .if1 .taken))
+returns c = rw (eq-eqb (getD (c .before .before .args .values .now) 13 0) 0 (c .if1 .taken))
 
 returns-2 : tie.Need-returns-2
 unfolding pick

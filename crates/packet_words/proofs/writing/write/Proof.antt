@@ -1,10 +1,12 @@
 -- `packet_words::writing::write` meets its contract: its three refusals come before the packet writer's own.
 use borrow.Author.Needs.{needs}
-use Rattle.packet_words.proofs.writing.write.Statement.{statement}
-use Rattle.packet_words.proofs.writing.write.Tie as tie
 use borrow.Author.Tests.{lt-leb, le-leb, not-true, not-false}
+use mathlib.Core.Path.{_≡_}
 use Rattle.laws.specs.Choose.{pick}
 use Rattle.packet_words.specs.Values.{writeFrom}
+use Rattle.protocol.specs.Writing.{writeOf}
+use Rattle.packet_words.proofs.writing.write.Statement.{statement}
+use Rattle.packet_words.proofs.writing.write.Tie as tie
 
 returns : tie.Need-returns
 unfolding writeFrom pick
@@ -44,14 +46,22 @@ same-length c = search needs
 
 returns-4 : tie.Need-returns-4
 unfolding writeFrom pick
-returns-4 c = rw (le-leb _ _ (c .before .before .before .before .before .before .before .before .before .before .before .before .before .if1 .left), le-leb _ _ (c .before .before .before .before .before .before .before .before .before .before .before .if2 .left), ← c .before .before .before .before .before .before .before .before .before .before .numbers-fit .ensures, not-false (c .before .before .before .before .before .before .before .before .before .before .numbers-fit .result) (c .before .before .before .before .before .before .before .before .before .if3 .left), ← c .before .before .before .before .before .before .before .before .header-in .ensures, ← c .before .before .before .before .before .before .write .ensures, c .before .before .refusal .given .1)
+returns-4 c =
+    let w = c .before .before .before .before .before .before in
+    let a = w .before .before .before .before .before .before .before .before .before .before .before .before .args in
+    let left : _ ≡ writeOf (w .before .before .header-in .result) (a .raw-address .now) (a .data .now) (a .out .now) = w .write .ensures in
+    rw (le-leb _ _ (w .before .before .before .before .before .before .before .if1 .left), le-leb _ _ (w .before .before .before .before .before .if2 .left), ← w .before .before .before .before .numbers-fit .ensures, not-false (w .before .before .before .before .numbers-fit .result) (w .before .before .before .if3 .left), ← w .before .before .header-in .ensures, ← left, c .before .before .refusal .given .1)
 
 same-length-2 : tie.Need-same-length-2
 same-length-2 c = search needs
 
 returns-5 : tie.Need-returns-5
 unfolding writeFrom pick
-returns-5 c = rw (le-leb _ _ (c .before .before .before .before .before .before .before .before .before .before .before .before .if1 .left), le-leb _ _ (c .before .before .before .before .before .before .before .before .before .before .if2 .left), ← c .before .before .before .before .before .before .before .before .before .numbers-fit .ensures, not-false (c .before .before .before .before .before .before .before .before .before .numbers-fit .result) (c .before .before .before .before .before .before .before .before .if3 .left), ← c .before .before .before .before .before .before .before .header-in .ensures, ← c .before .before .before .before .before .write .ensures, c .before .n .given .1)
+returns-5 c =
+    let w = c .before .before .before .before .before in
+    let a = w .before .before .before .before .before .before .before .before .before .before .before .before .args in
+    let left : _ ≡ writeOf (w .before .before .header-in .result) (a .raw-address .now) (a .data .now) (a .out .now) = w .write .ensures in
+    rw (le-leb _ _ (w .before .before .before .before .before .before .before .if1 .left), le-leb _ _ (w .before .before .before .before .before .if2 .left), ← w .before .before .before .before .numbers-fit .ensures, not-false (w .before .before .before .before .numbers-fit .result) (w .before .before .before .if3 .left), ← w .before .before .header-in .ensures, ← left, c .before .n .given .1)
 
 pub write-spec : {M : Type 1} → statement M
 write-spec =

@@ -18,11 +18,11 @@ returns c = rw (c .enum-told .given .1)
 
 returns-2 : tie.Need-returns-2
 unfolding older pick
-returns-2 c = rw (c .before .before .best .given .1, lt-ltb _ _ (c .if1 .taken))
+returns-2 c = rw (c .before .before .best .given .1, lt-ltb (c .before .before .before .before .args .age) _ (c .if1 .taken))
 
 returns-3 : tie.Need-returns-3
 unfolding older pick
-returns-3 c = rw (c .before .before .best .given .1, le-ltb _ _ (c .if1 .left))
+returns-3 c = rw (c .before .before .best .given .1, le-ltb (c .before .before .before .before .args .age) _ (c .if1 .left))
 
 pub older-spec : {M : Type 1} → statement M
 older-spec = tie.close (tie.spec enum-told enum-known-best returns returns-2 returns-3)

@@ -1,7 +1,7 @@
 -- `recording::number::put` meets its contract. The loop's invariant: the rest's groups, stored from here on, make the whole store.
 use Prim.Native.Nat.{_+_, _-_, _/_, _%_, _≤_, _<_}
 use lib.ListN.{length, length-set}
-use mathlib.Core.Path.{_≡_, refl, ap}
+use mathlib.Core.Path.{_≡_, refl, sym, ap, _∙_}
 use native.Mathlib.Omega.{arith}
 use Rattle.laws.specs.Parts.{storeAt}
 use Rattle.trace.specs.Numbers.{groups}
@@ -55,7 +55,7 @@ loop-again c =
     let n = ap length (t .2) in
     let e : a .at + 9 - (l .i + 1) ≡ k - 1 = omega arith in
     let s = set-next (l .out) (l .i) (128 + l .rest % 128) (groups (k - 1) (l .rest / 128)) (omega arith) in
-    (omega arith, rw e (t .1), rw e (omega arith), rw length-set (l .inv .3), rw (e, s, ← t .2) (l .inv .4))
+    (omega arith, rw e (t .1), rw e (omega arith), rw length-set (l .inv .3), rw e (s ∙ ap (storeAt (l .out) (l .i)) (sym (t .2)) ∙ l .inv .4))
 
 cast-out-2 : tie.Need-cast-out-2 Inv-loop μ-loop
 cast-out-2 c = omega arith

@@ -14,11 +14,17 @@ returns c = rw (← c .before .ends-by .ensures, not-true (c .before .ends-by .r
 
 returns-2 : tie.Need-returns-2
 unfolding phaseFits
-returns-2 c = rw (← c .before .before .before .before .ends-by .ensures, not-false (c .before .before .before .before .ends-by .result) (c .before .before .before .if1 .left), lt-leb _ _ (c .if2 .taken))
+returns-2 c =
+    let e = c .before .before .before .before in
+    let o = e .before .before .before .args .inbound in
+    rw (← e .ends-by .ensures, not-false (e .ends-by .result) (c .before .before .before .if1 .left), lt-leb (o .message .length) (o .receive .capacity) (c .if2 .taken))
 
 returns-3 : tie.Need-returns-3
 unfolding phaseFits
-returns-3 c = rw (← c .before .before .before .before .before .ends-by .ensures, not-false (c .before .before .before .before .before .ends-by .result) (c .before .before .before .before .if1 .left), le-leb _ _ (c .before .if2 .left))
+returns-3 c =
+    let e = c .before .before .before .before .before in
+    let o = e .before .before .before .args .inbound in
+    rw (← e .ends-by .ensures, not-false (e .ends-by .result) (c .before .before .before .before .if1 .left), le-leb (o .message .length) (o .receive .capacity) (c .before .if2 .left))
 
 pub fits-spec : {M : Type 1} → statement M
 fits-spec = tie.close (tie.spec ends-by-requires returns returns-2 returns-3)
