@@ -1,16 +1,12 @@
--- Laws of the map for the layers above it: what marking and clearing a range do to each bit, and what a test and a search of a range say of its bits.
+-- Laws of the map for the layers above it: what marking and clearing a range do to each bit, and how a search of a range goes on.
 use Prim.Native.Nat.{ℕ, zero, suc, _+_, _*_, _/_, _%_, _≤_, _<_}
-use borrow.Author.Tests.{eqb-false}
 use lib.Bits.{bitOr}
-use lib.Dec.{eqb}
 use lib.ListN.{length, getD, List·getD-eq-default}
-use mathlib.Core.Bool.{Bool, true, false, _||_, true≢false}
 use mathlib.Core.List.{List}
 use mathlib.Core.Logic.{_⊎_, inl, inr, ⊎-elim}
-use mathlib.Core.Path.{_≡_, refl}
-use native.Mathlib.Nat.{add-zero, add-suc, suc-add}
+use mathlib.Core.Path.{_≡_}
 use native.Mathlib.Omega.{arith}
-use Rattle.bitmap.specs.Map.{bitAt, cleared, firstClear, marked, touched}
+use Rattle.bitmap.specs.Map.{bitAt, cleared, firstClear, marked}
 use Rattle.laws.specs.Choose.{pick}
 use Rattle.laws.proofs.Comparing.{eq-or-ne, le-or-lt}
 use Rattle.bitmap.proofs.Edited.{cleared-edited, edited-in, edited-out, length-edited, marked-edited}
@@ -51,31 +47,6 @@ cleared-in m at n i p q =
 pub cleared-out : (m : List ℕ) (at n i : ℕ) → (i < at) ⊎ (at + n ≤ i) → bitAt (cleared m at n) i ≡ bitAt m i
 cleared-out m at n i p = rw (cleared-edited m at n) (edited-out without without-other m at n i p)
 
--- ---- a test of a range
-
-or-left : (a b : Bool) → (a || b) ≡ false → a ≡ false
-or-left true b e = e
-or-left false b e = refl
-
-or-right : (a b : Bool) → (a || b) ≡ false → b ≡ false
-or-right true b e = absurd (true≢false e)
-or-right false b e = e
-
-pub untouched-at : (m : List ℕ) (at n i : ℕ) → touched m at n ≡ false → at ≤ i → i < at + n → bitAt m i ≡ 0
-unfolding touched
-untouched-at m at zero i e p q = absurd (omega arith)
-untouched-at m at (suc n) i e p q =
-    ⊎-elim
-    (λ (z : i ≡ at + n). rw z (omega (arith, bitAt-small m (at + n), eqb-false (bitAt m (at + n)) 1 (or-right (touched m at n) _ e))))
-    (λ ne. untouched-at m at n i (or-left _ (eqb (bitAt m (at + n)) 1) e) p (omega arith))
-    (eq-or-ne i (at + n))
-
-pub at-untouched : (m : List ℕ) (at n : ℕ) → ((i : ℕ) → at ≤ i → i < at + n → bitAt m i ≡ 0) → touched m at n ≡ false
-unfolding touched
-at-untouched m at zero f = refl
-at-untouched m at (suc n) f =
-    rw (at-untouched m at n (λ i p q. f i p (omega arith)), f (at + n) (omega arith) (omega arith))
-
 -- ---- a search of a range
 
 pub bit-cases : (m : List ℕ) (i : ℕ) → (bitAt m i ≡ 0) ⊎ (bitAt m i ≡ 1)
@@ -97,27 +68,4 @@ first-clear-le m at (suc n) =
     ⊎-elim
     (λ z. rw (first-stops m at n z) (omega arith))
     (λ s. rw (first-passes m at n s) (omega (arith, first-clear-le m (suc at) n)))
-    (bit-cases m at)
-
-pub first-clear-set : (m : List ℕ) (at n i : ℕ) → i < firstClear m at n → bitAt m (at + i) ≡ 1
-unfolding firstClear
-first-clear-set m at zero i h = absurd (omega arith)
-first-clear-set m at (suc n) zero h =
-    ⊎-elim
-    (λ z. absurd (omega (arith, first-stops m at n z)))
-    (λ s. rw add-zero s)
-    (bit-cases m at)
-first-clear-set m at (suc n) (suc i) h =
-    ⊎-elim
-    (λ z. absurd (omega (arith, first-stops m at n z)))
-    (λ s. rw (add-suc, ← suc-add) (first-clear-set m (suc at) n i (omega (arith, first-passes m at n s))))
-    (bit-cases m at)
-
-pub first-clear-at : (m : List ℕ) (at n : ℕ) → firstClear m at n < n → bitAt m (at + firstClear m at n) ≡ 0
-unfolding firstClear
-first-clear-at m at zero h = absurd (omega arith)
-first-clear-at m at (suc n) h =
-    ⊎-elim
-    (λ z. rw (first-stops m at n z, add-zero) z)
-    (λ s. rw (first-passes m at n s, add-suc, ← suc-add) (first-clear-at m (suc at) n (omega (arith, first-passes m at n s))))
     (bit-cases m at)

@@ -2,7 +2,7 @@
 use Prim.Native.Nat.{ℕ, zero, suc, _+_, _-_, _*_, _/_, _^_, _≤_, _<_}
 use lib.ListN.{length, getD, take, drop, set, replicate, length-replicate, getD-replicate, drop-of-length-le}
 use lib.Seq.{length-take-le, take-all, getD-append-add, getD-drop, paste, paste-zero, paste-suc, set-getD}
-use mathlib.Core.List.{List, [], map, append-nil}
+use mathlib.Core.List.{List, [], append-nil}
 use mathlib.Core.Path.{_≡_, sym, ap, ap₂, _∙_}
 use native.Mathlib.Omega.{arith}
 use Rattle.bitmap.specs.Map.{cleared}

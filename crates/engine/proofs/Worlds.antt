@@ -1,11 +1,11 @@
 -- A world whose state can be and whose lent memory has the right lengths: peers' parts are apart, and one peer's turn leaves such a world.
-use Prim.Native.Nat.{ℕ, zero, suc, _+_, _*_, _/_, _%_, _≤_, _<_}
+use Prim.Native.Nat.{ℕ, suc, _+_, _*_, _/_, _%_, _≤_, _<_}
 use borrow.Author.Tests.{leb-true, eqb-true, lt-ltb, le-ltb}
 use lib.Dec.{leb, eqb}
 use lib.ListN.{length, getD, take, length-set}
 use lib.Seq.{length-take-le, getD-set-same, getD-set-other, getD-take}
 use mathlib.Core.Bool.{true, _&&_}
-use mathlib.Core.List.{List, [], _∷_, map}
+use mathlib.Core.List.{List, [], _∷_}
 use mathlib.Core.Logic.{_⊎_, inl, inr, ⊎-map}
 use mathlib.Core.Path.{_≡_, refl, sym, ap, ap₂, _∙_, subst}
 use native.Mathlib.Decide.{decLt, ℕ-discrete}
@@ -79,12 +79,6 @@ parts-apart p q size d = elim (decLt q p) as (λ x. (q * size + size ≤ p * siz
 ]
 
 -- ---- the state check
-
-fits-each : (area : ℕ) (ps : List Peer) (j : ℕ) → allPeersFit area ps ≡ true → j < length ps → peerFits area (getD ps j freshPeer) ≡ true
-unfolding allPeersFit
-fits-each area [] j e h = absurd (omega arith)
-fits-each area (p ∷ ps) zero e h = and-left (peerFits area p) (allPeersFit area ps) e
-fits-each area (p ∷ ps) (suc j) e h = fits-each area ps j (and-right (peerFits area p) (allPeersFit area ps) e) (omega arith)
 
 each-fits : (area : ℕ) (ps : List Peer) → ((j : ℕ) → j < length ps → peerFits area (getD ps j freshPeer) ≡ true) → allPeersFit area ps ≡ true
 unfolding allPeersFit

@@ -10,7 +10,6 @@ use Rattle.guarantees.specs.Runs.{callsOf, freshWorld}
 use Rattle.peer.specs.Calls.{Call}
 use Rattle.peer.specs.Claims.{BytesBySegments, DoneWhenCovered, GrantsBounded, InOrder, MatchedInOrder, Once, history, plainAfter, takes}
 use Rattle.peer.specs.Expected.{expected, targetOfCall}
-use Rattle.peer.specs.Numbers.{done}
 use Rattle.peer.specs.Plain.{Plain, enter, freshPlain}
 use Rattle.engine.proofs.Worlds.{sized}
 use Rattle.guarantees.proofs.Seeing.{seen-by-history}

@@ -16,7 +16,7 @@ use Rattle.protocol.specs.Reading.{headerIn, packetIn}
 use Rattle.protocol.specs.RoundTrip.{Numbers}
 use Rattle.protocol.specs.Rules.{Sound}
 use Rattle.protocol.specs.Sections.{afterRaw, connidAt, rawSpan}
-use Rattle.protocol.specs.Types.{row, rowOf}
+use Rattle.protocol.specs.Types.{rowOf}
 use Rattle.protocol.specs.Values.{bytesAt, ownNumbers, values, valuesIn}
 use Rattle.protocol.specs.Writing.{baseBytes, mandatoryBytes, packetBytes}
 use Rattle.protocol.specs.declared.table.Found.the-variants.{Row}

@@ -5,7 +5,6 @@ use native.Mathlib.Nat.{zero-add}
 use native.Mathlib.Omega.{arith}
 use Rattle.laws.specs.Parts.{part, storeAt}
 use Rattle.protocol.specs.RoundTrip.{LengthIsPackets, ReadsWhatWasWritten, WritesWhatWasRead}
-use Rattle.protocol.specs.Types.{row}
 use Rattle.protocol.specs.Writing.{packetBytes, writeOf}
 use Rattle.laws.proofs.Storing.{drop-store, part-store}
 use Rattle.protocol.proofs.Accepted.{as-read, as-written, read-as, write-as}

@@ -2,7 +2,6 @@
 use Prim.Native.Nat.{_*_, _/_}
 use borrow.Author.Needs.{needs}
 use lib.ListN.{length}
-use lib.Pow.{high, low}
 use mathlib.Core.Path.{_≡_}
 use native.Mathlib.Omega.{arith}
 use Rattle.laws.proofs.Storing.{length-lent}

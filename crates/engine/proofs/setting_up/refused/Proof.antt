@@ -1,6 +1,5 @@
 -- `engine::setting_up::refused` meets its contract.
 use borrow.Author.Needs.{needs}
-use mathlib.Core.List.{map}
 use Rattle.engine.proofs.setting_up.refused.Statement.{statement}
 use Rattle.engine.proofs.setting_up.refused.Tie as tie
 
