@@ -61,24 +61,32 @@ module _ (area n : ℕ) (ps : List Peer) (i : ℕ) where
       let l : length (take n ps) ≤ i = simp (length-take-le n ps k) (omega arith) in
       rw (drop-of-length-le (take n ps) l)
 
--- the state can be, as far as the walk has come to peer i with `fits`
-abbrev pub Walked : Engine → ℕ → Bool → Type 0
-Walked e i fits = engineFits e ≡ (fits && allPeersFit (e .area) (drop i (take (e .n) (e .peers))))
+-- the walk has come to peer i with `fits`: the state can be if it `fits` and the peers from i on can be
+pub record Walked (e : Engine) (fits : Bool) (i : ℕ) : Type 0 where
+  pub small : fits ≡ true → Small (e .n) (e .area)
+  pub rest : engineFits e ≡ (fits && allPeersFit (e .area) (drop i (take (e .n) (e .peers))))
 
 module _ (e : Engine) where
-  pub walk-start : (fits : Bool) → fits ≡ numbersFit (e .n) (e .area) (e .limit) → Walked e 0 fits
+  pub walk-start : (fits : Bool) → fits ≡ numbersFit (e .n) (e .area) (e .limit) → Walked e fits 0
   unfolding engineFits
-  walk-start fits x = rw x
+  walk-start fits x = record { small = λ y. small (e .n) (e .area) (e .limit) (sym x ∙ y); rest = rw x }
 
-  pub walk-turn : (i : ℕ) (d : Peer) (fits next : Bool) → i < e .n → e .n ≤ length (e .peers) → fits ≡ true → next ≡ peerFits (e .area) (getD (e .peers) i d)
-      → Walked e i fits → Walked e (i + 1) next
-  walk-turn i d fits next h k x y w = w ∙ rw (x, y) (peers-turn (e .area) (e .n) (e .peers) i d h k)
+  pub walk-inside : (i : ℕ) (fits : Bool) → Walked e fits i → fits ≡ true → i < e .n → i < peerCount
+  walk-inside i fits w t h = omega (arith, w .small t .few)
 
-  pub walk-left : (i : ℕ) (fits : Bool) → fits ≡ false → Walked e i fits → engineFits e ≡ fits
-  walk-left i fits x w = w ∙ rw x
+  pub walk-turn : (i : ℕ) (d : Peer) (fits next : Bool) → length (e .peers) ≡ peerCount → Walked e fits i → fits ≡ true → i < e .n
+      → next ≡ peerFits (e .area) (getD (e .peers) i d) → Walked e next (i + 1)
+  walk-turn i d fits next k w t h y =
+      record {
+        small = λ _. w .small t;
+        rest = w .rest ∙ rw (t, y) (peers-turn (e .area) (e .n) (e .peers) i d h (omega (arith, k, w .small t .few)));
+      }
 
-  pub walk-end : (i : ℕ) (fits : Bool) → fits ≡ true → e .n ≤ i → e .n ≤ length (e .peers) → Walked e i fits → engineFits e ≡ fits
-  walk-end i fits x h k w = w ∙ rw (x, peers-end (e .area) (e .n) (e .peers) i h k)
+  pub walk-left : (i : ℕ) (fits : Bool) → Walked e fits i → fits ≡ false → engineFits e ≡ fits
+  walk-left i fits w x = w .rest ∙ rw x
+
+  pub walk-end : (i : ℕ) (fits : Bool) → length (e .peers) ≡ peerCount → Walked e fits i → fits ≡ true → e .n ≤ i → engineFits e ≡ fits
+  walk-end i fits k w t h = w .rest ∙ rw (t, peers-end (e .area) (e .n) (e .peers) i h (omega (arith, k, w .small t .few)))
 
   -- what the check says of the numbers and of each peer
   pub fit-numbers : engineFits e ≡ true → numbersFit (e .n) (e .area) (e .limit) ≡ true
@@ -129,28 +137,35 @@ gate-open fits n area arena map p e =
     shut : {k : Refusal} → Gate.Shut k ≡ Gate.Open → ⊥
     shut x = let z : _≡_ {A = ℕ} 0 1 = cc in omega arith
 
--- the peer behind an open gate owns its part of arena and map
-pub owned : (e : Engine) (fits : Bool) (arena map p : ℕ) (d : Peer) → length (e .peers) ≡ peerCount → engineFits e ≡ fits → gateOf fits (e .n) (e .area) arena map p ≡ Gate.Open
-    → Owned (e .area) (e .limit) p arena map (getD (e .peers) p d)
-owned e fits arena map p d eight x g =
-    let o = gate-open fits (e .n) (e .area) arena map p g in
+-- behind an open gate there is a peer of this number, and it owns its part of arena and map
+pub record Opened (e : Engine) (arena map p : ℕ) : Type 0 where
+  pub below : p < peerCount
+  pub owns : (d : Peer) → Owned (e .area) (e .limit) p arena map (getD (e .peers) p d)
+
+pub opened : (e : Engine) (fits : Bool) (arena map p : ℕ) (g : Gate) → length (e .peers) ≡ peerCount → engineFits e ≡ fits
+    → g ≡ gateOf fits (e .n) (e .area) arena map p → g ≡ Gate.Open → Opened e arena map p
+opened e fits arena map p g eight x y h =
+    let o = gate-open fits (e .n) (e .area) arena map p (sym y ∙ h) in
     let state : engineFits e ≡ true = x ∙ o .state in
     let numbers = fit-numbers e state in
     let s = small (e .n) (e .area) (e .limit) numbers in
     let z = sized (e .n) (e .area) (e .limit) numbers in
     let (a, m) = lent-lengths (e .n) (e .area) arena map (o .lent) in
     record {
-      mapped = record {
-        fits = fit-peer e p d state (o .peer) (omega (arith, eight, s .few));
-        whole = z .whole;
-        short = s .short;
-        inMap = omega (arith, part-inside (e .n) p (e .area / 64) (o .peer));
-        mapSmall = omega (arith, map-small (e .n) (e .area) s);
+      below = omega (arith, o .peer, s .few);
+      owns = λ d. record {
+        mapped = record {
+          fits = fit-peer e p d state (o .peer) (omega (arith, eight, s .few));
+          whole = z .whole;
+          short = s .short;
+          inMap = omega (arith, part-inside (e .n) p (e .area / 64) (o .peer));
+          mapSmall = omega (arith, map-small (e .n) (e .area) s);
+        };
+        low = z .limitLow;
+        high = z .limitHigh;
+        inArena = omega (arith, part-inside (e .n) p (e .area) (o .peer));
+        arenaSmall = omega (arith, arena-small (e .n) (e .area) s);
       };
-      low = z .limitLow;
-      high = z .limitHigh;
-      inArena = omega (arith, part-inside (e .n) p (e .area) (o .peer));
-      arenaSmall = omega (arith, arena-small (e .n) (e .area) s);
     }
 
 -- a call, by what its gate says

@@ -14,7 +14,7 @@ use Rattle.engine.specs.SetUp.{engineFits, numbersFit, peerAt, peerCount}
 use Rattle.engine.specs.Steps.{World, callTurn, refusedTurn}
 use Rattle.engine.specs.declared.types.Engine.{Engine}
 use Rattle.engine.specs.declared.types.Gate.{Gate}
-use Rattle.engine.proofs.Walking.{Passed, fit-numbers, fit-peer, gate-open, owned, small, through}
+use Rattle.engine.proofs.Walking.{Passed, fit-numbers, fit-peer, gate-open, opened, small, through}
 use Rattle.engine.proofs.Worlds.{Good, good-called, good-fits}
 use Rattle.protocol.specs.declared.types.Refusal.{Refusal}
 use Rattle.packed.specs.Running.{Eights}
@@ -43,7 +43,7 @@ module _ {good : Bool} (w : World) (p : ℕ) (s : Standing good (w .engine)) (g 
     standing-passed = gate-open good (w .engine .n) (w .engine .area) (length (w .arena)) (length (w .map)) p (sym gate ∙ z)
 
     pub standing-owned : (d : Peer) → Owned (w .engine .area) (w .engine .limit) p (length (w .arena)) (length (w .map)) (getD (w .engine .peers) p d)
-    standing-owned d = owned (w .engine) good (length (w .arena)) (length (w .map)) p d (s .eights .peers) (s .state) (sym gate ∙ z)
+    standing-owned = opened (w .engine) good (length (w .arena)) (length (w .map)) p g (s .eights .peers) (s .state) gate z .owns
 
     few : w .engine .n ≤ peerCount
     few = small (w .engine .n) (w .engine .area) (w .engine .limit) (fit-numbers (w .engine) (s .state ∙ standing-passed .state)) .few

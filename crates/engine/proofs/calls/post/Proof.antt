@@ -2,27 +2,24 @@
 use Prim.Native.Nat.{_-_, _<_}
 use borrow.Author.Needs.{needs}
 use borrow.Author.Tests.{ltb-true, ltb-false}
-use lib.ListN.{length, getD}
-use mathlib.Core.Bool.{true}
+use lib.ListN.{length}
 use mathlib.Core.Logic.{⊎-elim}
-use mathlib.Core.Path.{_≡_, refl, sym, _∙_}
+use mathlib.Core.Path.{_≡_, sym, _∙_}
 use native.Mathlib.Omega.{arith}
 use Rattle.laws.proofs.Listing.{length-mapped}
-use Rattle.engine.specs.Gates.{Small, throughGate}
+use Rattle.engine.specs.Gates.{throughGate}
 use Rattle.engine.specs.Left.{world}
-use Rattle.lending.specs.Lending.{Owned}
 use Rattle.engine.specs.SetUp.{engineFits}
 use Rattle.engine.specs.Steps.{wordsOf}
 use Rattle.peer.specs.Calls.{peerStep, post}
 use Rattle.peer.specs.State.{freshPeer}
-use Rattle.peer.specs.declared.types.Peer.{Peer}
 use Rattle.engine.proofs.Turns.{quiet-call}
-use Rattle.engine.proofs.Walking.{Passed, Walked, gate-open, owned, small, through, walk-end, walk-left, walk-start, walk-turn}
+use Rattle.engine.proofs.Walking.{Opened, Walked, opened, through, walk-end, walk-inside, walk-left, walk-start, walk-turn}
 use Rattle.engine.proofs.calls.post.Statement.{statement}
 use Rattle.engine.proofs.calls.post.Tie as tie
 
 abbrev Inv-loop : tie.InvT-loop
-Inv-loop peer receive arena map engine n area fits₀ i₀ fits i = (n ≡ engine .n) × (area ≡ engine .area) × (fits ≡ true → Small n area) × Walked engine i fits
+Inv-loop peer receive arena map engine n area fits₀ i₀ fits i = Walked engine fits i
 
 abbrev μ-loop : tie.MeasureT-loop
 μ-loop peer receive arena map engine n area fits₀ i₀ fits i = n - i
@@ -34,74 +31,60 @@ eight s = search length-mapped
 state : (c : tie.Left-loop Inv-loop μ-loop) → engineFits (c .before .before .before .before .before .args .t1) ≡ c .before .loop .fits
 state c =
     let l = c .before in
-    let e = l .before .before .before .before .args .t1 in
-    let len = eight (l .before .before .before .before) in
+    let s = l .before .before .before .before in
+    let e = s .args .t1 in
     ⊎-elim
-    (λ w. walk-end e (l .loop .i) (l .loop .fits) (w .0 .taken) (ltb-false (l .loop .i) (e .n) (w .1 .left)) (omega (arith, len, l .loop .inv .2 (w .0 .taken) .few)) (l .loop .inv .3))
-    (λ w. walk-left e (l .loop .i) (l .loop .fits) (w .left) (l .loop .inv .3))
+    (λ w. walk-end e (l .loop .i) (l .loop .fits) (eight s) (l .loop .inv) (w .0 .taken) (ltb-false (l .loop .i) (e .n) (w .1 .left)))
+    (λ w. walk-left e (l .loop .i) (l .loop .fits) (l .loop .inv) (w .left))
     (c .loop-test .came)
 
--- behind an open gate the peer's number is below n, and the peer owns its part
-passed : (c : tie.After-enum-told Inv-loop μ-loop) → let l = c .before .before .before .before in let a = l .before .before .before .before .args in
-    Passed (l .loop .fits) (a .t1 .n) (a .t1 .area) (length (a .arena .now)) (length (a .map .now)) (a .peer)
-passed c =
-    let l = c .before .before .before .before in
-    let a = l .before .before .before .before .args in
-    gate-open (l .loop .fits) (a .t1 .n) (a .t1 .area) (length (a .arena .now)) (length (a .map .now)) (a .peer) (sym (c .before .before .gate .ensures) ∙ c .enum-told .given .1)
-
-below : (c : tie.After-enum-told Inv-loop μ-loop) → c .before .before .before .before .before .before .before .before .args .peer < 8
-below c = omega (arith, passed c .peer, c .before .before .before .before .loop .inv .2 (passed c .state) .few)
-
-owns : (c : tie.After-enum-told Inv-loop μ-loop) (d : Peer) → let a = c .before .before .before .before .before .before .before .before .args in
-    Owned (a .t1 .area) (a .t1 .limit) (a .peer) (length (a .arena .now)) (length (a .map .now)) (getD (a .t1 .peers) (a .peer) d)
-owns c d =
+-- behind an open gate the peer is there, and owns its part
+admitted : (c : tie.After-enum-told Inv-loop μ-loop) → let a = c .before .before .before .before .before .before .before .before .args in
+    Opened (a .t1) (length (a .arena .now)) (length (a .map .now)) (a .peer)
+admitted c =
     let k = c .before .before .before in
-    let s = c .before .before .before .before .before .before .before .before in
-    let a = s .args in
-    owned (a .t1) (k .before .loop .fits) (length (a .arena .now)) (length (a .map .now)) (a .peer) d (eight s) (state k)
-    (sym (c .before .before .gate .ensures) ∙ c .enum-told .given .1)
+    let s = k .before .before .before .before .before in
+    opened (s .args .t1) (k .before .loop .fits) _ _ (s .args .peer) (c .before .before .gate .result) (eight s) (state k)
+    (c .before .before .gate .ensures) (c .enum-told .given .1)
+
+-- in the loop i is a peer's number
+turning : (c : tie.Then1 Inv-loop μ-loop) → let l = c .before .before in (l .loop .i < l .before .before .before .before .args .t1 .n) × (l .loop .i < 8)
+turning c =
+    let l = c .before .before in
+    let e = l .before .before .before .before .args .t1 in
+    let h = ltb-true (l .loop .i) (e .n) (c .if1 .taken) in
+    (h, walk-inside e (l .loop .i) (l .loop .fits) (l .loop .inv) (c .before .loop-test .taken) h)
 
 numbers-fit-requires : tie.Need-numbers-fit-requires Inv-loop μ-loop
 numbers-fit-requires c κs = search needs
 
 loop-holds : tie.Need-loop-holds Inv-loop μ-loop
-loop-holds c =
-    let e = c .before .before .before .args .t1 in
-    (refl, refl, λ x. small (e .n) (e .area) (e .limit) (sym (c .numbers-fit .ensures) ∙ x), walk-start e (c .numbers-fit .result) (c .numbers-fit .ensures))
+loop-holds c = walk-start (c .before .before .before .args .t1) (c .numbers-fit .result) (c .numbers-fit .ensures)
 
 mul-other : tie.Need-mul-other Inv-loop μ-loop
-mul-other c =
-    let l = c .before .before in
-    omega (arith, l .loop .inv .2 (c .before .loop-test .taken) .few, ltb-true (l .loop .i) (l .before .before .before .before .args .t1 .n) (c .if1 .taken))
+mul-other c = omega (arith, turning c .1)
 
 element-copy-out-other : tie.Need-element-copy-out-other Inv-loop μ-loop
-element-copy-out-other c =
-    let l = c .before .before in
-    omega (arith, l .loop .inv .2 (c .before .loop-test .taken) .few, ltb-true (l .loop .i) (l .before .before .before .before .args .t1 .n) (c .if1 .taken))
+element-copy-out-other c = omega (arith, turning c .1)
 
 fits-requires : tie.Need-fits-requires Inv-loop μ-loop
 fits-requires c κs = search needs
 
 add-i : tie.Need-add-i Inv-loop μ-loop
-add-i c =
-    let l = c .before .before .before .before in
-    omega (arith, ltb-true (l .loop .i) (l .before .before .before .before .args .t1 .n) (c .before .before .if1 .taken))
+add-i c = omega (arith, turning (c .before .before) .1)
 
 loop-less : tie.Need-loop-less Inv-loop μ-loop
-loop-less c =
-    let l = c .before .before .before .before in
-    omega (arith, ltb-true (l .loop .i) (l .before .before .before .before .args .t1 .n) (c .before .before .if1 .taken))
+loop-less c = omega (arith, turning (c .before .before) .0)
 
 loop-again : tie.Need-loop-again Inv-loop μ-loop
 loop-again c =
     let l = c .before .before .before .before in
-    let t = c .before .before .before .loop-test .taken in
-    let e = l .before .before .before .before .args .t1 in
-    let len = eight (l .before .before .before .before) in
-    (refl, refl, λ x. l .loop .inv .2 t, walk-turn e (l .loop .i) _ (l .loop .fits) (c .fits2 .result) (ltb-true (l .loop .i) (e .n) (c .before .before .if1 .taken)) (omega (arith, len, l .loop .inv .2 t .few)) t (c .fits2 .ensures) (l .loop .inv .3))
+    let s = l .before .before .before .before in
+    walk-turn (s .args .t1) (l .loop .i) _ (l .loop .fits) (c .fits2 .result) (eight s) (l .loop .inv) (c .before .before .before .loop-test .taken)
+    (turning (c .before .before) .0) (c .fits2 .ensures)
 
 gate-requires : tie.Need-gate-requires Inv-loop μ-loop
-gate-requires c κs = λ x. c .before .loop .inv .2 x
+gate-requires c κs = c .before .loop .inv .small
 
 enum-known-refusal : tie.Need-enum-known-refusal Inv-loop μ-loop
 enum-known-refusal c = search needs
@@ -110,19 +93,19 @@ enum-told : tie.Need-enum-told Inv-loop μ-loop
 enum-told c = search needs
 
 mul-there : tie.Need-mul-there Inv-loop μ-loop
-mul-there c = omega (arith, below c)
+mul-there c = omega (arith, admitted c .below)
 
 element-copy-out-there : tie.Need-element-copy-out-there Inv-loop μ-loop
-element-copy-out-there c = omega (arith, below c)
+element-copy-out-there c = omega (arith, admitted c .below)
 
 post-requires : tie.Need-post-requires Inv-loop μ-loop
 post-requires c κs = search needs
 
 mul-after : tie.Need-mul-after Inv-loop μ-loop
-mul-after c = omega (arith, below (c .before .before .before))
+mul-after c = omega (arith, admitted (c .before .before .before) .below)
 
 element-set-from-after : tie.Need-element-set-from-after Inv-loop μ-loop
-element-set-from-after c = omega (arith, below (c .before .before .before))
+element-set-from-after c = omega (arith, admitted (c .before .before .before) .below)
 
 returns : tie.Need-returns Inv-loop μ-loop
 unfolding throughGate
@@ -142,7 +125,7 @@ returns-2 c =
     let w = world (a .t1) (a .arena .now) (a .map .now) in
     sym
     (through w (a .peer) (post (a .receive)) (k .before .loop .fits) _ _ (state k) (c .before .before .before .before .before .gate .ensures) (c .before .before .before .enum-told .given .1)
-    ∙ quiet-call w (a .peer) (post (a .receive)) _ _ _ (omega (arith, len, below t)) (owns t freshPeer .mapped .inMap) (c .before .post .ensures (wordsOf w (a .peer))))
+    ∙ quiet-call w (a .peer) (post (a .receive)) _ _ _ (omega (arith, len, admitted t .below)) (admitted t .owns freshPeer .mapped .inMap) (c .before .post .ensures (wordsOf w (a .peer))))
 
 pub post-spec : {M : Type 1} → statement M
 post-spec =
