@@ -2,7 +2,7 @@
 use Rattle.replay.proofs.replaying.has_room.Statement.{statement}
 use Rattle.replay.proofs.replaying.has_room.Tie as tie
 use borrow.Author.Tests.{lt-leb}
-use Prim.Native.Nat.{_+_, _*_, _-_}
+use Prim.Native.Nat.{_+_, _*_}
 use mathlib.Core.Path.{sym}
 use native.Mathlib.Omega.{arith}
 use Rattle.replay.specs.Replaying.{hasRoom}

@@ -4,7 +4,6 @@ use Rattle.replay.proofs.turns.turn.Statement.{statement}
 use Rattle.replay.proofs.turns.turn.Tie as tie
 use native.Mathlib.Nat.{add-sub-cancel-left}
 use native.Mathlib.Omega.{arith}
-use Prim.Native.Nat.{_-_}
 use Rattle.laws.specs.Parts.{part}
 use Rattle.guarantees.specs.Runs.{turnOf}
 use Rattle.replay.proofs.TurnLaws.{silent-leaves}
