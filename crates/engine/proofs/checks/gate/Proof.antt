@@ -1,5 +1,6 @@
 -- `engine::checks::gate` meets its contract.
 use borrow.Author.Tests.{not-true, not-false, lt-ltb, le-ltb}
+use mathlib.Core.Path.{refl}
 use Rattle.engine.specs.Gates.{gateOf}
 use Rattle.laws.specs.Choose.{pick}
 use Rattle.engine.proofs.checks.gate.Statement.{statement}
@@ -20,7 +21,7 @@ returns-3 : tie.Need-returns-3
 unfolding gateOf pick
 returns-3 c =
     let a = c .before .before .before .before .args in
-    rw (not-false (a .fits) (c .before .before .before .if1 .left), ← c .before .before .lent-fits .ensures, not-false (c .before .before .lent-fits .result) (c .before .if2 .left), le-ltb (a .peer) (a .n) (c .if3 .taken))
+    rw (not-false (a .fits) (c .before .before .before .if1 .left), ← c .before .before .lent-fits .ensures, not-false (c .before .before .lent-fits .result) (c .before .if2 .left), le-ltb (a .peer) (a .n) (c .if3 .taken)) refl
 
 returns-4 : tie.Need-returns-4
 unfolding gateOf pick

@@ -2,7 +2,7 @@
 use borrow.Author.Needs.{needs}
 use borrow.Author.Tests.{not-true, not-false}
 use mathlib.Core.Bool.{false≢true}
-use mathlib.Core.Path.{sym, _∙_}
+use mathlib.Core.Path.{sym, _∙_, refl}
 use Rattle.engine.proofs.Walking.{small}
 use Rattle.engine.proofs.standing.admit.Statement.{statement}
 use Rattle.engine.proofs.standing.admit.Tie as tie
@@ -21,7 +21,7 @@ gate-requires-2 c κs = λ x. let a = c .before .before .args in small (a .n) (a
 
 returns-2 : tie.Need-returns-2
 returns-2 c =
-    c .gate2 .ensures ∙ rw (c .before .numbers-fit .ensures, not-false (c .before .before .before .args .good) (c .before .before .if1 .left))
+    c .gate2 .ensures ∙ rw (c .before .numbers-fit .ensures, not-false (c .before .before .before .args .good) (c .before .before .if1 .left)) refl
 
 pub admit-spec : {M : Type 1} → statement M
 admit-spec =

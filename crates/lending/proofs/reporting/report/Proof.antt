@@ -2,6 +2,7 @@
 use borrow.Author.Needs.{needs}
 use borrow.Author.Tests.{le-leb, lt-leb}
 use lib.ListN.{length}
+use mathlib.Core.Path.{refl}
 use Rattle.laws.specs.Choose.{pick}
 use Rattle.peer.specs.Calls.{reportAt, reportEffect}
 use Rattle.lending.proofs.OpenSlots.{open-mapped}
@@ -38,7 +39,7 @@ returns-2 c = rw (lt-leb _ _ (c .before .before .before .if1 .left), c .enum-tol
 
 returns-3 : tie.Need-returns-3
 unfolding reportEffect reportAt pick
-returns-3 c = rw (lt-leb _ _ (c .before .before .before .if1 .left), c .enum-told2 .given .1)
+returns-3 c = rw (lt-leb _ _ (c .before .before .before .if1 .left), c .enum-told2 .given .1) refl
 
 returns-4 : tie.Need-returns-4
 unfolding reportEffect reportAt pick

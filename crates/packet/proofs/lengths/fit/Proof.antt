@@ -1,6 +1,7 @@
 -- `packet::lengths::fit` meets its contract.
 use borrow.Author.Needs.{needs}
 use borrow.Author.Tests.{le-leb, lt-leb, eq-eqb, ne-eqb}
+use mathlib.Core.Path.{refl}
 use Rattle.protocol.specs.Lengths.{lengthsFit}
 use Rattle.packet.proofs.lengths.fit.Statement.{statement}
 use Rattle.packet.proofs.lengths.fit.Tie as tie
@@ -45,7 +46,7 @@ returns-5 c = rw (c .enum-told3 .given .1)
 
 returns-6 : tie.Need-returns-6
 unfolding lengthsFit
-returns-6 c = rw (c .before .before .enum-told4 .given .1, le-leb _ _ (c .before .if3 .taken), c .ends-by .ensures)
+returns-6 c = rw (c .before .before .enum-told4 .given .1, le-leb _ _ (c .before .if3 .taken), c .ends-by .ensures) refl
 
 returns-7 : tie.Need-returns-7
 unfolding lengthsFit

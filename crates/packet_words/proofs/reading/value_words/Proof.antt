@@ -1,5 +1,6 @@
 -- `packet_words::reading::value_words` meets its contract.
 use borrow.Author.Needs.{needs}
+use mathlib.Core.Path.{refl}
 use Rattle.packet_words.proofs.reading.value_words.Statement.{statement}
 use Rattle.packet_words.proofs.reading.value_words.Tie as tie
 use Rattle.packet_words.specs.Values.{valueWords}
@@ -36,7 +37,7 @@ connid-value-requires c κs = search needs
 
 returns : tie.Need-returns
 unfolding valueWords
-returns c = rw (c .before .before .before .before .bit-of .ensures, c .before .before .before .cq-bit .ensures, c .before .before .cq-value .ensures, c .before .connid-bit .ensures, c .connid-value .ensures)
+returns c = rw (c .before .before .before .before .bit-of .ensures, c .before .before .before .cq-bit .ensures, c .before .before .cq-value .ensures, c .before .connid-bit .ensures, c .connid-value .ensures) refl
 
 pub value-words-spec : {M : Type 1} → statement M
 value-words-spec =

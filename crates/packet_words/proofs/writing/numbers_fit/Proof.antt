@@ -3,6 +3,7 @@ use borrow.Author.Needs.{needs}
 use Rattle.packet_words.proofs.writing.numbers_fit.Statement.{statement}
 use Rattle.packet_words.proofs.writing.numbers_fit.Tie as tie
 use borrow.Author.Tests.{eq-eqb, ne-eqb, lt-leb, le-leb}
+use mathlib.Core.Path.{refl}
 use Rattle.laws.specs.Choose.{pick}
 use Rattle.packet_words.specs.Values.{numbersFit}
 
@@ -46,7 +47,7 @@ shared-slice-read-result c = search needs
 
 returns-6 : tie.Need-returns-6
 unfolding numbersFit pick
-returns-6 c = rw (le-leb _ _ (c .before .before .before .before .before .before .before .before .before .if1 .left), le-leb _ _ (c .before .before .before .before .before .before .before .if2 .left), le-leb _ _ (c .before .before .before .before .before .if3 .left), le-leb _ _ (c .before .before .before .if4 .left), ne-eqb _ _ (c .before .if5 .left))
+returns-6 c = rw (le-leb _ _ (c .before .before .before .before .before .before .before .before .before .if1 .left), le-leb _ _ (c .before .before .before .before .before .before .before .if2 .left), le-leb _ _ (c .before .before .before .before .before .if3 .left), le-leb _ _ (c .before .before .before .if4 .left), ne-eqb _ _ (c .before .if5 .left)) refl
 
 pub numbers-fit-spec : {M : Type 1} → statement M
 numbers-fit-spec =

@@ -3,7 +3,7 @@ use Prim.Native.Nat.{_+_}
 use borrow.Author.Needs.{needs}
 use borrow.Author.Tests.{not-true, not-false}
 use lib.ListN.{length}
-use mathlib.Core.Path.{_≡_, sym, _∙_}
+use mathlib.Core.Path.{_≡_, sym, _∙_, refl}
 use native.Mathlib.Omega.{arith}
 use Rattle.laws.specs.Choose.{pick}
 use Rattle.laws.proofs.Comparing.{beyond, not-beyond}
@@ -70,7 +70,7 @@ returns-3 c = λ ws.
       ← c .before .before .before .find-vacancy .ensures,
       c .before .enum-told .given .1,
       c .refused3 .ensures,
-    )
+    ) refl
 
 returns-4 : tie.Need-returns-4
 unfolding postEffect placedIn pick

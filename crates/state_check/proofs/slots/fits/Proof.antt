@@ -1,5 +1,6 @@
 -- `state_check::slots::fits` meets its contract.
 use borrow.Author.Needs.{needs}
+use mathlib.Core.Path.{refl}
 use Rattle.peer.specs.State.{phaseFits}
 use Rattle.state_check.proofs.slots.fits.Statement.{statement}
 use Rattle.state_check.proofs.slots.fits.Tie as tie
@@ -25,7 +26,7 @@ returns c = rw (c .enum-told .given .1)
 
 returns-2 : tie.Need-returns-2
 unfolding phaseFits
-returns-2 c = rw (c .before .before .phase .given .1, c .ends-by .ensures)
+returns-2 c = rw (c .before .before .phase .given .1, c .ends-by .ensures) refl
 
 returns-3 : tie.Need-returns-3
 returns-3 c = rw (c .before .before .phase2 .given .1, c .fits2 .ensures)

@@ -1,5 +1,6 @@
 -- `state_words::loading::message_in` meets its contract.
 use borrow.Author.Needs.{needs}
+use mathlib.Core.Path.{refl}
 use Rattle.state_words.proofs.loading.message_in.Statement.{statement}
 use Rattle.state_words.proofs.loading.message_in.Tie as tie
 
@@ -82,7 +83,7 @@ cast-t41 : tie.Need-cast-t41
 cast-t41 c = search needs
 
 returns : tie.Need-returns
-returns c = rw (c .before .before .before .before .before .before .before .cq-in .ensures)
+returns c = rw (c .before .before .before .before .before .before .before .cq-in .ensures) refl
 
 pub message-in-spec : {M : Type 1} → statement M
 message-in-spec =

@@ -1,5 +1,6 @@
 -- `state_words::saving::open_words` meets its contract.
 use borrow.Author.Needs.{needs}
+use mathlib.Core.Path.{refl}
 use Rattle.state_words.specs.Saving.{phaseWords}
 use Rattle.state_words.proofs.saving.open_words.Statement.{statement}
 use Rattle.state_words.proofs.saving.open_words.Tie as tie
@@ -27,7 +28,7 @@ cq-value-requires c κs = search needs
 
 returns : tie.Need-returns
 unfolding phaseWords
-returns c = rw (c .before .before .before .before .before .before .bit-of .ensures, c .before .cq-bit .ensures, c .cq-value .ensures)
+returns c = rw (c .before .before .before .before .before .before .bit-of .ensures, c .before .cq-bit .ensures, c .cq-value .ensures) refl
 
 pub open-words-spec : {M : Type 1} → statement M
 open-words-spec =

@@ -1,5 +1,6 @@
 -- `peer::types::Peer::advanced` meets its contract.
 use borrow.Author.Needs.{needs}
+use mathlib.Core.Path.{refl}
 use Rattle.peer.proofs.types.Peer.advanced.Statement.{statement}
 use Rattle.peer.proofs.types.Peer.advanced.Tie as tie
 
@@ -7,7 +8,7 @@ wrapping-add-u32-requires : tie.Need-wrapping-add-u32-requires
 wrapping-add-u32-requires c κs = search needs
 
 returns : tie.Need-returns
-returns c = rw (c .wrapping-add-u32 .ensures)
+returns c = rw (c .wrapping-add-u32 .ensures) refl
 
 pub advanced-spec : {M : Type 1} → statement M
 advanced-spec = tie.close (tie.spec wrapping-add-u32-requires returns)

@@ -1,5 +1,6 @@
 -- `peer::types::Peer::freed` meets its contract.
 use borrow.Author.Needs.{needs}
+use mathlib.Core.Path.{refl}
 use Rattle.peer.proofs.types.Peer.freed.Statement.{statement}
 use Rattle.peer.proofs.types.Peer.freed.Tie as tie
 
@@ -16,7 +17,7 @@ with-slot-requires : tie.Need-with-slot-requires
 with-slot-requires c κs = search needs
 
 returns : tie.Need-returns
-returns c = rw (c .with-slot .ensures, c .before .freed .ensures)
+returns c = rw (c .with-slot .ensures, c .before .freed .ensures) refl
 
 pub freed-spec : {M : Type 1} → statement M
 freed-spec =
