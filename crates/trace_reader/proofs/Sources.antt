@@ -16,7 +16,7 @@ pub data Source : Type 0 where
   stands : ℕ → Source
   copied : Source
 
--- the source that an operand tells; one that is no number of 64 bits is none of this source
+-- the source that an operand tells. The last seven are no source, and are told apart by `Number` below, which holds of none of them
 abbrev pub sourceOf : Opd → Source
 sourceOf (copy p) = copied
 sourceOf (int w k) = stands k
