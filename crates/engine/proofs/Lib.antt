@@ -1,3 +1,4 @@
 pub mod Worlds
 pub mod Walking
 pub mod Turns
+pub mod WordsHold

@@ -2,3 +2,4 @@ pub mod SetUp
 pub mod Steps
 pub mod Gates
 pub mod Left
+pub mod InWords

@@ -6,14 +6,14 @@ use mathlib.Core.Path.{_≡_, refl, sym, ap, _∙_, subst}
 use Rattle.engine.specs.SetUp.{setUp}
 use Rattle.engine.specs.declared.types.Ready.{Ready}
 use Rattle.guarantees.specs.Delivery.{AllDelivered, Delivered, Delivery, SeenByHistory, demanded, plainRun}
-use Rattle.guarantees.specs.Runs.{callsOf, freshWorld}
+use Rattle.guarantees.specs.Runs.{callsOf}
 use Rattle.peer.specs.Calls.{Call}
 use Rattle.peer.specs.Claims.{BytesBySegments, DoneWhenCovered, GrantsBounded, InOrder, MatchedInOrder, Once, history, plainAfter, takes}
 use Rattle.peer.specs.Expected.{expected, targetOfCall}
 use Rattle.peer.specs.Plain.{Plain, enter, freshPlain}
+use Rattle.engine.proofs.WordsHold.{ready-fits}
 use Rattle.engine.proofs.Worlds.{sized}
 use Rattle.guarantees.proofs.Seeing.{seen-by-history}
-use Rattle.guarantees.proofs.SetUps.{fresh-good}
 use Rattle.peer.proofs.HistoryBytes.{bytes-by-segments}
 use Rattle.peer.proofs.HistoryDone.{done-when-covered}
 use Rattle.peer.proofs.HistoryGrants.{grants-bounded}
@@ -64,4 +64,4 @@ delivery n area limit p arena map ready h calls = (
   where
     low : (n area limit : ℕ) (arena map : List ℕ) → setUp n area limit (length arena) map .started .answer ≡ Ready.Ready → 64 ≤ limit
     low n area limit arena map ready =
-        sized n area limit (unfold freshWorld in fresh-good n area limit arena map ready .numbers) .limitLow
+        sized n area limit (ready-fits n area limit (length arena) map ready .0) .limitLow

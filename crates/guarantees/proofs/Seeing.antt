@@ -7,7 +7,8 @@ use mathlib.Core.Bool.{true, false}
 use mathlib.Core.List.{List, [], _∷_}
 use mathlib.Core.Path.{_≡_, refl, sym, ap, ap₂, _∙_, subst}
 use native.Mathlib.Decide.{ℕ-discrete}
-use Rattle.engine.specs.SetUp.{peerAt, setUp}
+use Rattle.engine.specs.Left.{world}
+use Rattle.engine.specs.SetUp.{engineOf, peerAt, setUp}
 use Rattle.engine.specs.Steps.{World, wordsOf}
 use Rattle.engine.specs.declared.types.Ready.{Ready}
 use Rattle.guarantees.specs.Delivery.{SeenByHistory, demanded, plainRun}
@@ -17,8 +18,9 @@ use Rattle.peer.specs.Plain.{Plain, enter, freshPlain}
 use Rattle.peer.specs.Starts.{noteStart}
 use Rattle.peer.specs.State.{freeSlot, freshPeer, isFree, phaseAt, slotCount}
 use Rattle.peer.specs.declared.types.Peer.{Peer}
+use Rattle.engine.proofs.WordsHold.{fresh-peer}
 use Rattle.engine.proofs.Worlds.{byteIn}
-use Rattle.guarantees.proofs.SetUps.{fresh-good, fresh-peer}
+use Rattle.guarantees.proofs.SetUps.{fresh-good, fresh-is}
 use Rattle.guarantees.proofs.Tracking.{Tracks, other-tracks, own-seen}
 use Rattle.laws.proofs.Choosing.{clashing, pick-false, pick-true}
 use Rattle.peer.proofs.Agreement.{Agrees}
@@ -81,7 +83,7 @@ pub fresh-tracks : (n area limit p : ℕ) (arena map : List ℕ) → setUp n are
 fresh-tracks n area limit p arena map ready h =
     record {
       good = fresh-good n area limit arena map ready;
-      below = unfold freshWorld in h;
+      below = subst (λ (v : World). p < v .engine .n) (sym is) h;
       agrees = subst (λ (q : Peer). Agrees q (wordsOf w p) (byteIn w p) freshPlain) (sym fresh) (fresh-agrees (wordsOf w p) (byteIn w p));
       from = subst (λ (q : Peer). Starts (q .slots) noStarts) (sym fresh) fresh-starts;
     }
@@ -89,8 +91,11 @@ fresh-tracks n area limit p arena map ready h =
     w : World
     w = freshWorld n area limit arena map
 
+    is : w ≡ world (engineOf n area limit) arena (replicate (length map) 0)
+    is = fresh-is n area limit arena map ready
+
     fresh : peerAt (w .engine) p ≡ freshPeer
-    fresh = unfold freshWorld in fresh-peer n area limit p
+    fresh = ap (λ (v : World). peerAt (v .engine) p) is ∙ fresh-peer n area limit p
 
     fresh-starts : Starts (freshPeer .slots) noStarts
     fresh-starts =
@@ -100,5 +105,7 @@ fresh-tracks n area limit p arena map ready h =
         }
 
 pub seen-by-history : SeenByHistory
-unfolding SeenByHistory freshWorld
-seen-by-history n area limit p arena map ready h calls = observed p calls (freshWorld n area limit arena map) noStarts freshPlain (fresh-tracks n area limit p arena map ready h)
+unfolding SeenByHistory
+seen-by-history n area limit p arena map ready h calls =
+    observed p calls (freshWorld n area limit arena map) noStarts freshPlain (fresh-tracks n area limit p arena map ready h)
+    ∙ ap (λ (v : World). plainRun (v .engine .area) (v .engine .limit) freshPlain (callsOf p calls)) (fresh-is n area limit arena map ready)

@@ -11,7 +11,8 @@ use Rattle.peer.specs.Calls.{Call}
 use Rattle.peer.specs.Numbers.{Saying, said}
 use Rattle.peer.specs.Starts.{noteStart}
 use Rattle.peer.specs.State.{slotCount}
-use Rattle.engine.specs.SetUp.{engineOf}
+use Rattle.engine.specs.Left.{world}
+use Rattle.engine.specs.SetUp.{setUp}
 use Rattle.engine.specs.Steps.{World, Turn, callTurn}
 
 -- a call with what it lends: of a packet its bytes, and the reply buffer as it is lent
@@ -40,9 +41,10 @@ bufferOf (report i) = []
 
 -- ---- a run
 
--- "The first call gets the fresh state, the cleared map and the arena"
+-- "The first call gets the fresh state, the cleared map and the arena": what the set-up returned and left
 unfoldable pub freshWorld : ℕ → ℕ → ℕ → List ℕ → List ℕ → World
-freshWorld n area limit arena map = record { engine = engineOf n area limit; arena = arena; map = replicate (length map) 0 }
+freshWorld n area limit arena map =
+    world (setUp n area limit (length arena) map .started .engine) arena (setUp n area limit (length arena) map .map)
 
 unfoldable pub turnOf : World → Request → Turn
 turnOf w q = callTurn w (q .peer) (callOf (q .act))

@@ -42,19 +42,13 @@ module _ (n area limit : ℕ) (s : List ℕ) (next budget : ℕ) (arena map repl
   unfolding setUp
   either P p q = subst P (sym e) (pick-either P (numbersFit n area limit && lentFits n area (length arena) (length map)) p q)
 
-  fresh : x .started .answer ≡ Ready.Ready → world (x .started .engine) arena (x .map) ≡ freshWorld n area limit arena map
-  unfolding freshWorld
-  fresh =
-      either (λ (y : Prepared). y .started .answer ≡ Ready.Ready → world (y .started .engine) arena (y .map) ≡ freshWorld n area limit arena map)
-      (λ r. refl) (λ r. refused-or-ready r)
-
   untouched : (k : Refusal) → x .started .answer ≡ Ready.Refused k → x .map ≡ map
   untouched k = either (λ (y : Prepared). y .started .answer ≡ Ready.Refused k → y .map ≡ map) (λ r. refused-or-ready (sym r)) (λ r. refl)
 
   pub begun-ready : x .started .answer ≡ Ready.Ready
       → begun n area limit s next budget arena map reply text ≡ reported (world (x .started .engine) arena (x .map)) reply text (decode budget s reply next)
-  unfolding begun
-  begun-ready r = rw (← e, r, fresh r)
+  unfolding begun freshWorld
+  begun-ready r = rw (← e, r)
 
   pub begun-refused : (k : Refusal) → x .started .answer ≡ Ready.Refused k
       → begun n area limit s next budget arena map reply text ≡ told arena (x .map) reply text (Ending.NotSetUp k)
