@@ -18,5 +18,5 @@ pub(crate) const NO_ROOM: u8 = 21;
 // The version of the protocol.
 pub(crate) const VERSION: u8 = 4;
 
-// The longest packet that the writer writes.
+// The longest packet of reader and writer alone.
 pub(crate) const LIMIT: usize = 8192;

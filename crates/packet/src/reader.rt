@@ -9,6 +9,7 @@ use crate::limits::BAD_LENGTH;
 use crate::limits::BAD_TYPE;
 use crate::limits::BAD_VERSION;
 use crate::limits::CUT_SHORT;
+use crate::limits::LIMIT;
 use crate::limits::VERSION;
 use crate::options;
 use crate::sections;
@@ -113,14 +114,15 @@ fn among(bytes: &[u8], limit: usize, all: bool) -> Read
     }
 }
 
-// Reads a packet of any type of the table that is at most limit bytes long.
-pub fn read(bytes: &[u8], limit: usize) -> Read
-    ensures { λ r. ⌜ r ≡ readOf true limit (now (bytes .entry)) ⌝ }
+// Reads a packet of any type of the table: the reader alone, whose limit is 8,192 bytes.
+pub fn read(bytes: &[u8]) -> Read
+    ensures { λ r. ⌜ r ≡ readOf true 8192 (now (bytes .entry)) ⌝ }
 {
-    among(bytes, limit, true)
+    among(bytes, LIMIT, true)
 }
 
-// The same, of the types that the receive engine serves: a CTS is refused as a type.
+// Reads a packet that is at most limit bytes long, of the types that the receive engine serves: a
+// CTS is refused as a type.
 pub fn read_served(bytes: &[u8], limit: usize) -> Read
     ensures { λ r. ⌜ r ≡ readOf false limit (now (bytes .entry)) ⌝ }
 {

@@ -102,7 +102,7 @@ const TYPES: [TypeRow; 8] = [
 ];
 
 // The row of a packet type.
-pub(crate) fn find(kind: u8) -> Found
+pub fn find(kind: u8) -> Found
     ensures { λ r. ⌜ r ≡ rowOf kind ⌝ }
 {
     // once, and not at each turn: a constant is made anew wherever it is named

@@ -150,7 +150,7 @@ fn served(bytes: &[u8]) {
 
 // A packet that is read, by the engine's reader too unless it is a CTS, and written back.
 pub(crate) fn good(name: &[u8], bytes: &[u8]) {
-    let read = packet::read(bytes, LIMIT);
+    let read = packet::read(bytes);
     answer(name, read);
     served(bytes);
     print::text(b"\n");
@@ -159,12 +159,12 @@ pub(crate) fn good(name: &[u8], bytes: &[u8]) {
     }
 }
 
-pub(crate) fn read(name: &[u8], bytes: &[u8], limit: usize) {
-    answer(name, packet::read(bytes, limit));
+pub(crate) fn read(name: &[u8], bytes: &[u8]) {
+    answer(name, packet::read(bytes));
     print::text(b"\n");
 }
 
-pub(crate) fn read_served(name: &[u8], bytes: &[u8]) {
-    answer(name, packet::read_served(bytes, LIMIT));
+pub(crate) fn read_served(name: &[u8], bytes: &[u8], limit: usize) {
+    answer(name, packet::read_served(bytes, limit));
     print::text(b"\n");
 }

@@ -25,9 +25,9 @@ fn read(line: &[u8], kind: u8) {
     let name = word(line, 1);
     match kind {
         b'g' => outcome::good(name, bytes),
-        b's' => outcome::read_served(name, bytes),
-        b'l' => outcome::read(name, bytes, number(line, 3, 8192) as usize),
-        _ => outcome::read(name, bytes, LIMIT),
+        b's' => outcome::read_served(name, bytes, LIMIT),
+        b'l' => outcome::read_served(name, bytes, number(line, 3, 8192) as usize),
+        _ => outcome::read(name, bytes),
     }
 }
 

@@ -1,2 +1,7 @@
 pub mod Presence
 pub mod Values
+pub mod Writing
+pub mod Says
+pub mod Order
+pub mod ReaderInWords
+pub mod RoundTrip

@@ -1,7 +1,6 @@
 // A packet is read into words.
 use crate::presence;
 use crate::types::FEW_WORDS;
-use crate::types::LIMIT;
 use crate::types::TAKEN;
 use crate::types::VALUES;
 use protocol::Packet;
@@ -49,7 +48,7 @@ pub fn read(bytes: &[u8], values: &mut [u64]) -> usize
     if values.len() < VALUES {
         return FEW_WORDS;
     }
-    match packet::read(bytes, LIMIT) {
+    match packet::read(bytes) {
         Read::Refused(refusal) => refusal.number as usize,
         Read::Packet(packet) => {
             words::put_words(values, 0, &value_words(packet));

@@ -1,43 +1,40 @@
 -- What the reader and the writer accept, as a record of facts: from their answer, and back to it.
-use Prim.Native.Nat.{ℕ, _+_, _-_, _≤_}
-use borrow.Author.Tests.{ltb-false, eqb-true, le-ltb, eq-eqb}
+use Prim.Native.Nat.{ℕ, _-_, _≤_, _<_}
+use borrow.Author.Tests.{ltb-false, eqb-true, le-ltb, eq-eqb, not-false}
 use lib.ListN.{length, getD}
-use mathlib.Core.Bool.{Bool, true}
+use mathlib.Core.Bool.{true, false, not}
 use mathlib.Core.List.{List}
-use mathlib.Core.Path.{_≡_, refl, sym, ap, _∙_}
+use mathlib.Core.Path.{_≡_, sym, ap, ap₂, _∙_, subst}
 use native.Mathlib.Omega.{arith}
 use Rattle.laws.specs.Choose.{pick}
 use Rattle.laws.specs.Parts.{storeAt}
+use Rattle.protocol.specs.ByType.{fieldsTold}
 use Rattle.protocol.specs.Flags.{flagsFit, flagsOf}
+use Rattle.protocol.specs.InWords.{Check, checkAt, headIn, headerCut, noBase, overLimit, readerChecks, refusedAs, wrongFlags, wrongLengths, wrongType, wrongVersion}
 use Rattle.protocol.specs.Layout.{fieldsAt, fieldsIn, layout}
 use Rattle.protocol.specs.Lengths.{lengthsFit}
-use Rattle.protocol.specs.Reading.{headerIn, packetIn, readFlags, readLengths, readOf, readSections, readTyped}
-use Rattle.protocol.specs.Refusals.{badType, noRoom}
-use Rattle.protocol.specs.Sections.{afterRaw, connidLength, cqDataLength, extentOf, rawSpan, sectionsAt, sectionsFrom}
+use Rattle.protocol.specs.Reading.{readOf}
+use Rattle.protocol.specs.Refusals.{refusal}
 use Rattle.protocol.specs.Types.{admit, rowOf}
-use Rattle.protocol.specs.Writing.{Outcome, packetBytes, refused, writeAs, writeBytes, writeOf, writeTyped}
-use Rattle.protocol.specs.declared.sections.Extent.the-variants.{Cut, Whole}
+use Rattle.protocol.specs.WriterInWords.{WriterCheck, brokenLengths, misplacedHeader, noType, overLongest, packetLength, shortBuffer, writeRefusedAs, writerCheckAt, writerChecks}
+use Rattle.protocol.specs.Writing.{Outcome, packetBytes, writeOf}
 use Rattle.protocol.specs.declared.table.Found.{Found}
-use Rattle.protocol.specs.declared.table.Found.the-variants.{Row, Unknown}
+use Rattle.protocol.specs.declared.table.Found.the-variants.{Row}
 use Rattle.protocol.specs.declared.table.TypeRow.{TypeRow}
+use Rattle.protocol.specs.declared.types.Fields.{Fields}
 use Rattle.protocol.specs.declared.types.Header.{Header}
 use Rattle.protocol.specs.declared.types.Packet.{Packet}
 use Rattle.protocol.specs.declared.types.Read.{Read}
 use Rattle.protocol.specs.declared.types.Refusal.{Refusal}
 use Rattle.protocol.specs.declared.types.Written.{Written}
 use Rattle.wire.specs.LittleEndian.{leAt}
-use Rattle.laws.proofs.Choosing.{pick-ap, pick-first, pick-second}
-
--- where a packet's connid stands if it is not in multiuse, and where its data begin
-abbrev pub connidFrom : TypeRow → ℕ → List ℕ → ℕ
-connidFrom r f bs = afterRaw r f bs + cqDataLength f
-
-abbrev pub dataFrom : TypeRow → ℕ → List ℕ → ℕ
-dataFrom r f bs = connidFrom r f bs + connidLength r f
-
--- the packet of type r that is read from bs
-abbrev pub packetOf : TypeRow → ℕ → List ℕ → Packet
-packetOf r f bs = packetIn r f bs (sectionsAt r f (rawSpan r f bs) (afterRaw r f bs))
+use Rattle.protocol.proofs.FirstFailing.{all-pass, judged-ap, none-of}
+use Rattle.protocol.proofs.FoundRow.{isUnknown, row-at, row-out}
+use Rattle.protocol.proofs.OrderHolds.{failing, is-judged, passedAs, placed, row-head}
+use Rattle.protocol.proofs.TypeWords.{fields-in-words}
+pub use Rattle.protocol.proofs.WholePacket.{connidFrom, dataFrom, packetOf}
+use Rattle.protocol.proofs.WordsHold.{of-row}
+use Rattle.protocol.proofs.WriterHolds.{length-in-words, refusing, write-failing, write-judged, write-placed, written}
 
 -- bs are a packet of type r that the reader takes
 pub record ReadAs (limit : ℕ) (bs : List ℕ) (r : TypeRow) : Type 0 where
@@ -49,66 +46,73 @@ pub record ReadAs (limit : ℕ) (bs : List ℕ) (r : TypeRow) : Type 0 where
   pub inside : dataFrom r (leAt 2 bs 2) bs ≤ length bs
   pub lengths : lengthsFit (r .shape) (fieldsIn (layout r) (fieldsAt r) bs) (length bs - dataFrom r (leAt 2 bs 2) bs) ≡ true
 
--- a packet that holds all its headers is whole
-whole-extent : (r : TypeRow) (f : ℕ) (bs : List ℕ) → dataFrom r f bs ≤ length bs → extentOf r f bs ≡ Whole (sectionsAt r f (rawSpan r f bs) (afterRaw r f bs))
-unfolding extentOf sectionsFrom pick
-whole-extent r f bs h = ap (λ (cut : Bool). pick cut Cut (Whole (sectionsAt r f (rawSpan r f bs) (afterRaw r f bs)))) (le-ltb (length bs) (dataFrom r f bs) h)
-
 pub read-as : (limit : ℕ) (bs : List ℕ) (r : TypeRow) → ReadAs limit bs r → readOf true limit bs ≡ Read.Packet (packetOf r (leAt 2 bs 2) bs)
-unfolding readOf readTyped admit readFlags readSections readLengths packetIn headerIn pick
+unfolding admit pick
 read-as limit bs r a =
-    rw (
-      le-ltb limit (length bs) (a .allowed),
-      le-ltb (length bs) 4 (a .based),
-      eq-eqb (getD bs 1 0) 4 (a .version),
-      a .row,
-      a .flags,
-      whole-extent r (leAt 2 bs 2) bs (a .inside),
-      a .lengths,
-    )
+    is-judged true limit bs
+    ∙ none-of wrongLengths (failing true limit bs) (λ c. Read.Refused (refusal (refusedAs c))) (Read.Packet (passedAs true limit bs (rowOf k))) readerChecks
+    (λ i l. pass (checkAt i))
+    ∙ ap (λ (o : Found). Read.Packet (passedAs true limit bs o)) (a .row)
+  where
+    k : ℕ
+    k = getD bs 0 0
+
+    fit : lengthsFit (r .shape) (fieldsTold bs k) (length bs - headIn bs) ≡ true
+    fit =
+        ap₂ (λ (v : Fields) (m : ℕ). lengthsFit (r .shape) v (length bs - m)) (sym (fields-in-words bs k r (a .row))) (sym (row-head bs r (a .row)))
+        ∙ a .lengths
+
+    pass : (c : Check) → failing true limit bs c ≡ false
+    pass overLimit = le-ltb limit (length bs) (a .allowed)
+    pass noBase = le-ltb (length bs) 4 (a .based)
+    pass wrongVersion = ap not (eq-eqb (getD bs 1 0) 4 (a .version))
+    pass wrongType = ap (λ (o : Found). isUnknown (admit true o)) (a .row)
+    pass wrongFlags = row-at _ r (λ q. not (flagsFit q (leAt 2 bs 2))) (a .row) ∙ ap not (a .flags)
+    pass headerCut = le-ltb (length bs) (headIn bs) (rw (row-head bs r (a .row)) at (a .inside))
+    pass wrongLengths = row-at _ r (λ q. not (lengthsFit (q .shape) (fieldsTold bs k) (length bs - headIn bs))) (a .row) ∙ ap not fit
 
 no-packet : (k : Refusal) (p : Packet) → Read.Refused k ≡ Read.Packet p → ⊥
 no-packet k p e = let z : _≡_ {A = ℕ} 0 1 = cc in omega arith
 
-typed : (o : Found) (bs : List ℕ) (p : Packet)
-    → readTyped (admit true o) bs ≡ Read.Packet p
-    → (r : TypeRow) × (o ≡ Row r) × (readFlags r bs ≡ Read.Packet p)
-unfolding readTyped admit pick
-typed Unknown bs p e = absurd (no-packet _ p e)
-typed (Row r) bs p e = (r, refl, e)
-
-whole : (r : TypeRow) (f : ℕ) (bs : List ℕ) (p : Packet)
-    → readSections r f bs (extentOf r f bs) ≡ Read.Packet p
-    → (dataFrom r f bs ≤ length bs) × (readLengths r (packetOf r f bs) ≡ Read.Packet p)
-unfolding extentOf sectionsFrom readSections
-whole r f bs p e =
-    let (inside, e) = pick-second _ _ _ _ (no-packet _ p) (sym (pick-ap (readSections r f bs) _ _ _) ∙ e) in
-    (ltb-false _ _ inside, e)
-
 pub as-read : (limit : ℕ) (bs : List ℕ) (p : Packet)
     → readOf true limit bs ≡ Read.Packet p
     → (r : TypeRow) × ReadAs limit bs r × (p ≡ packetOf r (leAt 2 bs 2) bs)
-unfolding readOf readFlags readLengths packetIn headerIn
-as-read limit bs p e =
-    let (allowed, e) = pick-second _ _ _ _ (no-packet _ p) e in
-    let (based, e) = pick-second _ _ _ _ (no-packet _ p) e in
-    let (version, e) = pick-first _ _ _ _ (no-packet _ p) e in
-    let (r, row, e) = typed (rowOf (getD bs 0 0)) bs p e in
-    let (flags, e) = pick-first _ _ _ _ (no-packet _ p) e in
-    let (inside, e) = whole r (leAt 2 bs 2) bs p e in
-    let (lengths, e) = pick-first _ _ _ _ (no-packet _ p) e in (
+as-read limit bs p e = accepted (of-row true (rowOf k) _ (row-out _ (pass wrongType) .1) .0)
+  where
+    k : ℕ
+    k = getD bs 0 0
+
+    tests : ((i : ℕ) → i < 7 → failing true limit bs (checkAt i) ≡ false) × (Read.Packet (passedAs true limit bs (rowOf k)) ≡ Read.Packet p)
+    tests =
+        all-pass wrongLengths (failing true limit bs) (λ c. Read.Refused (refusal (refusedAs c))) (Read.Packet (passedAs true limit bs (rowOf k))) readerChecks
+        (Read.Packet p)
+        (λ c. no-packet _ p)
+        (sym (is-judged true limit bs) ∙ e)
+
+    pass : (c : Check) → failing true limit bs c ≡ false
+    pass c = let (i, l, same) = placed c in ap (failing true limit bs) (sym same) ∙ tests .0 i l
+
+    accepted : {r : TypeRow} → rowOf k ≡ Row r → (r : TypeRow) × ReadAs limit bs r × (p ≡ packetOf r (leAt 2 bs 2) bs)
+    accepted {r} x = (
       r,
       record {
-        allowed = ltb-false _ _ allowed;
-        based = ltb-false _ _ based;
-        version = eqb-true _ _ version;
-        row = row;
-        flags = flags;
-        inside = inside;
-        lengths = lengths;
+        allowed = ltb-false limit (length bs) (pass overLimit);
+        based = ltb-false (length bs) 4 (pass noBase);
+        version = eqb-true _ _ (not-false _ (pass wrongVersion));
+        row = x;
+        flags = not-false _ (sym (row-at _ r (λ q. not (flagsFit q (leAt 2 bs 2))) x) ∙ pass wrongFlags);
+        inside = subst (λ (m : ℕ). m ≤ length bs) (sym (row-head bs r x)) (ltb-false _ _ (pass headerCut));
+        lengths = ap₂ (λ (v : Fields) (m : ℕ). lengthsFit (r .shape) v (length bs - m)) (fields-in-words bs k r x) (row-head bs r x)
+            ∙ not-false _ (sym (row-at _ r (λ q. not (lengthsFit (q .shape) (fieldsTold bs k) (length bs - headIn bs))) x) ∙ pass wrongLengths);
       },
-      cc,
+      same,
     )
+      where
+        same : p ≡ packetOf r (leAt 2 bs 2) bs
+        same =
+            let y : Read.Packet (packetOf r (leAt 2 bs 2) bs) ≡ Read.Packet p =
+            ap (λ (o : Found). Read.Packet (passedAs true limit bs o)) (sym x) ∙ tests .1 in
+            cc
 
 -- a packet of the type r is written
 pub record WrittenAs (h : Header) (raw body out : List ℕ) (r : TypeRow) : Type 0 where
@@ -121,40 +125,62 @@ pub record WrittenAs (h : Header) (raw body out : List ℕ) (r : TypeRow) : Type
 pub write-as : (h : Header) (raw body out : List ℕ) (r : TypeRow)
     → WrittenAs h raw body out r
     → writeOf h raw body out ≡ record { answer = Written.Length (length (packetBytes r h raw body)); out = storeAt out 0 (packetBytes r h raw body) }
-unfolding writeOf writeTyped writeAs writeBytes pick
 write-as h raw body out r a =
-    let bytes = packetBytes r h raw body in
-    let done : Outcome = record { answer = Written.Length (length bytes); out = storeAt out 0 bytes } in
-    let fits = ap (λ (full : Bool). pick full (refused noRoom out) done) (le-ltb (length out) (length bytes) (a .room)) in
-    rw (a .row, a .flags, a .lengths, le-ltb 8192 (length bytes) (a .allowed)) fits
+    write-judged h raw body out
+    ∙ none-of shortBuffer (write-failing h raw body out) (refusing h raw body out) (written h raw body out (rowOf (h .kind))) writerChecks
+    (λ i l. pass (writerCheckAt i))
+    ∙ ap (written h raw body out) (a .row)
+    ∙ ap (λ (m : ℕ). record { answer = Written.Length m; out = storeAt out 0 (packetBytes r h raw body) }) (sym size)
+  where
+    size : length (packetBytes r h raw body) ≡ packetLength h (length raw) (length body)
+    size = length-in-words h raw body r (a .row)
 
-no-length : (k : Refusal) (out : List ℕ) (n : ℕ) (o : Outcome) → o .answer ≡ Written.Length n → refused k out ≡ o → ⊥
-no-length k out n o e q = let z : _≡_ {A = ℕ} 0 1 = cc in omega arith
+    pass : (c : WriterCheck) → write-failing h raw body out c ≡ false
+    pass noType = ap isUnknown (a .row)
+    pass misplacedHeader = row-at _ r (λ q. not (flagsFit q (flagsOf q h))) (a .row) ∙ ap not (a .flags)
+    pass brokenLengths = row-at _ r (λ q. not (lengthsFit (q .shape) (h .fields) (length body))) (a .row) ∙ ap not (a .lengths)
+    pass overLongest = le-ltb 8192 (packetLength h (length raw) (length body)) (omega (arith, size, a .allowed))
+    pass shortBuffer = le-ltb (length out) (packetLength h (length raw) (length body)) (omega (arith, size, a .room))
 
-of-type : (o : Found) (h : Header) (raw body out : List ℕ) (n : ℕ)
-    → writeTyped o h raw body out .answer ≡ Written.Length n
-    → (r : TypeRow) × (o ≡ Row r) × (writeAs r h raw body out .answer ≡ Written.Length n)
-unfolding writeTyped
-of-type Unknown h raw body out n e = absurd (no-length badType out n (refused badType out) e refl)
-of-type (Row r) h raw body out n e = (r, refl, e)
+no-length : (k : Refusal) (n : ℕ) → Written.Refused k ≡ Written.Length n → ⊥
+no-length k n e = let z : _≡_ {A = ℕ} 0 1 = cc in omega arith
 
 pub as-written : (h : Header) (raw body out : List ℕ) (n : ℕ)
     → writeOf h raw body out .answer ≡ Written.Length n
     → (r : TypeRow) × WrittenAs h raw body out r × (n ≡ length (packetBytes r h raw body))
-unfolding writeOf writeAs writeBytes
-as-written h raw body out n e =
-    let (r, row, e) = of-type (rowOf (h .kind)) h raw body out n e in
-    let (flags, q) = pick-first _ _ _ _ (no-length _ out n (writeAs r h raw body out) e) refl in
-    let (lengths, q) = pick-first _ _ _ _ (no-length _ out n (writeAs r h raw body out) e) q in
-    let (allowed, q) = pick-second _ _ _ _ (no-length _ out n (writeAs r h raw body out) e) q in
-    let (room, q) = pick-second _ _ _ _ (no-length _ out n (writeAs r h raw body out) e) q in (
-      r,
-      record {
-        row = row;
-        flags = flags;
-        lengths = lengths;
-        allowed = ltb-false _ _ allowed;
-        room = ltb-false _ _ room;
-      },
-      cc,
-    )
+as-written h raw body out n e = accepted (row-out _ (pass noType))
+  where
+    total : ℕ
+    total = packetLength h (length raw) (length body)
+
+    kept : Outcome
+    kept = written h raw body out (rowOf (h .kind))
+
+    tests : ((i : ℕ) → i < 5 → write-failing h raw body out (writerCheckAt i) ≡ false) × (Written.Length (total) ≡ Written.Length n)
+    tests =
+        all-pass shortBuffer (write-failing h raw body out) (λ c. Written.Refused (refusal (writeRefusedAs c)))
+        (Written.Length (total))
+        writerChecks
+        (Written.Length n)
+        (λ c. no-length _ n)
+        (sym (judged-ap (λ (o : Outcome). o .answer) (write-failing h raw body out) (refusing h raw body out) kept writerChecks)
+        ∙ ap (λ (o : Outcome). o .answer) (sym (write-judged h raw body out))
+        ∙ e)
+
+    pass : (c : WriterCheck) → write-failing h raw body out c ≡ false
+    pass c = let (i, l, same) = write-placed c in ap (write-failing h raw body out) (sym same) ∙ tests .0 i l
+
+    accepted : (r : TypeRow) × (rowOf (h .kind) ≡ Row r) → (r : TypeRow) × WrittenAs h raw body out r × (n ≡ length (packetBytes r h raw body))
+    accepted (r, x) =
+        let size = length-in-words h raw body r x in
+        let answered : total ≡ n = cc (tests .1) in (
+          r,
+          record {
+            row = x;
+            flags = not-false _ (sym (row-at _ r (λ q. not (flagsFit q (flagsOf q h))) x) ∙ pass misplacedHeader);
+            lengths = not-false _ (sym (row-at _ r (λ q. not (lengthsFit (q .shape) (h .fields) (length body))) x) ∙ pass brokenLengths);
+            allowed = omega (arith, size, ltb-false 8192 (total) (pass overLongest));
+            room = omega (arith, size, ltb-false (length out) (total) (pass shortBuffer));
+          },
+          omega (arith, size, answered),
+        )

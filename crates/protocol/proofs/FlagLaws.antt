@@ -1,12 +1,12 @@
 -- Flags as bits: those of a written packet are its optional headers', and flags that fit a type are those it must have and these bits.
 use Prim.Native.Nat.{ℕ, zero, suc, _+_, _-_, _*_, _/_, _%_, _^_, _≤_, _<_}
-use borrow.Author.Tests.{eqb-true}
+use borrow.Author.Tests.{eqb-true, eq-eqb}
 use lib.Bits.{bitAnd, and-le-l, and-mask, and-block, and-high}
 use lib.Dec.{eqb, lit<, lit≤}
 use lib.Pow.{split}
 use mathlib.Core.Bool.{Bool, true, false}
 use mathlib.Core.Logic.{_⊎_, inl, inr}
-use mathlib.Core.Path.{_≡_, refl, sym}
+use mathlib.Core.Path.{_≡_, refl, sym, ap, _∙_}
 use native.Mathlib.Nat.{mod-lt}
 use native.Mathlib.Omega.{arith}
 use Rattle.laws.specs.Choose.{pick}
@@ -90,6 +90,55 @@ module _ (r : TypeRow) (h : Header) (s : Sound r) where
   connid-flag =
       let b : flagsOf r h / 32768 ≡ bit (hasConnid (h .connid)) = rw flags-as-bits (omega (arith, bits-small h)) in
       flag-of-bit _ 32768 _ (rw b (omega (arith, bits-small h)))
+
+-- an RTM type takes every optional header
+
+unset : (t : Bool) → bit t ≡ 0 → t ≡ false
+unset true e = absurd (omega arith)
+unset false e = refl
+
+past-options : (f m a b c : ℕ) → f ≡ m + a + 2 * b + 32768 * c → m % 4 ≡ 0 → m ≤ 12 → a ≤ 1 → b ≤ 1 → c ≤ 1
+    → f - (f / 32768 % 2 * 32768 + f % 32768 % 4) ≡ m
+past-options f m a b c e z s x y w =
+    let high : f / 32768 ≡ c = omega arith in
+    let low : f % 32768 ≡ m + a + 2 * b = omega arith in
+    let two : (m + a + 2 * b) % 4 ≡ a + 2 * b = omega arith in
+    let one : c % 2 ≡ c = omega arith in
+    rw (high, low, two, one) (omega arith)
+
+module _ (r : TypeRow) (h : Header) where
+  pub every-option-fits : Sound r → r .may ≡ 0x8003 → flagsFit r (flagsOf r h) ≡ true
+  unfolding flagsFit
+  every-option-fits s m =
+      let f = flagsOf r h in
+      let split : f / 32768 * 32768 + f % 32768 ≡ f = omega arith in
+      let b = and-block 15 (f / 32768) 1 (f % 32768) 3 (mod-lt f (lit< tt)) (lit< tt) in
+      let b = rw (split, and-mask (f / 32768) 1, and-mask (f % 32768) 2) at b in
+      let c : bitAnd f (r .may) ≡ bitAnd f 0x8003 = ap (bitAnd f) m in
+      let (x, y, w) = bits-small h in
+      let over = past-options f (r .must) _ _ _ (flags-as-bits r h) (s .must) (s .small) x y w in
+      eq-eqb _ _ (ap (λ (m : ℕ). f - m) (c ∙ b) ∙ over)
+
+  -- and CTS and CTSDATA a connid alone
+  module _ (m : r .may ≡ 0x8000) (z : r .must ≡ 0) where
+    left-over : flagsOf r h - bitAnd (flagsOf r h) (r .may) ≡ bit (h .«raw_address») + 2 * bit (hasCqData (h .«cq_data»))
+    left-over =
+        let b = and-high (flagsOf r h) 1 15 in
+        let c : bitAnd (flagsOf r h) (r .may) ≡ bitAnd (flagsOf r h) 0x8000 = ap (bitAnd (flagsOf r h)) m in
+        let e = flags-as-bits r h in
+        omega (arith, bits-small h)
+
+    pub connid-fits : h .«raw_address» ≡ false → hasCqData (h .«cq_data») ≡ false → flagsFit r (flagsOf r h) ≡ true
+    unfolding flagsFit
+    connid-fits x y =
+        let none : flagsOf r h - bitAnd (flagsOf r h) (r .may) ≡ r .must = omega (arith, left-over, ap bit x, ap bit y) in
+        eq-eqb _ _ none
+
+    pub fits-connid : flagsFit r (flagsOf r h) ≡ true → (h .«raw_address» ≡ false) × (hasCqData (h .«cq_data») ≡ false)
+    unfolding flagsFit
+    fits-connid t =
+        let e : flagsOf r h - bitAnd (flagsOf r h) (r .may) ≡ r .must = eqb-true _ _ t in
+        (unset _ (omega (arith, left-over)), unset _ (omega (arith, left-over)))
 
 -- flags that fit the type
 flags-fit : (r : TypeRow) (f : ℕ) → Sound r → flagsFit r f ≡ true → f ≡ r .must + f / 1 % 2 + 2 * (f / 2 % 2) + 32768 * (f / 32768 % 2)

@@ -35,3 +35,8 @@ served-read limit bs p e =
     let (b, e) = pick-second _ _ _ _ (no-packet _ p) e in
     let (c, e) = pick-first _ _ _ _ (no-packet _ p) e in
     pick-false _ _ a ∙ pick-false _ _ b ∙ pick-true _ _ c ∙ found-served (rowOf (getD bs 0 0)) bs p e
+
+-- what is read by either reader is read by the reader of all types
+pub any-read : (all : Bool) (limit : ℕ) (bs : List ℕ) (p : Packet) → readOf all limit bs ≡ Read.Packet p → readOf true limit bs ≡ Read.Packet p
+any-read true limit bs p e = e
+any-read false limit bs p e = served-read limit bs p e

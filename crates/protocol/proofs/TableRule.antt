@@ -3,16 +3,17 @@ use Prim.Native.Nat.{ℕ, _+_, _%_}
 use borrow.Author.Tests.{leb-true, eqb-true}
 use lib.Dec.{leb, eqb}
 use lib.ListN.{getD}
-use mathlib.Core.Bool.{Bool, true, _||_}
+use mathlib.Core.Bool.{Bool, true, false, _||_}
 use mathlib.Core.List.{List, [], _∷_, map}
 use mathlib.Core.Logic.{⊎-elim, ⊎-map}
-use mathlib.Core.Path.{_≡_, refl}
+use mathlib.Core.Path.{_≡_, refl, subst}
 use native.Mathlib.Omega.{arith}
 use Rattle.laws.specs.Choose.{pick}
 use Rattle.protocol.specs.Layout.{fieldsAt, layout, widths}
 use Rattle.protocol.specs.Rules.{Sound, connidOf, multiuseOf}
-use Rattle.protocol.specs.Types.{rowIn, rowOf, rows}
+use Rattle.protocol.specs.Types.{row, rowIn, rowOf, rows}
 use Rattle.protocol.specs.declared.table.Found.the-variants.{Row}
+use Rattle.protocol.specs.declared.table.Shape.the-variants.{Cts}
 use Rattle.protocol.specs.declared.table.TypeRow.{TypeRow}
 use Rattle.laws.proofs.Choosing.{all-true, allTrue, and-left, and-right, or-cases, pick-cases}
 
@@ -35,6 +36,36 @@ row-kind k r e = found-in (λ q. true) rows k r refl e .0
 pub row-passes : (test : TypeRow → Bool) → allTrue (map test rows) ≡ true → (k : ℕ) (r : TypeRow) → rowOf k ≡ Row r → test r ≡ true
 unfolding rowOf
 row-passes test a k r e = found-in test rows k r a e .1
+
+-- what holds of each row of a table with its type holds of every row that is found
+abbrev Each : (ℕ → TypeRow → Type 0) → List TypeRow → Type 0
+Each P [] = Unit {0}
+Each P (r ∷ rs) = P (r .kind) r × Each P rs
+
+each-in : (P : ℕ → TypeRow → Type 0) (rs : List TypeRow) → Each P rs → (k : ℕ) (r : TypeRow) → rowIn rs k ≡ Row r → P k r
+unfolding rowIn
+each-in P [] a k r e = let z : _≡_ {A = ℕ} 0 1 = cc in absurd (omega arith)
+each-in P (q ∷ rs) a k r e =
+    ⊎-elim (λ h. let s : q ≡ r = cc in subst (λ (x : TypeRow). P k x) s (subst (λ (n : ℕ). P n q) (eqb-true (q .kind) k (h .0)) (a .0)))
+    (λ h. each-in P rs (a .1) k r (h .1))
+    (pick-cases (eqb (q .kind) k) (Row q) (rowIn rs k) (Row r) e)
+
+-- the rows in their order
+abbrev pub rowAt : ℕ → TypeRow
+rowAt i = getD rows i (row 0 Cts 0 0 0 false false 0 0)
+
+pub by-row : (P : ℕ → TypeRow → Type 0)
+    → P 3 (rowAt 0)
+    → P 4 (rowAt 1)
+    → P 64 (rowAt 2)
+    → P 65 (rowAt 3)
+    → P 66 (rowAt 4)
+    → P 67 (rowAt 5)
+    → P 68 (rowAt 6)
+    → P 69 (rowAt 7)
+    → (k : ℕ) (r : TypeRow) → rowOf k ≡ Row r → P k r
+unfolding rowOf
+by-row P a b c d e f g h k r x = each-in P rows (a, (b, (c, (d, (e, (f, (g, (h, tt)))))))) k r x
 
 -- the rule as tests
 abbrev checks : TypeRow → List Bool

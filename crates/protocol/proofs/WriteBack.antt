@@ -1,5 +1,7 @@
 -- A packet that was read is written again: each section's bytes are the packet's own, and the blank ones zero.
 use Prim.Native.Nat.{ℕ, _+_, _-_, _≤_, _<_}
+use borrow.Author.Tests.{ne-eqb}
+use lib.Dec.{eqb}
 use lib.ListN.{length, getD, drop, replicate, length-replicate}
 use mathlib.Core.Bool.{true, false}
 use mathlib.Core.List.{List, [], _∷_, _++_, append-assoc}
@@ -8,12 +10,13 @@ use mathlib.Core.Path.{_≡_, refl, sym, ap, ap₂, _∙_}
 use native.Mathlib.Omega.{arith}
 use Rattle.laws.specs.Choose.{pick}
 use Rattle.laws.specs.Parts.{part, storeAt}
+use Rattle.protocol.specs.ByType.{FlagRule, bitOf, column}
 use Rattle.protocol.specs.Flags.{connidFlag, flagsOf, hasFlag, rawAddressFlag}
 use Rattle.protocol.specs.Layout.{fieldBytes, fieldsAt, fieldsIn, layout, widths}
 use Rattle.protocol.specs.Options.{connidBytes, connidIn, connidOrZero, cqDataBytes, cqDataIn, multiuseBytes, rawAddressBytes}
 use Rattle.protocol.specs.Reading.{headerIn, packetIn}
-use Rattle.protocol.specs.RoundTrip.{blankOf, blanked, blankedAs}
-use Rattle.protocol.specs.Sections.{afterRaw, connidAt, connidLength, cqDataLength, rawLength, rawSpan}
+use Rattle.protocol.specs.RoundTrip.{blanked, blankedAs}
+use Rattle.protocol.specs.Sections.{afterRaw, connidAt, connidLength, cqDataLength, rawLength, rawSpan, span}
 use Rattle.protocol.specs.Types.{row, rowOf}
 use Rattle.protocol.specs.Values.{bytesAt}
 use Rattle.protocol.specs.Writing.{baseBytes, mandatoryBytes, packetBytes, writeOf}
@@ -21,18 +24,29 @@ use Rattle.protocol.specs.declared.table.Found.the-variants.{Row}
 use Rattle.protocol.specs.declared.table.TypeRow.{TypeRow}
 use Rattle.protocol.specs.declared.types.Connid.{Connid}
 use Rattle.protocol.specs.declared.types.Packet.{Packet}
+use Rattle.protocol.specs.declared.types.Span.{Span}
 use Rattle.protocol.specs.declared.types.Written.{Written}
 use Rattle.wire.specs.LittleEndian.{leAt, leBytes}
-use Rattle.laws.proofs.Choosing.{tested}
+use Rattle.laws.proofs.Choosing.{pick-false, pick-true, tested}
 use Rattle.laws.proofs.Storing.{length-part, length-store, part-add, part-rest, parts-all, store-back, store-front, store-nothing}
 use Rattle.protocol.proofs.Accepted.{ReadAs, WrittenAs, connidFrom, dataFrom, packetOf, write-as}
 use Rattle.protocol.proofs.FlagLaws.{flags-again}
+use Rattle.protocol.proofs.FlagWords.{flags-in-words}
 use Rattle.protocol.proofs.LayoutLaws.{layout-again}
 use Rattle.protocol.proofs.OptionLaws.{cq-data-again, has-connid, has-cq-data, raw-again}
 use Rattle.protocol.proofs.ReadingLaws.{connid-after, connid-at-four}
 use Rattle.protocol.proofs.RowLaws.{ConnidPlace, connid-place}
-use Rattle.protocol.proofs.TableRule.{row-kind, sound}
+use Rattle.protocol.proofs.TableRule.{by-row, row-kind, rowAt, sound}
 use Rattle.wire.proofs.Laws.{bytes-again, bytes-again-wide, bytes-none, bytes-zero}
+
+-- the bytes of a packet that no value is read from: multiuse without its flag, and the padding of a connid
+unfoldable blankOf : Connid → TypeRow → Packet → Span
+blankOf Connid.Absent r p = span 4 (r .multiuse)
+blankOf (Connid.Present c) r p = span (p .«data» .at - (r .connid - 4)) (r .connid - 4)
+
+-- the packet with these bytes zero
+abbrev zeroed : Connid → TypeRow → Packet → List ℕ → List ℕ
+zeroed c r p bs = storeAt bs (blankOf c r p .at) (replicate (blankOf c r p .size) 0)
 
 -- the bytes between multiuse and a connid behind the other headers
 abbrev middle : TypeRow → ℕ → List ℕ → ℕ
@@ -75,7 +89,7 @@ module _ (bs : List ℕ) (b : (i : ℕ) → getD bs i 0 < 256) (k : ℕ) (r : Ty
       (part bs 0 4
       ++ (multiuseBytes r c
       ++ (part bs (fieldsAt r) (middle r f bs) ++ (connidBytes r c ++ drop (p .«data» .at) bs)))
-      ≡ storeAt bs (blankOf c r p .at) (replicate (blankOf c r p .size) 0))
+      ≡ zeroed c r p bs)
       × (blankOf c r p .at + blankOf c r p .size ≤ length bs)
 
   module _ (p : Packet) (d : p .«data» .at ≡ dataFrom r f bs) where
@@ -115,6 +129,60 @@ module _ (bs : List ℕ) (b : (i : ℕ) → getD bs i 0 < 256) (k : ℕ) (r : Ty
     unfolding connidIn pick
     connid-again = ⊎-elim (λ e. rw e (present-again e (connid-place r (sound k r row)))) (λ e. rw e (absent-again e)) (tested (hasFlag f connidFlag))
 
+-- by the type's number: CTSDATA has no raw address and no CQ data before its connid
+module _ (f : ℕ) (bs : List ℕ) where
+  bit-off : (i n : ℕ) → bitOf f i ≡ 0 → pick (eqb (bitOf f i) 1) n 0 ≡ 0
+  bit-off i n e = pick-false n 0 (ne-eqb (bitOf f i) 1 (λ x. omega arith))
+
+  padding-at : hasFlag f connidFlag ≡ true → FlagRule 4 f → dataFrom (rowAt 1) f bs - 4 ≡ 28
+  unfolding afterRaw cqDataLength connidLength hasFlag
+  padding-at t w =
+      let a = bit-off 0 (4 + leAt 4 bs 24) (w .0 (inr refl) 0 (λ x. omega arith)) in
+      let b = bit-off 1 8 (w .0 (inr refl) 1 (λ x. omega arith)) in
+      let c = pick-true {A = ℕ} 8 0 t in
+      omega arith
+
+  padding-zeroed : (x k : ℕ) (r : TypeRow) → rowOf k ≡ Row r → hasFlag f connidFlag ≡ true → FlagRule k f
+      → zeroed (Connid.Present x) r (packetOf r f bs) bs ≡ column bs ((4, storeAt bs 28 (replicate 4 0)) ∷ []) k
+  unfolding blankOf packetIn pick
+  padding-zeroed x k r e t =
+      by-row (λ k r. FlagRule k f → zeroed (Connid.Present x) r (packetOf r f bs) bs ≡ column bs ((4, storeAt bs 28 (replicate 4 0)) ∷ []) k)
+      (λ w. store-nothing bs _)
+      ctsdata
+      (λ w. store-nothing bs _)
+      (λ w. store-nothing bs _)
+      (λ w. store-nothing bs _)
+      (λ w. store-nothing bs _)
+      (λ w. store-nothing bs _)
+      (λ w. store-nothing bs _)
+      k
+      r
+      e
+    where
+      ctsdata : FlagRule 4 f → storeAt bs (dataFrom (rowAt 1) f bs - 4) (replicate 4 0) ≡ storeAt bs 28 (replicate 4 0)
+      ctsdata w = ap (λ (m : ℕ). storeAt bs m (replicate 4 0)) (padding-at t w)
+
+  multiuse-zeroed : (k : ℕ) (r : TypeRow) → rowOf k ≡ Row r
+      → zeroed Connid.Absent r (packetOf r f bs) bs ≡ column bs ((3, storeAt bs 4 (replicate 4 0)) ∷ []) k
+  unfolding blankOf pick
+  multiuse-zeroed =
+      by-row (λ k r. zeroed Connid.Absent r (packetOf r f bs) bs ≡ column bs ((3, storeAt bs 4 (replicate 4 0)) ∷ []) k) refl
+      (store-nothing bs 4)
+      (store-nothing bs 4)
+      (store-nothing bs 4)
+      (store-nothing bs 4)
+      (store-nothing bs 4)
+      (store-nothing bs 4)
+      (store-nothing bs 4)
+
+  zeroed-in-words : (at k : ℕ) (r : TypeRow) → rowOf k ≡ Row r → FlagRule k f
+      → zeroed (connidIn f bs at) r (packetOf r f bs) bs ≡ blankedAs k f bs
+  unfolding connidIn hasFlag
+  zeroed-in-words at k r e w =
+      ⊎-elim (λ t. ap (λ (c : Connid). zeroed c r (packetOf r f bs) bs) (pick-true _ _ t) ∙ padding-zeroed _ k r e t w ∙ sym (pick-true _ _ t))
+      (λ t. ap (λ (c : Connid). zeroed c r (packetOf r f bs) bs) (pick-false _ _ t) ∙ multiuse-zeroed k r e ∙ sym (pick-false _ _ t))
+      (tested (hasFlag f connidFlag))
+
 -- the packet p that was read from bs
 module _ (limit : ℕ) (bs : List ℕ) (r : TypeRow) (a : ReadAs limit bs r) (b : (i : ℕ) → getD bs i 0 < 256) where
   abbrev p : Packet
@@ -128,15 +196,23 @@ module _ (limit : ℕ) (bs : List ℕ) (r : TypeRow) (a : ReadAs limit bs r) (b 
   unfolding packetIn headerIn
   flags-written = flags-again r (leAt 2 bs 2) _ (sound (getD bs 0 0) r (a .row)) (a .flags) refl (has-cq-data _ bs _) (has-connid _ bs _)
 
-  packet-again : (packetBytes r (p .header) (bytesAt bs (p .«raw_address»)) (bytesAt bs (p .«data»)) ≡ blanked p bs)
-      × (length (blanked p bs) ≡ length bs)
-  unfolding packetBytes mandatoryBytes blanked blankedAs packetIn headerIn
-  packet-again =
+  packet-zeroed : (packetBytes r (p .header) (bytesAt bs (p .«raw_address»)) (bytesAt bs (p .«data»)) ≡ zeroed (p .header .connid) r p bs)
+      × (length (zeroed (p .header .connid) r p bs) ≡ length bs)
+  unfolding packetBytes mandatoryBytes packetIn headerIn
+  packet-zeroed =
       let base = ap₂ baseBytes (row-kind (getD bs 0 0) r (a .row)) flags-written ∙ base-again bs b (a .based) (a .version) in
       let (e, inside) = connid-again bs b (getD bs 0 0) r (a .row) (leAt 2 bs 2) (a .inside) p refl in (
-        simp append-assoc (rw (base, part-rest bs, middle-again bs b (getD bs 0 0) r (a .row) (leAt 2 bs 2) (a .inside), row-again) e),
-        rw row-again (length-zeroed bs _ _ inside),
+        simp append-assoc (rw (base, part-rest bs, middle-again bs b (getD bs 0 0) r (a .row) (leAt 2 bs 2) (a .inside)) e),
+        length-zeroed bs _ _ inside,
       )
+
+  packet-again : (packetBytes r (p .header) (bytesAt bs (p .«raw_address»)) (bytesAt bs (p .«data»)) ≡ blanked bs)
+      × (length (blanked bs) ≡ length bs)
+  unfolding packetIn headerIn
+  packet-again =
+      let rule = flags-in-words (getD bs 0 0) r (leAt 2 bs 2) (a .row) .0 (a .flags) in
+      let e = zeroed-in-words (leAt 2 bs 2) bs _ (getD bs 0 0) r (a .row) rule in
+      (packet-zeroed .0 ∙ e, ap length (sym e) ∙ packet-zeroed .1)
 
   written-again : (out : List ℕ) → length bs ≤ 8192 → length bs ≤ length out
       → WrittenAs (p .header) (bytesAt bs (p .«raw_address»)) (bytesAt bs (p .«data»)) out r
@@ -153,7 +229,7 @@ module _ (limit : ℕ) (bs : List ℕ) (r : TypeRow) (a : ReadAs limit bs r) (b 
 
   pub write-back : (out : List ℕ) → length bs ≤ 8192 → length bs ≤ length out
       → writeOf (p .header) (bytesAt bs (p .«raw_address»)) (bytesAt bs (p .«data»)) out
-      ≡ record { answer = Written.Length (length bs); out = storeAt out 0 (blanked p bs) }
+      ≡ record { answer = Written.Length (length bs); out = storeAt out 0 (blanked bs) }
   write-back out small room =
       let (again, n) = packet-again in
       write-as _ _ _ out r (written-again out small room) ∙ rw (again, n)

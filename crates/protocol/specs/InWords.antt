@@ -1,31 +1,29 @@
--- The reader's tests in 01's own words, over numbers and bits. Proved in proofs/WordsHold.antt and proofs/OrderHolds.antt.
-use Prim.Native.Nat.{ℕ, _+_, _-_, _/_, _%_, _^_, _≤_, _<_}
+-- The reader's tests in 01's own words, over numbers, bits and bytes. Proved in proofs/WordsHold.antt, proofs/OrderHolds.antt and
+-- proofs/BytesHold.antt.
+use Prim.Native.Nat.{ℕ, _+_, _-_, _/_, _%_, _^_, _<_}
 use lib.Dec.{eqb}
 use lib.ListN.{length, getD, drop}
 use mathlib.Core.Bool.{Bool, true, false}
 use mathlib.Core.List.{List, [], _∷_}
-use mathlib.Core.Logic.{_⊎_, _↔_}
+use mathlib.Core.Logic.{_↔_}
+use mathlib.Core.Option.{some, none}
 use mathlib.Core.Path.{_≡_}
 use Rattle.laws.specs.Choose.{pick}
-use Rattle.protocol.specs.Flags.{flagsFit}
-use Rattle.protocol.specs.Layout.{fieldsAt, fieldsIn, layout}
+use Rattle.laws.specs.Parts.{part}
+pub use Rattle.protocol.specs.ByType.{Known, bitOf}
+use Rattle.protocol.specs.ByType.{FlagRule, LengthRule, column, connidHeader, fieldsTold, headerLength, ownTold}
+use Rattle.protocol.specs.Checks.{First, gives, refused}
 use Rattle.protocol.specs.Reading.{readOf}
-use Rattle.protocol.specs.Refusals.{refusal}
+use Rattle.protocol.specs.Says.{readSays}
 use Rattle.protocol.specs.Types.{admit, rowOf}
-use Rattle.protocol.specs.Values.{bytesAt}
+use Rattle.protocol.specs.Values.{Values, bytesAt}
 use Rattle.protocol.specs.declared.table.Found.the-variants.{Row}
-use Rattle.protocol.specs.declared.table.Shape.{Shape}
-use Rattle.protocol.specs.declared.table.Shape.the-variants.{Cts, CtsData, Eager, LongCts, Medium}
 use Rattle.protocol.specs.declared.table.TypeRow.{TypeRow}
+use Rattle.protocol.specs.declared.types.Connid.{Connid}
 use Rattle.protocol.specs.declared.types.CqData.{CqData}
-use Rattle.protocol.specs.declared.types.Fields.{Fields}
 use Rattle.protocol.specs.declared.types.Packet.{Packet}
 use Rattle.protocol.specs.declared.types.Read.{Read}
 use Rattle.wire.specs.LittleEndian.{leAt}
-
--- bit k of a number
-abbrev pub bitOf : ℕ → ℕ → ℕ
-bitOf x k = x / 2 ^ k % 2
 
 -- ---- numbers
 
@@ -37,45 +35,9 @@ NumbersAreLittleEndian =
 
 -- ---- types
 
--- the table's types (01, column "Type": 3, 4, 64 to 69); refusal 9: "type not in the table; in the engine, CTS too"
-abbrev pub Known : Bool → ℕ → Type 0
-Known all k = ((k ≡ 3) × (all ≡ true)) ⊎ ((k ≡ 4) ⊎ ((64 ≤ k) × (k ≤ 69)))
-
+-- a row of the table is found for the types of 01's column "Type", and for no other
 unfoldable pub TypesAreTheTables : Type 0
 TypesAreTheTables = (all : Bool) (k : ℕ) → ((r : TypeRow) × (admit all (rowOf k) ≡ Row r)) ↔ Known all k
-
--- "64/65 EAGER MSG/TAG RTM", "66/67 MEDIUM MSG/TAG RTM", "68/69 LONGCTS MSG/TAG RTM": of the RTM types the odd ones are tagged
-unfoldable pub TaggedRtmsAreOdd : Type 0
-TaggedRtmsAreOdd = (k : ℕ) (r : TypeRow) → rowOf k ≡ Row r → 64 ≤ k → (r .tagged ≡ true) ↔ (k % 2 ≡ 1)
-
--- ---- flags
-
--- "must have .., may have .., and no other": of the 16 flags each that the type may not have is set exactly if it must have it
-unfoldable pub FlagsFitBitByBit : Type 0
-FlagsFitBitByBit =
-    (k : ℕ) (r : TypeRow) (f : ℕ) → rowOf k ≡ Row r → f < 2 ^ 16
-    → (flagsFit r f ≡ true) ↔ ((i : ℕ) → i < 16 → bitOf (r .may) i ≡ 0 → bitOf f i ≡ bitOf (r .must) i)
-
--- "RTM types must have 0x4, must have 0x8 exactly if tagged, may have 0x1, 0x2, 0x8000, and no other": bits 0, 1 and 15 are free
-unfoldable pub RtmFlagsFit : Type 0
-RtmFlagsFit =
-    (k : ℕ) (r : TypeRow) (f : ℕ) → rowOf k ≡ Row r → 64 ≤ k → f < 2 ^ 16
-    → (flagsFit r f ≡ true) ↔ ((bitOf f 2 ≡ 1) × ((bitOf f 3 ≡ 1) ↔ (r .tagged ≡ true)) × ((i : ℕ) → 4 ≤ i → i < 15 → bitOf f i ≡ 0))
-
--- "Types 3 and 4 may have 0x8000 only"
-unfoldable pub CtsFlagsFit : Type 0
-CtsFlagsFit = (k : ℕ) (r : TypeRow) (f : ℕ) → rowOf k ≡ Row r → (k ≡ 3) ⊎ (k ≡ 4) → f < 2 ^ 16 → (flagsFit r f ≡ true) ↔ ((f ≡ 0) ⊎ (f ≡ 0x8000))
-
--- ---- lengths
-
--- "Lengths: medium data at least 1 byte, offset + data ≤ msg_length as whole numbers. LONGCTS data at least 1 byte, at most msg_length.
--- CTSDATA data equals seg_length, at least 1. CTS has no data and recv_length at least 1. Eager data may be empty"
-abbrev pub LengthRule : Shape → Fields → ℕ → Type 0
-LengthRule Cts v n = (n ≡ 0) × (1 ≤ v .«recv_length»)
-LengthRule CtsData v n = (n ≡ v .«seg_length») × (1 ≤ n)
-LengthRule Eager v n = Unit {0}
-LengthRule Medium v n = (1 ≤ n) × (v .«seg_offset» + n ≤ v .«msg_length»)
-LengthRule LongCts v n = (1 ≤ n) × (n ≤ v .«msg_length»)
 
 -- ---- the order of the reader's refusals
 
@@ -95,27 +57,41 @@ refusedAs wrongFlags = 10
 refusedAs headerCut = 7
 refusedAs wrongLengths = 11
 
--- where the headers of a packet of type r with the flags f end: "After an RTM's mandatory header come, where flagged, raw address (size 4,
--- then size bytes), CQ data 8, connid 4, in that order"; "CTSDATA .. with CONNID_HDR also connid 4, padding 4"
-abbrev pub headersEnd : TypeRow → ℕ → List ℕ → ℕ
-headersEnd r f bs =
-    r .header
-    + pick (eqb (bitOf f 0) 1) (4 + leAt 4 bs (r .header)) 0
-    + pick (eqb (bitOf f 1) 1) 8 0
-    + pick (eqb (bitOf f 15) 1) (r .connid) 0
+-- the bytes n of an optional header where its flag, bit i of f, is set
+abbrev pub flagged : ℕ → ℕ → ℕ → ℕ
+flagged f i n = pick (eqb (bitOf f i) 1) n 0
+
+-- where raw address, CQ data and all headers of a packet of type k with the flags f end: "After an RTM's mandatory header come, where flagged,
+-- raw address (size 4, then size bytes), CQ data 8, connid 4, in that order"; "CTSDATA .. with CONNID_HDR also connid 4, padding 4"
+abbrev pub rawEnd : ℕ → ℕ → List ℕ → ℕ
+rawEnd k f bs = headerLength k + flagged f 0 (4 + leAt 4 bs (headerLength k))
+
+abbrev pub cqEnd : ℕ → ℕ → List ℕ → ℕ
+cqEnd k f bs = rawEnd k f bs + flagged f 1 8
+
+abbrev pub headersEnd : ℕ → ℕ → List ℕ → ℕ
+headersEnd k f bs = cqEnd k f bs + flagged f 15 (connidHeader k)
+
+-- a packet's type and flags
+abbrev pub typeIn : List ℕ → ℕ
+typeIn bs = getD bs 0 0
+
+abbrev pub flagsIn : List ℕ → ℕ
+flagsIn bs = leAt 2 bs 2
+
+-- the bytes before its data
+abbrev pub headIn : List ℕ → ℕ
+headIn bs = headersEnd (typeIn bs) (flagsIn bs) bs
 
 -- the check fails: byte 0 is the type, byte 1 the version, bytes 2 and 3 the flags
 abbrev pub Fails : Bool → ℕ → List ℕ → Check → Type 0
 Fails all limit bs overLimit = limit < length bs
 Fails all limit bs noBase = length bs < 4
 Fails all limit bs wrongVersion = getD bs 1 0 ≡ 4 → ⊥
-Fails all limit bs wrongType = Known all (getD bs 0 0) → ⊥
-Fails all limit bs wrongFlags = (r : TypeRow) × (rowOf (getD bs 0 0) ≡ Row r) × (flagsFit r (leAt 2 bs 2) ≡ false)
-Fails all limit bs headerCut = (r : TypeRow) × (rowOf (getD bs 0 0) ≡ Row r) × (length bs < headersEnd r (leAt 2 bs 2) bs)
-Fails all limit bs wrongLengths =
-    (r : TypeRow)
-    × (rowOf (getD bs 0 0) ≡ Row r)
-    × (LengthRule (r .shape) (fieldsIn (layout r) (fieldsAt r) bs) (length bs - headersEnd r (leAt 2 bs 2) bs) → ⊥)
+Fails all limit bs wrongType = Known all (typeIn bs) → ⊥
+Fails all limit bs wrongFlags = FlagRule (typeIn bs) (flagsIn bs) → ⊥
+Fails all limit bs headerCut = length bs < headIn bs
+Fails all limit bs wrongLengths = LengthRule (typeIn bs) (fieldsTold bs (typeIn bs)) (length bs - headIn bs) → ⊥
 
 -- the check at place i of the list
 abbrev pub checkAt : ℕ → Check
@@ -123,29 +99,56 @@ checkAt i = getD readerChecks i wrongLengths
 
 -- "Given exactly when (no earlier check fails)": the check at place i fails, and none before it
 abbrev pub FirstToFail : Bool → ℕ → List ℕ → ℕ → Type 0
-FirstToFail all limit bs i = Fails all limit bs (checkAt i) × ((j : ℕ) → j < i → Fails all limit bs (checkAt j) → ⊥)
+FirstToFail all limit bs = First (Fails all limit bs) checkAt
 
 unfoldable pub RefusedByFirstToFail : Type 0
 RefusedByFirstToFail =
     (all : Bool) (limit : ℕ) (bs : List ℕ) (n : ℕ)
-    → (readOf all limit bs ≡ Read.Refused (refusal n)) ↔ ((i : ℕ) × (i < 7) × (refusedAs (checkAt i) ≡ n) × FirstToFail all limit bs i)
+    → (readSays bs (readOf all limit bs) ≡ refused n) ↔ ((i : ℕ) × (i < 7) × (refusedAs (checkAt i) ≡ n) × FirstToFail all limit bs i)
 
 unfoldable pub ReadIfNoneFails : Type 0
 ReadIfNoneFails =
     (all : Bool) (limit : ℕ) (bs : List ℕ)
-    → ((p : Packet) × (readOf all limit bs ≡ Read.Packet p)) ↔ ((c : Check) → Fails all limit bs c → ⊥)
+    → ((v : Values) × (readSays bs (readOf all limit bs) ≡ gives v)) ↔ ((c : Check) → Fails all limit bs c → ⊥)
 
--- ---- where CQ data and data lie
+-- ---- what a packet that is read tells, by its bytes
 
--- "After an RTM's mandatory header come, where flagged, raw address (size 4, then size bytes), CQ data 8, connid 4, in that order; the rest is
--- data"
-pub record Sectioned (bs : List ℕ) (p : Packet) (r : TypeRow) (f : ℕ) : Type 0 where
-  pub cqData : bitOf f 1 ≡ 1
-      → p .header .«cq_data» ≡ CqData.Present (leAt 8 bs (r .header + pick (eqb (bitOf f 0) 1) (4 + leAt 4 bs (r .header)) 0))
+-- "CTS .. multiuse 4", "a flagged multiuse is the connid"; "CTSDATA .. with CONNID_HDR also connid 4" behind its 24 bytes; RTMs: behind CQ data
+abbrev pub connidPlace : ℕ → ℕ → List ℕ → ℕ
+connidPlace k f bs = column (cqEnd k f bs) ((3, 4) ∷ (4, 24) ∷ []) k
+
+pub record Told (bs : List ℕ) (k f : ℕ) (p : Packet) : Type 0 where
+  pub kind : p .header .kind ≡ k
+  pub fields : p .header .fields ≡ fieldsTold bs k
+  -- "raw address (size 4, then size bytes)": so many bytes, all of them there
+  pub rawAddress : bitOf f 0 ≡ 1
+      → (p .header .«raw_address» ≡ true)
+      × (bytesAt bs (p .«raw_address») ≡ part bs (headerLength k + 4) (leAt 4 bs (headerLength k)))
+      × (length (bytesAt bs (p .«raw_address»)) ≡ leAt 4 bs (headerLength k))
+  pub noRawAddress : bitOf f 0 ≡ 0 → (p .header .«raw_address» ≡ false) × (bytesAt bs (p .«raw_address») ≡ [])
+  pub cqData : bitOf f 1 ≡ 1 → p .header .«cq_data» ≡ CqData.Present (leAt 8 bs (rawEnd k f bs))
   pub noCqData : bitOf f 1 ≡ 0 → p .header .«cq_data» ≡ CqData.Absent
-  pub rest : bytesAt bs (p .«data») ≡ drop (headersEnd r f bs) bs
+  pub connid : bitOf f 15 ≡ 1 → p .header .connid ≡ Connid.Present (leAt 4 bs (connidPlace k f bs))
+  pub noConnid : bitOf f 15 ≡ 0 → p .header .connid ≡ Connid.Absent
+  -- "the rest is data"
+  pub rest : bytesAt bs (p .«data») ≡ drop (headersEnd k f bs) bs
 
-unfoldable pub ReadInSections : Type 0
-ReadInSections =
-    (limit : ℕ) (bs : List ℕ) (p : Packet) (r : TypeRow) → readOf true limit bs ≡ Read.Packet p → rowOf (getD bs 0 0) ≡ Row r
-    → Sectioned bs p r (leAt 2 bs 2)
+unfoldable pub ReadTellsItsBytes : Type 0
+ReadTellsItsBytes = (all : Bool) (limit : ℕ) (bs : List ℕ) (p : Packet) → readOf all limit bs ≡ Read.Packet p → Told bs (typeIn bs) (flagsIn bs) p
+
+-- "A packet's values are its type, that type's own fields (padding and multiuse are none; a flagged multiuse is the connid), the optional headers
+-- present and the data", each by its bytes
+abbrev pub valuesTold : ℕ → ℕ → List ℕ → Values
+valuesTold k f bs =
+    record {
+      kind = k;
+      own = ownTold bs k;
+      rawAddress = pick (eqb (bitOf f 0) 1) (some (part bs (headerLength k + 4) (leAt 4 bs (headerLength k)))) none;
+      cqData = pick (eqb (bitOf f 1) 1) (CqData.Present (leAt 8 bs (rawEnd k f bs))) CqData.Absent;
+      connid = pick (eqb (bitOf f 15) 1) (Connid.Present (leAt 4 bs (connidPlace k f bs))) Connid.Absent;
+      body = drop (headersEnd k f bs) bs;
+    }
+
+unfoldable pub ReadSaysItsBytes : Type 0
+ReadSaysItsBytes =
+    (all : Bool) (limit : ℕ) (bs : List ℕ) (v : Values) → readSays bs (readOf all limit bs) ≡ gives v → v ≡ valuesTold (typeIn bs) (flagsIn bs) bs

@@ -12,4 +12,9 @@ pub mod Rules
 pub mod Values
 pub mod RoundTrip
 pub mod Cts
+pub mod ByType
+pub mod Checks
+pub mod Says
 pub mod InWords
+pub mod CtsWords
+pub mod WriterInWords

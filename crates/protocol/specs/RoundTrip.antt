@@ -1,28 +1,27 @@
 -- Reader and writer undo each other (01: "Reading a written packet gives the values written. Writing the values read gives the same
 -- bytes, except that padding, and multiuse without its flag, become zero"). Proved in proofs/RoundTrips.antt.
-use Prim.Native.Nat.{ℕ, _-_, _^_, _<_, _≤_}
-use mathlib.Core.Path.{_≡_}
-use mathlib.Core.Bool.{true}
-use mathlib.Core.List.{List}
+use Prim.Native.Nat.{ℕ, _^_, _<_, _≤_}
+use lib.Dec.{eqb}
 use lib.ListN.{length, getD, take, drop, replicate}
+use mathlib.Core.Bool.{Bool, true}
+use mathlib.Core.List.{List, [], _∷_}
+use mathlib.Core.Path.{_≡_}
+use Rattle.laws.specs.Choose.{pick}
 use Rattle.laws.specs.Parts.{storeAt}
-use Rattle.protocol.specs.declared.table.Found.{Found}
-use Rattle.protocol.specs.declared.table.Found.the-variants.{Row, Unknown}
-use Rattle.protocol.specs.declared.table.TypeRow.{TypeRow}
-use Rattle.protocol.specs.declared.types.Connid.{Connid}
-use Rattle.protocol.specs.declared.types.CqData.{CqData}
-use Rattle.protocol.specs.declared.types.Header.{Header}
-use Rattle.protocol.specs.declared.types.Packet.{Packet}
-use Rattle.protocol.specs.declared.types.Read.{Read}
-use Rattle.protocol.specs.declared.types.Span.{Span}
-use Rattle.protocol.specs.declared.types.Written.{Written}
+use Rattle.protocol.specs.ByType.{bitOf, column}
+use Rattle.protocol.specs.Checks.{gives}
+use Rattle.protocol.specs.InWords.{flagsIn, typeIn}
 use Rattle.protocol.specs.Layout.{Field, width, numberIn}
 use Rattle.protocol.specs.Options.{connidOrZero}
 use Rattle.protocol.specs.Reading.{readOf}
-use Rattle.protocol.specs.Sections.{span}
+use Rattle.protocol.specs.Says.{readSays, writtenSays}
 use Rattle.protocol.specs.Types.{rowOf}
-use Rattle.protocol.specs.Values.{values, valuesIn, bytesAt}
+use Rattle.protocol.specs.Values.{values}
 use Rattle.protocol.specs.Writing.{writeOf, packetBytes}
+use Rattle.protocol.specs.declared.table.Found.the-variants.{Row}
+use Rattle.protocol.specs.declared.table.TypeRow.{TypeRow}
+use Rattle.protocol.specs.declared.types.CqData.{CqData}
+use Rattle.protocol.specs.declared.types.Header.{Header}
 
 abbrev pub cqDataOrZero : CqData → ℕ
 cqDataOrZero CqData.Absent = 0
@@ -40,41 +39,35 @@ ReadsWhatWasWritten =
     (h : Header) (raw body out : List ℕ) (limit n : ℕ)
     → Numbers h
     → n ≤ limit
-    → writeOf h raw body out .answer ≡ Written.Length n
-    → (p : Packet)
-    × (readOf true limit (take n (writeOf h raw body out .out)) ≡ Read.Packet p)
-    × (valuesIn p (take n (writeOf h raw body out .out)) ≡ values h raw body)
+    → writtenSays (writeOf h raw body out .answer) ≡ gives n
+    → readSays (take n (writeOf h raw body out .out)) (readOf true limit (take n (writeOf h raw body out .out))) ≡ gives (values h raw body)
 
--- the bytes of a packet that no value is read from: multiuse without its flag, and the padding of a connid
-unfoldable pub blankOf : Connid → TypeRow → Packet → Span
-blankOf Connid.Absent r p = span 4 (r .multiuse)
-blankOf (Connid.Present c) r p = span (p .«data» .at - (r .connid - 4)) (r .connid - 4)
+-- the bytes bs of a packet of type k with the flags f, with zero for those that no value is read from: with 0x8000 CTSDATA's padding, bytes 28 to
+-- 31, without it a CTS's multiuse, bytes 4 to 7
+abbrev pub blankedAs : ℕ → ℕ → List ℕ → List ℕ
+blankedAs k f bs =
+    pick (eqb (bitOf f 15) 1) (column bs ((4, storeAt bs 28 (replicate 4 0)) ∷ []) k) (column bs ((3, storeAt bs 4 (replicate 4 0)) ∷ []) k)
 
--- the packet with these bytes zero
-unfoldable pub blankedAs : Found → Packet → List ℕ → List ℕ
-blankedAs Unknown p bs = bs
-blankedAs (Row r) p bs = storeAt bs (blankOf (p .header .connid) r p .at) (replicate (blankOf (p .header .connid) r p .size) 0)
+abbrev pub blanked : List ℕ → List ℕ
+blanked bs = blankedAs (typeIn bs) (flagsIn bs) bs
 
-unfoldable pub blanked : Packet → List ℕ → List ℕ
-blanked p bs = blankedAs (rowOf (p .header .kind)) p bs
-
--- "Writing the values read gives the same bytes, except that padding, and multiuse without its flag, become zero"
+-- "Writing the values read gives the same bytes, except that padding, and multiuse without its flag, become zero": for every header with these
+-- values, of a packet that either reader takes
 abbrev pub WritesWhatWasRead : Type 0
 WritesWhatWasRead =
-    (bs out : List ℕ) (limit : ℕ) (p : Packet)
+    (all : Bool) (limit : ℕ) (bs : List ℕ) (h : Header) (raw body out : List ℕ)
     → ((i : ℕ) → getD bs i 0 < 256)
     → length bs ≤ 8192
     → length bs ≤ length out
-    → readOf true limit bs ≡ Read.Packet p
-    → writeOf (p .header) (bytesAt bs (p .«raw_address»)) (bytesAt bs (p .«data»)) out
-    ≡ record { answer = Written.Length (length bs); out = storeAt out 0 (blanked p bs) }
+    → readSays bs (readOf all limit bs) ≡ gives (values h raw body)
+    → (writtenSays (writeOf h raw body out .answer) ≡ gives (length bs)) × (writeOf h raw body out .out ≡ storeAt out 0 (blanked bs))
 
 -- the length answered is the packet's; the packet stands at the buffer's start, and the bytes past it stay
 abbrev pub LengthIsPackets : Type 0
 LengthIsPackets =
     (h : Header) (raw body out : List ℕ) (n : ℕ) (r : TypeRow)
     → rowOf (h .kind) ≡ Row r
-    → writeOf h raw body out .answer ≡ Written.Length n
+    → writtenSays (writeOf h raw body out .answer) ≡ gives n
     → (n ≡ length (packetBytes r h raw body))
     × (take n (writeOf h raw body out .out) ≡ packetBytes r h raw body)
     × (drop n (writeOf h raw body out .out) ≡ drop n out)

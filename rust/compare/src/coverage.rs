@@ -101,6 +101,8 @@ fn wanted() -> Vec<Key> {
         .chain(result("set-up", &[1]))
         .chain(result("read", &[6, 7, 8, 9, 10, 11, 21]))
         .chain(result("write", &[6, 9, 10, 11, 21]))
+        .chain(result("write of a wide field", &[6, 9, 10, 11, 21]))
+        .chain(result("write of a wide connid", &[9, 10, 11, 21]))
         .chain(result("mark", &[3, 16]))
         .chain(replay)
         .chain(refused(

@@ -55,20 +55,47 @@ pub fn values(random: &mut Random) -> Values {
     }
 }
 
-/// Changes one of the values, mostly so that a rule is broken.
+/// Words that are no type, some of them a type's number with more before it.
+const NO_TYPES: [u64; 8] = [0, 5, 6, 63, 70, 255, 256 + 3, 1 << 32 | 64];
+
+/// Changes some of the values, mostly so that a rule is broken, or several at once.
 pub fn spoil(random: &mut Random, values: &mut Values) {
-    match random.below(8) {
-        0 => values.words.truncate(random.below(25) as usize),
-        1 => values.words.push(random.next()),
-        2 => values.data.truncate(random.below(3) as usize),
-        3 => values.address = random.bytes(8_180),
-        _ => {
-            let place = random.below(VALUE_WORDS as u64) as usize;
-            if let Some(word) = values.words.get_mut(place) {
-                *word = random.wild();
-            }
-        }
+    for _ in 0..random.pick(&[1, 1, 2, 3]) {
+        spoil_one(random, values);
     }
+}
+
+fn spoil_one(random: &mut Random, values: &mut Values) {
+    let any = random.below(VALUE_WORDS as u64) as usize;
+    let (place, word) = match random.below(14) {
+        0 => return values.words.truncate(random.below(25) as usize),
+        1 => return values.words.push(random.next()),
+        2 => return values.data.truncate(random.below(3) as usize),
+        3 => return values.address = random.bytes(8_180),
+        4 | 5 => (0, random.pick(&NO_TYPES)),
+        // a number of more than 32 bits in a field that the type has or has not
+        6 | 7 => (random.pick(&[1, 2, 3, 8]), wide(random)),
+        // an optional header, whether the type can have it or not
+        8 | 9 => (random.pick(&[10, 13]), random.pick(&[1, 2, 1 << 63])),
+        10 => {
+            set(values, 15, random.below(3));
+            (16, wide(random))
+        }
+        _ => (any, random.wild()),
+    };
+    set(values, place, word);
+}
+
+fn set(values: &mut Values, place: usize, word: u64) {
+    if let Some(target) = values.words.get_mut(place) {
+        *target = word;
+    }
+}
+
+/// A number of more than 32 bits, often one that is small without them.
+fn wide(random: &mut Random) -> u64 {
+    let high = random.pick(&[1 << 32, 1 << 40, 1 << 63]);
+    high | random.pick(&[0, 1, u64::from(u32::MAX)])
 }
 
 /// The bytes of these values; if they are refused, something that begins like a packet.

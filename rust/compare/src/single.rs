@@ -206,6 +206,13 @@ impl Case for Write {
 
     fn count(&self, outcome: &Self::Outcome, coverage: &mut Coverage) {
         coverage.result("write", outcome.0 as u64);
+        let words = &self.values.words;
+        let wide = |place: usize| words.get(place).is_some_and(|word| word >> 32 != 0);
+        if [1, 2, 3, 8].into_iter().any(wide) {
+            coverage.result("write of a wide field", outcome.0 as u64);
+        } else if wide(16) {
+            coverage.result("write of a wide connid", outcome.0 as u64);
+        }
     }
 
     fn describe(&self, reference: &Self::Outcome, verified: &Self::Outcome) -> String {

@@ -4,7 +4,7 @@
 //! A state takes 1,035 words, a call and an answer eight each, a packet's values 19.
 
 use crate::engine::{self, Answer, Engine, Message, Peer, Receive, Slot, MAX_PEERS, SLOTS};
-use crate::packet::{self, Packet};
+use crate::packet::{self, Packet, Shape};
 use crate::{bits, refusal};
 
 pub const SLOT_WORDS: usize = 16;
@@ -349,27 +349,43 @@ pub fn read(bytes: &[u8], values: &mut [u64]) -> Result<(), u8> {
     Ok(())
 }
 
-/// Writes the packet of these values and gives its length.
+/// Writes the packet of these values and gives its length. A field that its type doesn't have is
+/// not looked at.
 pub fn write(values: &[u64], address: &[u8], data: &[u8], out: &mut [u8]) -> Result<usize, u8> {
     if values.len() < VALUE_WORDS {
         return Err(refusal::OUT_TOO_SHORT);
     }
-    let kind = u8::try_from(values[0]).map_err(|_| refusal::TYPE)?;
-    let field = |word: u64| u32::try_from(word).map_err(|_| refusal::LENGTH);
+    let kind = u8::try_from(values[0]).ok();
+    let row = kind.and_then(packet::row).ok_or(refusal::TYPE)?;
+    let there = |place: usize| values[place] != 0;
+    if !row.is_rtm() && (there(10) || there(13)) {
+        return Err(refusal::FLAGS);
+    }
+    let own_ids: &[usize] = match row.shape {
+        Shape::Cts => &[2, 3],
+        Shape::CtsData => &[2],
+        Shape::Eager | Shape::Medium => &[1],
+        Shape::Long => &[1, 3, 8],
+    };
+    let narrow = |place: usize| u32::try_from(values[place]).map_err(|_| refusal::LENGTH);
+    let own = |place: usize| match own_ids.contains(&place) {
+        true => narrow(place),
+        false => Ok(0),
+    };
     let packet = Packet {
-        kind,
-        msg_id: field(values[1])?,
-        recv_id: field(values[2])?,
-        send_id: field(values[3])?,
+        kind: row.kind,
+        msg_id: own(1)?,
+        recv_id: own(2)?,
+        send_id: own(3)?,
         msg_length: values[4],
         seg_length: values[5],
         recv_length: values[6],
         seg_offset: values[7],
-        credit_request: field(values[8])?,
+        credit_request: own(8)?,
         tag: values[9],
-        raw_address: (values[10] != 0).then_some(address),
-        cq_data: (values[13] != 0).then_some(values[14]),
-        connid: (values[15] != 0).then(|| field(values[16])).transpose()?,
+        raw_address: there(10).then_some(address),
+        cq_data: there(13).then_some(values[14]),
+        connid: there(15).then(|| narrow(16)).transpose()?,
         data,
     };
     packet::write(&packet, out)

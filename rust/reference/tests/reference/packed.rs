@@ -379,17 +379,67 @@ fn refusals_of_reader_and_writer() {
     };
     assert_eq!(refused(0, 256), Err(9));
     assert_eq!(refused(0, 6), Err(9));
-    for place in [1, 2, 3, 8] {
-        assert_eq!(refused(place, 1 << 32), Err(11), "word {place}");
-        assert_eq!(refused(place, (1 << 32) - 1), Ok(8), "word {place}");
-    }
+    assert_eq!(refused(1, 1 << 32), Err(11));
+    assert_eq!(refused(1, (1 << 32) - 1), Ok(8));
     assert_eq!(refused(16, 1 << 32), Ok(8), "no connid is there");
     let mut values = eager;
     values[15..17].copy_from_slice(&[1, 1 << 32]);
-    values[0] = 6;
     assert_eq!(packed::write(&values, &[], &[], &mut []), Err(11));
-    values[0] = 256;
-    assert_eq!(packed::write(&values, &[], &[], &mut []), Err(9));
+    for kind in [6, 256, u64::MAX] {
+        values[0] = kind;
+        assert_eq!(packed::write(&values, &[], &[], &mut []), Err(9));
+    }
+}
+
+/// The words of the fields of 32 bits that each type has.
+const OWN_IDS: [(u64, &[usize]); 8] = [
+    (3, &[2, 3]),
+    (4, &[2]),
+    (64, &[1]),
+    (65, &[1]),
+    (66, &[1]),
+    (67, &[1]),
+    (68, &[1, 3, 8]),
+    (69, &[1, 3, 8]),
+];
+
+#[test]
+fn only_own_fields_are_looked_at() {
+    for (kind, own) in OWN_IDS {
+        let mut values = [0; VALUE_WORDS];
+        values[0] = kind;
+        values[4..7].fill(1);
+        let data: &[u8] = if kind == 3 { &[] } else { &[7] };
+        let mut right = [0; 99];
+        let length = packed::write(&values, &[], data, &mut right);
+        assert!(length.is_ok(), "type {kind}");
+        for place in [1, 2, 3, 8] {
+            let mut values = values;
+            values[place] = 1 << 40;
+            let mut out = [0; 99];
+            let answer = packed::write(&values, &[], data, &mut out);
+            if own.contains(&place) {
+                assert_eq!(answer, Err(11), "type {kind}, word {place}");
+            } else {
+                assert_eq!((answer, out), (length, right), "type {kind}, word {place}");
+            }
+        }
+    }
+}
+
+#[test]
+fn a_header_that_the_type_cant_have_comes_before_its_numbers() {
+    for kind in [3, 4] {
+        for place in [10, 13] {
+            let mut values = [1 << 40; VALUE_WORDS];
+            values[0] = kind;
+            values[10] = 0;
+            values[13] = 0;
+            assert_eq!(packed::write(&values, &[], &[], &mut []), Err(11));
+            values[place] = 5;
+            assert_eq!(packed::write(&values, &[], &[], &mut []), Err(10));
+        }
+    }
 }
 
 #[test]

@@ -1,10 +1,9 @@
--- `packet_words::writing::write` meets its contract: its three refusals come before the packet writer's own.
-use borrow.Author.Needs.{needs}
-use borrow.Author.Tests.{lt-leb, le-leb, not-true, not-false}
-use mathlib.Core.Path.{_≡_}
+-- `packet_words::writing::write` meets its contract: no type has a number above 255.
+use borrow.Author.Tests.{lt-leb, le-leb}
 use Rattle.laws.specs.Choose.{pick}
-use Rattle.packet_words.specs.Values.{writeFrom}
-use Rattle.protocol.specs.Writing.{writeOf}
+use Rattle.packet_words.specs.Writing.{writeFrom, writeTyped}
+use Rattle.packet_words.proofs.Rows.{no-type}
+use borrow.Author.Needs.{needs}
 use Rattle.packet_words.proofs.writing.write.Statement.{statement}
 use Rattle.packet_words.proofs.writing.write.Tie as tie
 
@@ -12,72 +11,51 @@ returns : tie.Need-returns
 unfolding writeFrom pick
 returns c = rw (lt-leb _ _ (c .if1 .taken))
 
-shared-slice-read-if2 : tie.Need-shared-slice-read-if2
-shared-slice-read-if2 c = search needs
+shared-slice-read-kind : tie.Need-shared-slice-read-kind
+shared-slice-read-kind c = search needs
 
 returns-2 : tie.Need-returns-2
-unfolding writeFrom pick
-returns-2 c = rw (le-leb _ _ (c .before .before .if1 .left), lt-leb _ _ (c .if2 .taken))
+unfolding writeFrom writeTyped pick
+returns-2 c = rw (le-leb _ _ (c .before .before .if1 .left), no-type _ (c .if2 .taken))
 
-numbers-fit-requires : tie.Need-numbers-fit-requires
-numbers-fit-requires c κs = search needs
+cast-find : tie.Need-cast-find
+cast-find c = search needs
+
+find-requires : tie.Need-find-requires
+find-requires c κs = search needs
+
+enum-told : tie.Need-enum-told
+enum-told c = search needs
+
+enum-known-row : tie.Need-enum-known-row
+enum-known-row c = search needs
+
+write-as-requires : tie.Need-write-as-requires
+write-as-requires c κs = search needs
 
 returns-3 : tie.Need-returns-3
-unfolding writeFrom pick
-returns-3 c = rw (le-leb _ _ (c .before .before .before .before .if1 .left), le-leb _ _ (c .before .before .if2 .left), ← c .before .numbers-fit .ensures, not-true (c .before .numbers-fit .result) (c .if3 .taken))
-
-header-in-requires : tie.Need-header-in-requires
-header-in-requires c κs = search needs
-
-write-requires : tie.Need-write-requires
-write-requires c κs = search needs
-
-enum-known-refusal : tie.Need-enum-known-refusal
-enum-known-refusal c = search needs
-
-cast-result : tie.Need-cast-result
-cast-result c = search needs
-
-enum-known-n : tie.Need-enum-known-n
-enum-known-n c = search needs
+unfolding writeFrom writeTyped pick
+returns-3 c = rw (le-leb _ _ (c .before .before .before .before .before .if1 .left), ← c .before .before .find .ensures, c .enum-told .given .1)
 
 same-length : tie.Need-same-length
 same-length c = search needs
 
 returns-4 : tie.Need-returns-4
 unfolding writeFrom pick
-returns-4 c =
-    let w = c .before .before .before .before .before .before in
-    let a = w .before .before .before .before .before .before .before .before .before .before .before .before .args in
-    let left : _ ≡ writeOf (w .before .before .header-in .result) (a .raw-address .now) (a .data .now) (a .out .now) = w .write .ensures in
-    rw (le-leb _ _ (w .before .before .before .before .before .before .before .if1 .left), le-leb _ _ (w .before .before .before .before .before .if2 .left), ← w .before .before .before .before .numbers-fit .ensures, not-false (w .before .before .before .before .numbers-fit .result) (w .before .before .before .if3 .left), ← w .before .before .header-in .ensures, ← left, c .before .before .refusal .given .1)
-
-same-length-2 : tie.Need-same-length-2
-same-length-2 c = search needs
-
-returns-5 : tie.Need-returns-5
-unfolding writeFrom pick
-returns-5 c =
-    let w = c .before .before .before .before .before in
-    let a = w .before .before .before .before .before .before .before .before .before .before .before .before .args in
-    let left : _ ≡ writeOf (w .before .before .header-in .result) (a .raw-address .now) (a .data .now) (a .out .now) = w .write .ensures in
-    rw (le-leb _ _ (w .before .before .before .before .before .before .before .if1 .left), le-leb _ _ (w .before .before .before .before .before .if2 .left), ← w .before .before .before .before .numbers-fit .ensures, not-false (w .before .before .before .before .numbers-fit .result) (w .before .before .before .if3 .left), ← w .before .before .header-in .ensures, ← left, c .before .n .given .1)
+returns-4 c = rw (le-leb _ _ (c .before .before .before .before .before .before .before .before .before .before .before .if1 .left), ← c .before .before .before .before .before .before .before .before .find .ensures, c .before .before .before .before .before .before .row .given .1) (c .before .before .write-as .ensures)
 
 pub write-spec : {M : Type 1} → statement M
 write-spec =
     tie.close
     (tie.spec
     returns
-    shared-slice-read-if2
+    shared-slice-read-kind
     returns-2
-    numbers-fit-requires
+    cast-find
+    find-requires
+    enum-told
+    enum-known-row
+    write-as-requires
     returns-3
-    header-in-requires
-    write-requires
-    enum-known-refusal
-    cast-result
-    enum-known-n
     same-length
-    returns-4
-    same-length-2
-    returns-5)
+    returns-4)

@@ -1,0 +1,332 @@
+-- The writer's refusals from words come in 01's order: what specs/Order.antt states.
+use Prim.Native.Nat.{ℕ, _%_, _^_, _≤_, _<_}
+use borrow.Author.Tests.{eqb-true, eqb-false, ltb-true, ltb-false, ne-eqb, not-true, not-false}
+use lib.Dec.{leb, ltb, eqb, lit<}
+use lib.ListN.{length}
+use mathlib.Core.Bool.{Bool, true, false, not, _&&_, _||_, true≢false}
+use mathlib.Core.List.{List, [], _∷_, List·Memᴰ, List·Memᴰ·cases-cons, List·Memᴰ·head, List·Memᴰ·not-nil, List·Memᴰ·tail}
+use mathlib.Core.Logic.{_⊎_, inl, inr, ⊎-elim}
+use mathlib.Core.Path.{_≡_, refl, sym, ap, ap₂, _∙_, subst}
+use native.Mathlib.Nat.{mod-eq-of-lt}
+use native.Mathlib.Omega.{arith}
+use Rattle.laws.specs.Choose.{pick}
+use Rattle.laws.specs.Parts.{storeAt}
+use Rattle.protocol.specs.ByType.{CtsOrData, Known, LengthRule}
+use Rattle.protocol.specs.Checks.{Result, gives, refused}
+use Rattle.protocol.specs.Flags.{flagsFit, flagsOf}
+use Rattle.protocol.specs.InWords.{TypesAreTheTables}
+use Rattle.protocol.specs.Layout.{Field, width}
+use Rattle.protocol.specs.Lengths.{lengthsFit}
+use Rattle.protocol.specs.Types.{admit, rowOf}
+use Rattle.protocol.specs.WriterInWords.{connidTakes, cqDataTakes}
+use Rattle.protocol.specs.WriterInWords as packet
+use Rattle.protocol.specs.Writing.{Outcome, writeOf}
+use Rattle.protocol.specs.declared.table.Found.{Found}
+use Rattle.protocol.specs.declared.table.Found.the-variants.{Row, Unknown}
+use Rattle.protocol.specs.declared.table.TypeRow.{TypeRow}
+use Rattle.protocol.specs.declared.types.Header.{Header}
+use Rattle.packet_words.specs.Order.{Check, Fails, RefusedByFirstToFail, RefusedWriteChangesNothing, TooLarge, WrittenIfNoneFails, checkAt, fewWords, fieldsSaid, noRoom, overLimit, packetLength, refusedAs, writerChecks, wrongNumbers, wrongOption, wrongType}
+use Rattle.packet_words.specs.Says.{ownFields, putSays}
+use Rattle.packet_words.specs.Writing.{Put, connidFits, connidNumber, connidWord, cqDataWord, fieldsFit, fieldsIn, headerIn, numberOf, numbersFit, optionsFit, putAs, rawAddressWord, refusedPut, typeWord, writeFrom, writeTyped}
+use Rattle.laws.proofs.Choosing.{and-left, and-right, clashing, or-cases, or-left, or-right, pick-ap, pick-cases, pick-false, pick-true, tested}
+use Rattle.laws.proofs.Comparing.{beyond, not-beyond}
+use Rattle.protocol.proofs.FirstFailing.{FirstIn, all-pass, first-or-none, given-if-none, judged, judged-ap, none-of, of-first, refused-by-first}
+use Rattle.protocol.proofs.FoundRow.{is-unknown, isUnknown, ofRow, pick-not, row-in, row-out}
+use Rattle.protocol.proofs.TypeWords.{lengths-in-words, unknown-lengths, unknown-type}
+use Rattle.protocol.proofs.WordsHold.{types-are-the-tables}
+use Rattle.protocol.proofs.WriterHolds.{bytesAs, refusing, write-failing, write-judged, written}
+use Rattle.packet_words.proofs.Rows.{flags-allowed, layoutOf, options-by-type, own-layout, row-small}
+
+-- a conjunction that fails fails in a part
+and-cases : (a b : Bool) → (a && b) ≡ false → (a ≡ false) ⊎ (b ≡ false)
+and-cases true b e = inr e
+and-cases false b e = inl refl
+
+module _ (v : List ℕ) where
+  -- ---- numbers
+
+  too-large : (fs : List Field) → fieldsFit v fs ≡ false → (f : Field) × List·Memᴰ f fs × (256 ^ width f ≤ numberOf v f)
+  unfolding fieldsFit
+  too-large [] e = absurd (true≢false e)
+  too-large (g ∷ fs) e =
+      ⊎-elim (λ x. (g, List·Memᴰ·head refl, ltb-false _ _ x)) (λ x. let (f, m, n) = too-large fs x in (f, List·Memᴰ·tail m, n))
+      (and-cases (ltb (numberOf v g) (256 ^ width g)) (fieldsFit v fs) e)
+
+  each-fits : (fs : List Field) → fieldsFit v fs ≡ true → (f : Field) → List·Memᴰ f fs → numberOf v f < 256 ^ width f
+  unfolding fieldsFit
+  each-fits [] e f m = absurd (List·Memᴰ·not-nil m)
+  each-fits (g ∷ fs) e f m =
+      ⊎-elim
+      (λ x. rw x (ltb-true (numberOf v g) (256 ^ width g) (and-left _ (fieldsFit v fs) e)))
+      (each-fits fs (and-right (ltb (numberOf v g) (256 ^ width g)) (fieldsFit v fs) e) f)
+      (List·Memᴰ·cases-cons m)
+
+  -- by the type's number
+  abbrev pub held : Bool
+  held = fieldsFit v (ownFields (typeWord v)) && connidFits v
+
+  numbers-large : held ≡ false → TooLarge v
+  numbers-large x =
+      ⊎-elim (λ y. inl (too-large (ownFields (typeWord v)) y)) (λ y. inr (connid-large (pick-cases (eqb (connidWord v) 0) true _ false y)))
+      (and-cases (fieldsFit v (ownFields (typeWord v))) (connidFits v) x)
+    where
+      connid-large : ((eqb (connidWord v) 0 ≡ true) × (true ≡ false)) ⊎ ((eqb (connidWord v) 0 ≡ false) × (ltb (connidNumber v) (2 ^ 32) ≡ false))
+          → (connidWord v ≡ 0 → ⊥) × (2 ^ 32 ≤ connidNumber v)
+      connid-large (inl y) = absurd (true≢false (y .1))
+      connid-large (inr y) = (eqb-false _ _ (y .0), ltb-false _ _ (y .1))
+
+  numbers-fit : held ≡ true → TooLarge v → ⊥
+  numbers-fit x (inl (f, m, n)) =
+      omega (arith, each-fits (ownFields (typeWord v)) (and-left (fieldsFit v (ownFields (typeWord v))) (connidFits v) x) f m)
+  numbers-fit x (inr (t, n)) =
+      let y : ltb (connidNumber v) (2 ^ 32) ≡ true =
+      sym (pick-false true _ (ne-eqb (connidWord v) 0 t)) ∙ and-right (fieldsFit v (ownFields (typeWord v))) (connidFits v) x in
+      omega (arith, ltb-true (connidNumber v) (2 ^ 32) y)
+
+  module _ (r : TypeRow) (e : rowOf (typeWord v) ≡ Row r) where
+    pub numbers-held : numbersFit r v ≡ held
+    unfolding numbersFit
+    numbers-held = ap (λ (fs : List Field). fieldsFit v fs && connidFits v) (ap layoutOf (sym e) ∙ own-layout (typeWord v))
+
+    pub type-small : typeWord v % 256 ≡ typeWord v
+    type-small = mod-eq-of-lt (row-small _ r e)
+
+    pub row-said : rowOf (headerIn v .kind) ≡ Row r
+    row-said = ap rowOf type-small ∙ e
+
+    -- ---- optional headers
+
+    pub flags-said : optionsFit r v ≡ flagsFit r (flagsOf r (headerIn v))
+    unfolding optionsFit flagsOf
+    flags-said = flags-allowed (eqb (rawAddressWord v) 0) (eqb (cqDataWord v) 0) (eqb (connidWord v) 0) _ _ _ r e
+
+    abbrev Misplaced : Type 0
+    Misplaced = Fails v [] [] [] wrongOption
+
+    options-by-words : (CtsOrData (typeWord v) × (optionsFit r v ≡ (eqb (rawAddressWord v) 0 && eqb (cqDataWord v) 0)))
+        ⊎ ((CtsOrData (typeWord v) → ⊥) × (optionsFit r v ≡ true))
+    unfolding optionsFit
+    options-by-words = options-by-type (eqb (rawAddressWord v) 0) (eqb (cqDataWord v) 0) (eqb (connidWord v) 0) _ r e
+
+    options-out : optionsFit r v ≡ false → Misplaced
+    options-out x =
+        ⊎-elim
+        (λ w. (
+          w .0,
+          ⊎-elim (λ z. inl (eqb-false _ _ z)) (λ z. inr (eqb-false _ _ z))
+              (and-cases (eqb (rawAddressWord v) 0) (eqb (cqDataWord v) 0) (sym (w .1) ∙ x)),
+        ))
+        (λ w. clashing _ (w .1) x) options-by-words
+
+    options-in : optionsFit r v ≡ true → Misplaced → ⊥
+    options-in x (y, there) = ⊎-elim (λ w. none (sym (w .1) ∙ x)) (λ w. w .0 y) options-by-words
+      where
+        none : (eqb (rawAddressWord v) 0 && eqb (cqDataWord v) 0) ≡ true → ⊥
+        none z =
+            ⊎-elim (λ n. n (eqb-true _ _ (and-left _ (eqb (cqDataWord v) 0) z))) (λ n. n (eqb-true _ _ (and-right (eqb (rawAddressWord v) 0) _ z))) there
+
+    -- ---- the packet's length
+
+    length-said : (m n : ℕ) → packet.packetLength (headerIn v) m n ≡ packetLength v m n
+    length-said m n =
+        rw (type-small, ← pick-not (eqb (rawAddressWord v) 0), pick-ap cqDataTakes (eqb (cqDataWord v) 0))
+        (rw (pick-ap (connidTakes (typeWord v)) (eqb (connidWord v) 0)))
+
+-- the rule on lengths speaks of numbers that are never cut
+rule-said : (v : List ℕ) (n : ℕ) → LengthRule (typeWord v) (fieldsIn v) n → LengthRule (typeWord v) (fieldsSaid v) n
+rule-said v n w = record { cts = w .cts; ctsdata = w .ctsdata; medium = w .medium; long = w .long }
+
+rule-in : (v : List ℕ) (n : ℕ) → LengthRule (typeWord v) (fieldsSaid v) n → LengthRule (typeWord v) (fieldsIn v) n
+rule-in v n w = record { cts = w .cts; ctsdata = w .ctsdata; medium = w .medium; long = w .long }
+
+known-row : (k : ℕ) (r : TypeRow) → rowOf k ≡ Row r → Known true k
+unfolding TypesAreTheTables admit pick
+known-row k r e = types-are-the-tables true k .0 (r, ap (admit true) e)
+
+-- each check stands in the list
+placed : (c : Check) → (i : ℕ) × (i < 6) × (checkAt i ≡ c)
+placed fewWords = (0, lit< tt, refl)
+placed wrongType = (1, lit< tt, refl)
+placed wrongOption = (2, lit< tt, refl)
+placed wrongNumbers = (3, lit< tt, refl)
+placed overLimit = (4, lit< tt, refl)
+placed noRoom = (5, lit< tt, refl)
+
+module _ (v raw body out : List ℕ) (size : ℕ) where
+  abbrev k : ℕ
+  k = typeWord v
+
+  abbrev n : ℕ
+  n = packetLength v (length raw) (length body)
+
+  -- ---- the writer is a list of checks
+
+  -- with the type's row o
+  abbrev broken : Found → Bool
+  broken o = ofRow o (λ r. not (lengthsFit (r .shape) (fieldsIn v) (length body)))
+
+  abbrev failsAs : Found → Check → Bool
+  failsAs o fewWords = ltb (length v) 19
+  failsAs o wrongType = isUnknown o
+  failsAs o wrongOption = ofRow o (λ r. not (optionsFit r v))
+  failsAs o wrongNumbers = not (held v) || broken o
+  failsAs o overLimit = ltb 8192 n
+  failsAs o noRoom = ltb (length out) n
+
+  abbrev refuse : Check → Put
+  refuse c = refusedPut (refusedAs c) out size
+
+  abbrev passedAs : Found → Put
+  passedAs o = record { refusal = 0; out = storeAt out 0 (bytesAs (headerIn v) raw body out o); size = n }
+
+  abbrev judgedAs : Found → List Check → Put
+  judgedAs o = judged (failsAs o) refuse (passedAs o)
+
+  -- what the packet writer leaves, as the writer from words says it
+  abbrev pub put : Outcome → Put
+  put o = putAs size (o .out) (o .answer)
+
+  -- the packet writer's checks on lengths and room are the last
+  passed-on : (r : TypeRow) → rowOf k ≡ Row r → optionsFit r v ≡ true
+      → put (writeOf (headerIn v) raw body out)
+      ≡ pick (broken (Row r)) (refuse wrongNumbers) (judgedAs (Row r) (overLimit ∷ noRoom ∷ []))
+  passed-on r e x =
+      ap put (write-judged h raw body out)
+      ∙ judged-ap put (write-failing h raw body out) (refusing h raw body out) (written h raw body out (rowOf (h .kind))) packet.writerChecks
+      ∙ ap₂ (λ (o : Found) (m : ℕ). tests o m) (row-said v r e) (length-said v r e (length raw) (length body))
+      ∙ pick-false _ _ refl
+      ∙ pick-false _ _ (ap not (sym (flags-said v r e) ∙ x))
+    where
+      h : Header
+      h = headerIn v
+
+      -- for the row o, with a packet of m bytes
+      tests : Found → ℕ → Put
+      tests o m =
+          pick (isUnknown o) (refuse wrongType)
+          (pick (ofRow o (λ q. not (flagsFit q (flagsOf q h)))) (refuse wrongOption)
+          (pick (broken o) (refuse wrongNumbers)
+          (pick (ltb 8192 m) (refuse overLimit)
+          (pick (ltb (length out) m) (refuse noRoom) (record { refusal = 0; out = storeAt out 0 (bytesAs h raw body out o); size = m })))))
+
+  row-judged : (r : TypeRow) → rowOf k ≡ Row r
+      → writeTyped (Row r) v raw body out size ≡ judgedAs (Row r) (wrongOption ∷ wrongNumbers ∷ overLimit ∷ noRoom ∷ [])
+  unfolding writeTyped pick
+  row-judged r e = go (tested (optionsFit r v)) (tested (numbersFit r v))
+    where
+      go : (optionsFit r v ≡ true) ⊎ (optionsFit r v ≡ false) → (numbersFit r v ≡ true) ⊎ (numbersFit r v ≡ false)
+          → writeTyped (Row r) v raw body out size ≡ judgedAs (Row r) (wrongOption ∷ wrongNumbers ∷ overLimit ∷ noRoom ∷ [])
+      go (inr x) y = rw x
+      go (inl x) (inr y) = rw (x, y, sym (numbers-held v r e) ∙ y)
+      go (inl x) (inl y) = rw (x, y, sym (numbers-held v r e) ∙ y) (passed-on r e x)
+
+  pick-beyond : {A : Type 0} (m n : ℕ) (a b : A) → pick (leb m n) a b ≡ pick (ltb n m) b a
+  pick-beyond m n a b =
+      ⊎-elim (λ x. pick-true a b x ∙ sym (pick-false b a (beyond m n x))) (λ x. pick-false a b x ∙ sym (pick-true b a (not-beyond m n x)))
+      (tested (leb m n))
+
+  is-judged : writeFrom v raw body out size ≡ judgedAs (rowOf k) writerChecks
+  unfolding writeFrom
+  is-judged =
+      pick-beyond 19 (length v) _ _
+      ∙ ap (λ (p : Put). pick (ltb (length v) 19) (refuse fewWords) p) (go (rowOf k) refl)
+    where
+      go : (o : Found) → rowOf k ≡ o
+          → writeTyped o v raw body out size ≡ judgedAs o (wrongType ∷ wrongOption ∷ wrongNumbers ∷ overLimit ∷ noRoom ∷ [])
+      go Unknown e = unfold writeTyped in unfold pick in refl
+      go (Row r) e = row-judged r e ∙ sym (pick-false (refuse wrongType) _ refl)
+
+  -- ---- a test that fails is a check that fails
+
+  abbrev failing : Check → Bool
+  failing = failsAs (rowOf k)
+
+  rule-passes : (o : Found) → rowOf k ≡ o → broken o ≡ false → LengthRule k (fieldsSaid v) (length body)
+  rule-passes Unknown e t = unknown-lengths k (fieldsSaid v) (length body) e
+  rule-passes (Row r) e t = rule-said v (length body) (lengths-in-words (fieldsIn v) (length body) k r e .0 (not-false _ t))
+
+  options-pass : (o : Found) → rowOf k ≡ o → failsAs o wrongOption ≡ false → Fails v raw body out wrongOption → ⊥
+  options-pass Unknown e t w = unknown-type k e (⊎-elim (λ y. inl (y, refl)) (λ y. inr (inl y)) (w .0))
+  options-pass (Row r) e t w = options-in v r e (not-false _ t) w
+
+  holds : (c : Check) → failing c ≡ true → Fails v raw body out c
+  holds fewWords e = ltb-true _ _ e
+  holds wrongType e = unknown-type k (is-unknown (rowOf k) e)
+  holds wrongOption e = let (r, x, t) = row-in _ _ e in options-out v r x (not-true _ t)
+  holds wrongNumbers e =
+      ⊎-elim (λ x. inl (numbers-large v (not-true _ x)))
+      (λ x.
+      let (r, y, t) = row-in _ _ x in
+      inr (λ w. clashing _ (lengths-in-words (fieldsIn v) (length body) k r y .1 (rule-in v (length body) w)) (not-true _ t)))
+      (or-cases (not (held v)) (broken (rowOf k)) e)
+  holds overLimit e = ltb-true _ _ e
+  holds noRoom e = ltb-true _ _ e
+
+  passes : (c : Check) → failing c ≡ false → Fails v raw body out c → ⊥
+  passes fewWords e w = omega (arith, ltb-false (length v) 19 e)
+  passes wrongType e w = let (r, x) = row-out _ e in w (known-row k r x)
+  passes wrongOption e w = options-pass (rowOf k) refl e w
+  passes wrongNumbers e w =
+      ⊎-elim (numbers-fit v (not-false _ (or-left _ (broken (rowOf k)) e))) (λ x. x (rule-passes (rowOf k) refl (or-right (not (held v)) _ e))) w
+  passes overLimit e w = omega (arith, ltb-false 8192 n e)
+  passes noRoom e w = omega (arith, ltb-false (length out) n e)
+
+  -- ---- in words
+
+  abbrev refuse-said : Check → Result ℕ
+  refuse-said c = refused (refusedAs c)
+
+  is-said : putSays (writeFrom v raw body out size) ≡ judged failing refuse-said (gives n) writerChecks
+  unfolding pick
+  is-said = ap putSays is-judged ∙ judged-ap putSays failing refuse (passedAs (rowOf k)) writerChecks
+
+  -- a writer that gives a length: its tests pass, and the packet writer is left to write
+  pub given : (m : ℕ) → putSays (writeFrom v raw body out size) ≡ gives m → (c : Check) → failing c ≡ false
+  given m e c =
+      let (i, l, at) = placed c in
+      ap failing (sym at)
+      ∙ all-pass noRoom failing refuse-said (gives n) writerChecks (gives m) (λ c x. let z : _≡_ {A = ℕ} 0 1 = cc in omega arith) (sym is-said ∙ e) .0 i l
+
+pub refused-by-first-to-fail : RefusedByFirstToFail
+unfolding RefusedByFirstToFail
+refused-by-first-to-fail v raw body out size m =
+    let w = refused-by-first noRoom (failing v raw body out size) (Fails v raw body out) refusedAs (n v raw body out size) writerChecks
+    (holds v raw body out size) (passes v raw body out size) m in
+    (λ e. w .0 (sym (is-said v raw body out size) ∙ e), λ x. is-said v raw body out size ∙ w .1 x)
+
+pub written-if-none-fails : WrittenIfNoneFails
+unfolding WrittenIfNoneFails
+written-if-none-fails v raw body out size m =
+    let w = given-if-none noRoom (failing v raw body out size) (Fails v raw body out) refusedAs (n v raw body out size) writerChecks
+    (holds v raw body out size) (passes v raw body out size) m in (
+      λ e.
+          let (same, none) = w .0 (sym (is-said v raw body out size) ∙ e) in
+          (sym same, λ c x. let (i, l, at) = placed c in none i l (subst (Fails v raw body out) (sym at) x)),
+      λ x. is-said v raw body out size ∙ w .1 (sym (x .0), λ i l. x .1 (checkAt i)),
+    )
+
+pub refused-write-changes-nothing : RefusedWriteChangesNothing
+unfolding RefusedWriteChangesNothing
+refused-write-changes-nothing v raw body out size m e =
+    go (first-or-none noRoom fails (refuse v raw body out size) passed writerChecks)
+  where
+    fails : Check → Bool
+    fails = failing v raw body out size
+
+    passed : Put
+    passed = passedAs v raw body out size (rowOf (typeWord v))
+
+    go : ((i : ℕ) × FirstIn noRoom fails (refuse v raw body out size) passed writerChecks i) ⊎ ((i : ℕ) → i < 6 → fails (checkAt i) ≡ false)
+        → writeFrom v raw body out size ≡ refusedPut m out size
+    go (inl (i, f)) =
+        let x = of-first noRoom fails (refuse-said v raw body out size) (gives (n v raw body out size)) writerChecks i f in
+        let y : refused (refusedAs (checkAt i)) ≡ refused m = sym x ∙ sym (is-said v raw body out size) ∙ e in
+        let z : refusedAs (checkAt i) ≡ m = cc in
+        is-judged v raw body out size
+        ∙ of-first noRoom fails (refuse v raw body out size) passed writerChecks i f
+        ∙ ap (λ (j : ℕ). refusedPut j out size) z
+    go (inr f) =
+        let x = none-of noRoom fails (refuse-said v raw body out size) (gives (n v raw body out size)) writerChecks f in
+        let y : gives (n v raw body out size) ≡ refused m = sym x ∙ sym (is-said v raw body out size) ∙ e in
+        let z : _≡_ {A = ℕ} 0 1 = cc in
+        absurd (omega arith)

@@ -1,0 +1,97 @@
+-- The writer's checks on words in 01's order and words, over the words' numbers (01: "Writer: 9, 10 (an optional header its type can't have),
+-- 11, 6, 21; bytes past the packet stay"). Proved in proofs/OrderHolds.antt.
+use Prim.Native.Nat.{ℕ, _+_, _^_, _≤_, _<_}
+use lib.Dec.{eqb}
+use lib.ListN.{length, getD}
+use mathlib.Core.Bool.{true}
+use mathlib.Core.List.{List, [], _∷_, List·Memᴰ}
+use mathlib.Core.Logic.{_⊎_, _↔_}
+use mathlib.Core.Path.{_≡_}
+use Rattle.laws.specs.Choose.{pick}
+use Rattle.protocol.specs.ByType.{CtsOrData, Known, LengthRule, connidHeader, fieldsOf, headerLength}
+use Rattle.protocol.specs.Checks.{First, gives, refused}
+use Rattle.protocol.specs.Layout.{Field, credit-request, msg-id, msg-length, recv-id, recv-length, seg-length, seg-offset, send-id, tag, width}
+use Rattle.protocol.specs.declared.types.Fields.{Fields}
+use Rattle.packet_words.specs.Says.{ownFields, putSays}
+use Rattle.packet_words.specs.Writing.{connidNumber, connidWord, cqDataWord, numberOf, rawAddressWord, refusedPut, typeWord, writeFrom}
+
+-- ---- the packet's length
+
+-- the bytes n of an optional header whose word is not 0
+abbrev pub takes : ℕ → ℕ → ℕ
+takes word n = pick (eqb word 0) 0 n
+
+-- "raw address (size 4, then size bytes), CQ data 8"; the connid as its type has it; with so many bytes of raw address and of data
+abbrev pub packetLength : List ℕ → ℕ → ℕ → ℕ
+packetLength v raw body =
+    headerLength (typeWord v)
+    + takes (rawAddressWord v) (4 + raw)
+    + takes (cqDataWord v) 8
+    + takes (connidWord v) (connidHeader (typeWord v))
+    + body
+
+-- ---- the checks
+
+pub data Check : Type 0 where
+  fewWords wrongType wrongOption wrongNumbers overLimit noRoom : Check
+
+-- "9, 10 (an optional header its type can't have), 11, 6, 21", after the words themselves
+abbrev pub writerChecks : List Check
+writerChecks = fewWords ∷ wrongType ∷ wrongOption ∷ wrongNumbers ∷ overLimit ∷ noRoom ∷ []
+
+abbrev pub refusedAs : Check → ℕ
+refusedAs fewWords = 21
+refusedAs wrongType = 9
+refusedAs wrongOption = 10
+refusedAs wrongNumbers = 11
+refusedAs overLimit = 6
+refusedAs noRoom = 21
+
+-- a number that its place in the packet cannot hold: of an own field, or of a connid that is there
+abbrev pub TooLarge : List ℕ → Type 0
+TooLarge v =
+    ((f : Field) × List·Memᴰ f (ownFields (typeWord v)) × (256 ^ width f ≤ numberOf v f))
+    ⊎ ((connidWord v ≡ 0 → ⊥) × (2 ^ 32 ≤ connidNumber v))
+
+-- the words' numbers by field
+abbrev pub fieldsSaid : List ℕ → Fields
+fieldsSaid v =
+    fieldsOf (numberOf v msg-id) (numberOf v recv-id) (numberOf v send-id) (numberOf v msg-length) (numberOf v seg-length) (numberOf v recv-length)
+    (numberOf v seg-offset) (numberOf v credit-request) (numberOf v tag)
+
+-- the check fails for the words v, the raw address, the data and the buffer `out`. A packet's values are 19 words; "Types 3 and 4 may have 0x8000
+-- only"; "packet above L (reader and writer alone: 8,192)"
+abbrev pub Fails : List ℕ → List ℕ → List ℕ → List ℕ → Check → Type 0
+Fails v raw body out fewWords = length v < 19
+Fails v raw body out wrongType = Known true (typeWord v) → ⊥
+Fails v raw body out wrongOption = CtsOrData (typeWord v) × ((rawAddressWord v ≡ 0 → ⊥) ⊎ (cqDataWord v ≡ 0 → ⊥))
+Fails v raw body out wrongNumbers = TooLarge v ⊎ (LengthRule (typeWord v) (fieldsSaid v) (length body) → ⊥)
+Fails v raw body out overLimit = 8192 < packetLength v (length raw) (length body)
+Fails v raw body out noRoom = length out < packetLength v (length raw) (length body)
+
+-- the check at place i of the list
+abbrev pub checkAt : ℕ → Check
+checkAt i = getD writerChecks i noRoom
+
+-- ---- the statements
+
+-- refused with n exactly if the first check that fails has the number n
+unfoldable pub RefusedByFirstToFail : Type 0
+RefusedByFirstToFail =
+    (v raw body out : List ℕ) (size n : ℕ)
+    → (putSays (writeFrom v raw body out size) ≡ refused n)
+    ↔ ((i : ℕ) × (i < 6) × (refusedAs (checkAt i) ≡ n) × First (Fails v raw body out) checkAt i)
+
+-- written exactly if none fails, and then the length is the packet's
+unfoldable pub WrittenIfNoneFails : Type 0
+WrittenIfNoneFails =
+    (v raw body out : List ℕ) (size n : ℕ)
+    → (putSays (writeFrom v raw body out size) ≡ gives n)
+    ↔ ((n ≡ packetLength v (length raw) (length body)) × ((c : Check) → Fails v raw body out c → ⊥))
+
+-- "Each refusal returns its number alone and changes nothing lent": buffer and length are as they were
+unfoldable pub RefusedWriteChangesNothing : Type 0
+RefusedWriteChangesNothing =
+    (v raw body out : List ℕ) (size n : ℕ)
+    → putSays (writeFrom v raw body out size) ≡ refused n
+    → writeFrom v raw body out size ≡ refusedPut n out size

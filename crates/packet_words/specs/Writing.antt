@@ -1,0 +1,142 @@
+-- Writing a packet from its 19 words, with the checks in 01's order: "Writer: 9, 10 (an optional header its type can't have), 11, 6, 21".
+-- Too few words come first. Only the type's own fields are looked at.
+use Prim.Native.Nat.{ℕ, _%_, _^_}
+use mathlib.Core.List.{List, [], _∷_}
+use mathlib.Core.Bool.{Bool, true, not, _&&_}
+use lib.ListN.{length, getD}
+use lib.Dec.{leb, ltb, eqb}
+use Rattle.laws.specs.Choose.{pick}
+use Rattle.protocol.specs.declared.table.Found.{Found}
+use Rattle.protocol.specs.declared.table.Found.the-variants.{Row, Unknown}
+use Rattle.protocol.specs.declared.table.TypeRow.{TypeRow}
+use Rattle.protocol.specs.declared.types.Connid.{Connid}
+use Rattle.protocol.specs.declared.types.CqData.{CqData}
+use Rattle.protocol.specs.declared.types.Fields.{Fields}
+use Rattle.protocol.specs.declared.types.Header.{Header}
+use Rattle.protocol.specs.declared.types.Written.{Written}
+use Rattle.protocol.specs.Flags.{connidFlag, cqDataFlag, hasFlag, rawAddressFlag}
+use Rattle.protocol.specs.Layout.{Field, layout, width}
+use Rattle.protocol.specs.Types.{rowOf}
+use Rattle.protocol.specs.Writing.{writeOf}
+use Rattle.packet_words.specs.Values.{valueCount}
+
+-- ---- the words of the values
+
+abbrev pub wordOf : Field → ℕ
+wordOf Field.msg-id = 1
+wordOf Field.recv-id = 2
+wordOf Field.send-id = 3
+wordOf Field.msg-length = 4
+wordOf Field.seg-length = 5
+wordOf Field.recv-length = 6
+wordOf Field.seg-offset = 7
+wordOf Field.credit-request = 8
+wordOf Field.tag = 9
+
+-- the number that the words give a field
+abbrev pub numberOf : List ℕ → Field → ℕ
+numberOf v f = getD v (wordOf f) 0
+
+abbrev pub typeWord : List ℕ → ℕ
+typeWord v = getD v 0 0
+
+-- not 0 where the optional header is there
+abbrev pub rawAddressWord : List ℕ → ℕ
+rawAddressWord v = getD v 10 0
+
+abbrev pub cqDataWord : List ℕ → ℕ
+cqDataWord v = getD v 13 0
+
+abbrev pub cqDataNumber : List ℕ → ℕ
+cqDataNumber v = getD v 14 0
+
+abbrev pub connidWord : List ℕ → ℕ
+connidWord v = getD v 15 0
+
+abbrev pub connidNumber : List ℕ → ℕ
+connidNumber v = getD v 16 0
+
+-- ---- what they say
+
+-- numbers of 32 bits: what is above is cut, and looked at by `numbersFit` where the type has the field
+abbrev pub fieldsIn : List ℕ → Fields
+fieldsIn v =
+    record {
+      «msg_id» = numberOf v Field.msg-id % 2 ^ 32;
+      «recv_id» = numberOf v Field.recv-id % 2 ^ 32;
+      «send_id» = numberOf v Field.send-id % 2 ^ 32;
+      «msg_length» = numberOf v Field.msg-length;
+      «seg_length» = numberOf v Field.seg-length;
+      «recv_length» = numberOf v Field.recv-length;
+      «seg_offset» = numberOf v Field.seg-offset;
+      «credit_request» = numberOf v Field.credit-request % 2 ^ 32;
+      tag = numberOf v Field.tag;
+    }
+
+abbrev pub cqIn : List ℕ → CqData
+cqIn v = pick (eqb (cqDataWord v) 0) CqData.Absent (CqData.Present (cqDataNumber v))
+
+abbrev pub connidIn : List ℕ → Connid
+connidIn v = pick (eqb (connidWord v) 0) Connid.Absent (Connid.Present (connidNumber v % 2 ^ 32))
+
+abbrev pub headerIn : List ℕ → Header
+headerIn v =
+    record {
+      kind = typeWord v % 256;
+      fields = fieldsIn v;
+      «raw_address» = not (eqb (rawAddressWord v) 0);
+      «cq_data» = cqIn v;
+      connid = connidIn v;
+    }
+
+-- ---- the checks on the words' numbers
+
+-- "10 (an optional header its type can't have)": where the word says that it is there, its flag is one that the type may have
+abbrev pub mayHave : TypeRow → ℕ → ℕ → Bool
+mayHave r flag word = pick (eqb word 0) true (hasFlag (r .may) flag)
+
+unfoldable pub optionsFit : TypeRow → List ℕ → Bool
+optionsFit r v =
+    mayHave r rawAddressFlag (rawAddressWord v) && (mayHave r cqDataFlag (cqDataWord v) && mayHave r connidFlag (connidWord v))
+
+-- each of these fields can hold its number
+unfoldable pub fieldsFit : List ℕ → List Field → Bool
+fieldsFit v [] = true
+fieldsFit v (f ∷ fs) = ltb (numberOf v f) (256 ^ width f) && fieldsFit v fs
+
+abbrev pub connidFits : List ℕ → Bool
+connidFits v = pick (eqb (connidWord v) 0) true (ltb (connidNumber v) (2 ^ 32))
+
+-- the type's own fields, and a connid that is there
+unfoldable pub numbersFit : TypeRow → List ℕ → Bool
+numbersFit r v = fieldsFit v (layout r) && connidFits v
+
+-- ---- the writer
+
+-- 0 or the refusal's number, and what is left of the buffer and of the length
+pub record Put : Type 0 where
+  pub refusal : ℕ
+  pub out : List ℕ
+  pub size : ℕ
+
+abbrev pub putAs : ℕ → List ℕ → Written → Put
+putAs size out (Written.Refused k) = record { refusal = k .number; out = out; size = size }
+putAs size out (Written.Length n) = record { refusal = 0; out = out; size = n }
+
+abbrev pub refusedPut : ℕ → List ℕ → ℕ → Put
+refusedPut k out size = record { refusal = k; out = out; size = size }
+
+-- 9; then 10; then a number that its field cannot hold, the first cause of 11; then the packet writer's own checks: lengths 11, 6, 21
+unfoldable pub writeTyped : Found → List ℕ → List ℕ → List ℕ → List ℕ → ℕ → Put
+writeTyped Unknown v raw body out size = refusedPut 9 out size
+writeTyped (Row r) v raw body out size =
+    pick (optionsFit r v)
+    (pick (numbersFit r v)
+    (putAs size (writeOf (headerIn v) raw body out .out) (writeOf (headerIn v) raw body out .answer))
+    (refusedPut 11 out size))
+    (refusedPut 10 out size)
+
+-- with too few words nothing is written
+unfoldable pub writeFrom : List ℕ → List ℕ → List ℕ → List ℕ → ℕ → Put
+writeFrom v raw body out size =
+    pick (leb valueCount (length v)) (writeTyped (rowOf (typeWord v)) v raw body out size) (refusedPut 21 out size)

@@ -1,0 +1,153 @@
+-- A type's rule on flags is 01's, bit by bit: `flagsFit` passes exactly what `FlagRule` of specs/ByType.antt allows.
+use Prim.Native.Nat.{ℕ, suc, _-_, _^_, _≤_, _<_, min}
+use borrow.Author.Tests.{leb-true, eqb-true, eq-eqb}
+use lib.Bits.{bitAnd}
+use lib.Dec.{leb, eqb, lit<, lit≤}
+use mathlib.Core.Bool.{true, false, _||_, true≢false}
+use mathlib.Core.Logic.{_⊎_, _↔_, inl, inr, ⊎-elim}
+use mathlib.Core.Path.{_≡_, refl, sym, ap, _∙_}
+use native.Mathlib.Decide.{decLt, ℕ-discrete}
+use native.Mathlib.Omega.{arith}
+use Rattle.protocol.specs.ByType.{CtsFlags, CtsOrData, FlagRule, Rtm, RtmFlags, Tagged, bitOf}
+use Rattle.protocol.specs.Flags.{flagsFit}
+use Rattle.protocol.specs.Types.{rowOf}
+use Rattle.protocol.specs.declared.table.Found.the-variants.{Row}
+use Rattle.protocol.specs.declared.table.TypeRow.{TypeRow}
+use Rattle.laws.proofs.Choosing.{or-cases}
+use Rattle.protocol.proofs.BitWords.{allBelow, bitOf-past, bitOf-without, each-below, same-bits}
+use Rattle.protocol.proofs.TableRule.{by-row, row-passes, sound}
+
+-- "must have .., may have .., and no other": each flag that the type may not have is set exactly if it must have it
+abbrev ByBits : ℕ → ℕ → ℕ → Type 0
+ByBits must may f = (i : ℕ) → bitOf may i ≡ 0 → bitOf f i ≡ bitOf must i
+
+bit-by-bit : (k : ℕ) (r : TypeRow) (f : ℕ) → rowOf k ≡ Row r → (flagsFit r f ≡ true) ↔ ByBits (r .must) (r .may) f
+unfolding flagsFit
+bit-by-bit k r f e = (
+  λ t i m.
+      let fit : f - bitAnd f (r .may) ≡ r .must = eqb-true _ _ t in
+      omega (arith, bitOf-without i f (r .may), ap (λ (x : ℕ). bitOf x i) fit),
+  λ b. eq-eqb _ _ (same-bits (f - bitAnd f (r .may)) (r .must) (λ i. bits b i (ℕ-discrete (bitOf (r .may) i) 0))),
+)
+  where
+    -- no flag is both one that it must and one that it may have
+    apart : (i : ℕ) → Dec (i < 16) → min (bitOf (r .must) i) (bitOf (r .may) i) ≡ 0
+    apart i (yes l) =
+        eqb-true _ _ (each-below 16 (λ i. eqb (min (bitOf (r .must) i) (bitOf (r .may) i)) 0)
+        (row-passes (λ q. allBelow 16 (λ i. eqb (min (bitOf (q .must) i) (bitOf (q .may) i)) 0)) refl k r e) i l)
+    apart i (no l) = omega (arith, bitOf-past 16 (r .must) i (omega (arith, sound k r e .small)) (omega (arith, l)))
+
+    bits : ByBits (r .must) (r .may) f → (i : ℕ) → Dec (bitOf (r .may) i ≡ 0) → bitOf (f - bitAnd f (r .may)) i ≡ bitOf (r .must) i
+    bits b i (yes m) = omega (arith, bitOf-without i f (r .may), b i m)
+    bits b i (no m) = omega (arith, bitOf-without i f (r .may), apart i (decLt i 16), m)
+
+-- the bits of the flags that a type may have
+rtm-free : (i : ℕ) → bitOf 0x8003 i ≡ 0 → (i ≡ 2) ⊎ ((i ≡ 3) ⊎ ((4 ≤ i) × (i ≡ 15 → ⊥)))
+rtm-free i m = go (decLt 3 i) (ℕ-discrete i 2) (ℕ-discrete i 3) (ℕ-discrete i 0)
+  where
+    top : i ≡ 15 → ⊥
+    top x = omega (arith, m, ap (bitOf 0x8003) x)
+
+    go : Dec (3 < i) → Dec (i ≡ 2) → Dec (i ≡ 3) → Dec (i ≡ 0) → (i ≡ 2) ⊎ ((i ≡ 3) ⊎ ((4 ≤ i) × (i ≡ 15 → ⊥)))
+    go (yes l) a b c = inr (inr (l, top))
+    go (no l) (yes a) b c = inl a
+    go (no l) (no a) (yes b) c = inr (inl b)
+    go (no l) (no a) (no b) (yes c) = absurd (omega (arith, m, ap (bitOf 0x8003) c))
+    go (no l) (no a) (no b) (no c) = let x : i ≡ 1 = omega (arith, l, a, b, c) in absurd (omega (arith, m, ap (bitOf 0x8003) x))
+
+-- bit i of a number that has no bit but 15 and those below n
+high-clear : (may n : ℕ) → may < 2 ^ 16 → (i : ℕ) → n ≤ i → (i ≡ 15 → ⊥)
+    → allBelow 15 (λ i. leb (suc i) n || eqb (bitOf may i) 0) ≡ true → bitOf may i ≡ 0
+high-clear may n h i l x t = go (decLt i 15)
+  where
+    go : Dec (i < 15) → bitOf may i ≡ 0
+    go (yes y) =
+        ⊎-elim (λ z. absurd (omega (arith, leb-true (suc i) n z))) (eqb-true _ _)
+        (or-cases (leb (suc i) n) _ (each-below 15 (λ i. leb (suc i) n || eqb (bitOf may i) 0) t i y))
+    go (no y) = bitOf-past 16 may i h (omega (arith, x, y))
+
+tagged-words : (k f : ℕ) → Tagged k → ByBits 0xc 0x8003 f ↔ RtmFlags k f
+tagged-words k f t = (given, asked)
+  where
+    given : ByBits 0xc 0x8003 f → RtmFlags k f
+    given b = (
+      b 2 refl,
+      (λ x. t, λ x. b 3 refl),
+      λ i l x. b i (high-clear 0x8003 4 (lit< tt) i l x refl) ∙ bitOf-past 4 0xc i (lit< tt) l,
+    )
+
+    asked : RtmFlags k f → ByBits 0xc 0x8003 f
+    asked w i m = at (rtm-free i m)
+      where
+        at : (i ≡ 2) ⊎ ((i ≡ 3) ⊎ ((4 ≤ i) × (i ≡ 15 → ⊥))) → bitOf f i ≡ bitOf 0xc i
+        at (inl e) = ap (bitOf f) e ∙ w .0 ∙ sym (ap (bitOf 0xc) e)
+        at (inr (inl e)) = ap (bitOf f) e ∙ w .1 .1 t ∙ sym (ap (bitOf 0xc) e)
+        at (inr (inr (a, b))) = w .2 i a b ∙ sym (bitOf-past 4 0xc i (lit< tt) a)
+
+plain-words : (k f : ℕ) → (Tagged k → ⊥) → ByBits 0x4 0x8003 f ↔ RtmFlags k f
+plain-words k f t = (given, asked)
+  where
+    given : ByBits 0x4 0x8003 f → RtmFlags k f
+    given b = (
+      b 2 refl,
+      (λ x. absurd (omega (arith, b 3 refl)), λ x. absurd (t x)),
+      λ i l x. b i (high-clear 0x8003 4 (lit< tt) i l x refl) ∙ bitOf-past 4 0x4 i (lit< tt) l,
+    )
+
+    asked : RtmFlags k f → ByBits 0x4 0x8003 f
+    asked w i m = at (rtm-free i m)
+      where
+        unset : Dec (bitOf f 3 ≡ 1) → bitOf f 3 ≡ 0
+        unset (yes x) = absurd (t (w .1 .0 x))
+        unset (no x) = omega (arith, x)
+
+        at : (i ≡ 2) ⊎ ((i ≡ 3) ⊎ ((4 ≤ i) × (i ≡ 15 → ⊥))) → bitOf f i ≡ bitOf 0x4 i
+        at (inl e) = ap (bitOf f) e ∙ w .0 ∙ sym (ap (bitOf 0x4) e)
+        at (inr (inl e)) = ap (bitOf f) e ∙ unset (ℕ-discrete (bitOf f 3) 1) ∙ sym (ap (bitOf 0x4) e)
+        at (inr (inr (a, b))) = w .2 i a b ∙ sym (bitOf-past 4 0x4 i (lit< tt) a)
+
+cts-words : (f : ℕ) → ByBits 0x0 0x8000 f ↔ CtsFlags f
+cts-words f = (
+  λ b i x. b i (high-clear 0x8000 0 (lit< tt) i (omega arith) x refl) ∙ bitOf-past 0 0 i (lit< tt) (omega arith),
+  λ w i m. w i (λ x. omega (arith, m, ap (bitOf 0x8000) x)) ∙ sym (bitOf-past 0 0 i (lit< tt) (omega arith)),
+)
+
+-- a type's rule, where it is an RTM and where it is not
+rtm-rule : (k f : ℕ) → Rtm k → RtmFlags k f ↔ FlagRule k f
+rtm-rule k f l = (λ w. (λ c. absurd (⊎-elim (λ x. omega arith) (λ x. omega arith) c), λ x. w), λ w. w .1 l)
+
+cts-rule : (k f : ℕ) → CtsOrData k → CtsFlags f ↔ FlagRule k f
+cts-rule k f c = (λ w. (λ x. w, λ l. absurd (⊎-elim (λ x. omega arith) (λ x. omega arith) c)), λ w. w .0 c)
+
+through : {A B C : Type 0} → A ↔ B → B ↔ C → A ↔ C
+through p q = (λ a. q .0 (p .0 a), λ c. p .1 (q .1 c))
+
+is-tagged : (k : ℕ) → Tagged k → (eqb k 65 || (eqb k 67 || eqb k 69)) ≡ true
+is-tagged k (inl e) = rw e
+is-tagged k (inr (inl e)) = rw e
+is-tagged k (inr (inr e)) = rw e
+
+not-tagged : (k : ℕ) → (eqb k 65 || (eqb k 67 || eqb k 69)) ≡ false → Tagged k → ⊥
+not-tagged k e t = true≢false (sym (is-tagged k t) ∙ e)
+
+-- the rule of each row
+rule-by-bits : (f k : ℕ) (r : TypeRow) → rowOf k ≡ Row r → ByBits (r .must) (r .may) f ↔ FlagRule k f
+rule-by-bits f =
+    by-row (λ k r. ByBits (r .must) (r .may) f ↔ FlagRule k f)
+    (through (cts-words f) (cts-rule 3 f (inl refl)))
+    (through (cts-words f) (cts-rule 4 f (inr refl)))
+    (plain 64 (lit≤ tt, lit≤ tt) refl)
+    (tagged 65 (lit≤ tt, lit≤ tt) (inl refl))
+    (plain 66 (lit≤ tt, lit≤ tt) refl)
+    (tagged 67 (lit≤ tt, lit≤ tt) (inr (inl refl)))
+    (plain 68 (lit≤ tt, lit≤ tt) refl)
+    (tagged 69 (lit≤ tt, lit≤ tt) (inr (inr refl)))
+  where
+    plain : (k : ℕ) → Rtm k → (eqb k 65 || (eqb k 67 || eqb k 69)) ≡ false → ByBits 0x4 0x8003 f ↔ FlagRule k f
+    plain k l e = through (plain-words k f (not-tagged k e)) (rtm-rule k f l)
+
+    tagged : (k : ℕ) → Rtm k → Tagged k → ByBits 0xc 0x8003 f ↔ FlagRule k f
+    tagged k l t = through (tagged-words k f t) (rtm-rule k f l)
+
+pub flags-in-words : (k : ℕ) (r : TypeRow) (f : ℕ) → rowOf k ≡ Row r → (flagsFit r f ≡ true) ↔ FlagRule k f
+flags-in-words k r f e = through (bit-by-bit k r f e) (rule-by-bits f k r e)

@@ -1,0 +1,70 @@
+-- Each number of a header that was read fits its field.
+use Prim.Native.Nat.{ℕ, _+_, _^_, _<_}
+use lib.Dec.{lit<}
+use lib.ListN.{getD}
+use mathlib.Core.Bool.{true}
+use mathlib.Core.List.{List, [], _∷_}
+use mathlib.Core.Path.{_≡_}
+use Rattle.protocol.specs.Flags.{connidFlag, cqDataFlag, hasFlag}
+use Rattle.protocol.specs.Layout.{Field, credit-request, fieldsAt, fieldsIn, layout, msg-id, msg-length, numberAt, numberIn, recv-id, recv-length, sameField, seg-length, seg-offset, send-id, tag, width}
+use Rattle.protocol.specs.Options.{connidIn, connidOrZero, cqDataIn}
+use Rattle.protocol.specs.Reading.{headerIn, packetIn, readOf}
+use Rattle.protocol.specs.RoundTrip.{Numbers, cqDataOrZero}
+use Rattle.protocol.specs.declared.types.Connid.{Connid}
+use Rattle.protocol.specs.declared.types.CqData.{CqData}
+use Rattle.protocol.specs.declared.types.Packet.{Packet}
+use Rattle.protocol.specs.declared.types.Read.{Read}
+use Rattle.wire.specs.LittleEndian.{leAt}
+use Rattle.laws.proofs.Choosing.{pick-either}
+use Rattle.protocol.proofs.Accepted.{as-read}
+use Rattle.wire.proofs.Laws.{le-at-fits}
+
+-- a field that is none of the type's is read as 0
+none-small : (f : Field) → 0 < 256 ^ width f
+none-small msg-id = lit< tt
+none-small recv-id = lit< tt
+none-small send-id = lit< tt
+none-small msg-length = lit< tt
+none-small seg-length = lit< tt
+none-small recv-length = lit< tt
+none-small seg-offset = lit< tt
+none-small credit-request = lit< tt
+none-small tag = lit< tt
+
+module _ (bs : List ℕ) (b : (i : ℕ) → getD bs i 0 < 256) where
+  number-small : (gs : List Field) (at : ℕ) (f : Field) → numberAt gs at bs f < 256 ^ width f
+  unfolding numberAt
+  number-small [] at f = none-small f
+  number-small (g ∷ gs) at f =
+      pick-either (λ (n : ℕ). n < 256 ^ width f) (sameField g f) (le-at-fits (width f) bs at b) (number-small gs (at + width g) f)
+
+  field-small : (gs : List Field) (at : ℕ) (f : Field) → numberIn (fieldsIn gs at bs) f < 256 ^ width f
+  unfolding fieldsIn
+  field-small gs at msg-id = number-small gs at msg-id
+  field-small gs at recv-id = number-small gs at recv-id
+  field-small gs at send-id = number-small gs at send-id
+  field-small gs at msg-length = number-small gs at msg-length
+  field-small gs at seg-length = number-small gs at seg-length
+  field-small gs at recv-length = number-small gs at recv-length
+  field-small gs at seg-offset = number-small gs at seg-offset
+  field-small gs at credit-request = number-small gs at credit-request
+  field-small gs at tag = number-small gs at tag
+
+  cq-data-small : (f at : ℕ) → cqDataOrZero (cqDataIn f bs at) < 256 ^ 8
+  unfolding cqDataIn
+  cq-data-small f at = pick-either (λ (q : CqData). cqDataOrZero q < 256 ^ 8) (hasFlag f cqDataFlag) (le-at-fits 8 bs at b) (lit< tt)
+
+  connid-small : (f at : ℕ) → connidOrZero (connidIn f bs at) < 256 ^ 4
+  unfolding connidIn connidOrZero
+  connid-small f at = pick-either (λ (q : Connid). connidOrZero q < 256 ^ 4) (hasFlag f connidFlag) (le-at-fits 4 bs at b) (lit< tt)
+
+  pub read-numbers : (limit : ℕ) (p : Packet) → readOf true limit bs ≡ Read.Packet p → Numbers (p .header)
+  unfolding packetIn headerIn
+  read-numbers limit p e =
+      let (r, a, same) = as-read limit bs p e in
+      rw same
+      (record {
+        fields = field-small (layout r) (fieldsAt r);
+        cqData = cq-data-small (leAt 2 bs 2) _;
+        connid = connid-small (leAt 2 bs 2) _;
+      })

@@ -1,0 +1,97 @@
+-- The writer writes a packet's values: two headers with the same values are written alike.
+use Prim.Native.Nat.{ℕ}
+use lib.ListN.{length}
+use mathlib.Core.Bool.{Bool, true, false}
+use mathlib.Core.List.{List, [], _∷_, map}
+use mathlib.Core.Option.{Option, some, none}
+use mathlib.Core.Path.{_≡_, refl, sym, ap, _∙_}
+use native.Mathlib.Omega.{arith}
+use Rattle.laws.specs.Choose.{pick}
+use Rattle.protocol.specs.Flags.{flagsOf}
+use Rattle.protocol.specs.Layout.{Field, fieldBytes, layout, numberIn}
+use Rattle.protocol.specs.Lengths.{lengthsFit}
+use Rattle.protocol.specs.Options.{rawAddressBytes}
+use Rattle.protocol.specs.Types.{rowOf}
+use Rattle.protocol.specs.Values.{Values, ownNumbers, values}
+use Rattle.protocol.specs.Writing.{mandatoryBytes, packetBytes, writeAs, writeOf, writeTyped}
+use Rattle.protocol.specs.declared.table.Found.{Found}
+use Rattle.protocol.specs.declared.table.Found.the-variants.{Row, Unknown}
+use Rattle.protocol.specs.declared.table.TypeRow.{TypeRow}
+use Rattle.protocol.specs.declared.types.Fields.{Fields}
+use Rattle.protocol.specs.declared.types.Header.{Header}
+use Rattle.protocol.proofs.LayoutLaws.{lengths-same}
+
+-- fields with the same numbers have the same bytes
+fields-same : (gs : List Field) (v w : Fields) → map (numberIn v) gs ≡ map (numberIn w) gs → fieldBytes gs v ≡ fieldBytes gs w
+unfolding fieldBytes
+fields-same [] v w e = refl
+fields-same (g ∷ gs) v w e =
+    let x : numberIn v g ≡ numberIn w g = cc in
+    let xs : map (numberIn v) gs ≡ map (numberIn w) gs = cc in
+    rw (x, fields-same gs v w xs)
+
+-- a raw address that is there or not
+raw-same : (a b : Bool) (x y : List ℕ) → _≡_ {A = Option (List ℕ)} (pick a (some x) none) (pick b (some y) none)
+    → (a ≡ b) × (rawAddressBytes a x ≡ rawAddressBytes b y)
+unfolding pick rawAddressBytes
+raw-same true true x y e = let z : x ≡ y = cc in (refl, rw z)
+raw-same false false x y e = (refl, refl)
+raw-same true false x y e = let z : _≡_ {A = ℕ} 0 1 = cc in absurd (omega arith)
+raw-same false true x y e = let z : _≡_ {A = ℕ} 0 1 = cc in absurd (omega arith)
+
+module _ (h g : Header) (raw raw′ body body′ : List ℕ) (same : values h raw body ≡ values g raw′ body′) where
+  kind-same : h .kind ≡ g .kind
+  unfolding values
+  kind-same = ap (λ (v : Values). v .kind) same
+
+  own-same : ownNumbers (rowOf (h .kind)) (h .fields) ≡ ownNumbers (rowOf (g .kind)) (g .fields)
+  unfolding values
+  own-same = ap (λ (v : Values). v .own) same
+
+  address-same : (h .«raw_address» ≡ g .«raw_address») × (rawAddressBytes (h .«raw_address») raw ≡ rawAddressBytes (g .«raw_address») raw′)
+  unfolding values
+  address-same = raw-same (h .«raw_address») (g .«raw_address») raw raw′ (ap (λ (v : Values). v .rawAddress) same)
+
+  cq-same : h .«cq_data» ≡ g .«cq_data»
+  unfolding values
+  cq-same = ap (λ (v : Values). v .cqData) same
+
+  connid-same : h .connid ≡ g .connid
+  unfolding values
+  connid-same = ap (λ (v : Values). v .connid) same
+
+  body-same : body ≡ body′
+  unfolding values
+  body-same = ap (λ (v : Values). v .body) same
+
+  module _ (r : TypeRow) (own : map (numberIn (h .fields)) (layout r) ≡ map (numberIn (g .fields)) (layout r)) where
+    flags-same : flagsOf r h ≡ flagsOf r g
+    unfolding flagsOf
+    flags-same = rw (address-same .0, cq-same, connid-same)
+
+    fit-same : lengthsFit (r .shape) (h .fields) (length body) ≡ lengthsFit (r .shape) (g .fields) (length body′)
+    unfolding layout
+    fit-same =
+        lengths-same (r .shape) _ (h .fields) (g .fields) (length body) own
+        ∙ ap (λ (l : List ℕ). lengthsFit (r .shape) (g .fields) (length l)) body-same
+
+    bytes-same : packetBytes r h raw body ≡ packetBytes r g raw′ body′
+    unfolding packetBytes mandatoryBytes
+    bytes-same = rw (flags-same, connid-same, cq-same, fields-same (layout r) (h .fields) (g .fields) own, address-same .1, body-same)
+
+    row-same : (out : List ℕ) → writeAs r h raw body out ≡ writeAs r g raw′ body′ out
+    unfolding writeAs
+    row-same out = rw (flags-same, fit-same, bytes-same)
+
+  found-same : (o : Found) (out : List ℕ) → ownNumbers o (h .fields) ≡ ownNumbers o (g .fields)
+      → writeTyped o h raw body out ≡ writeTyped o g raw′ body′ out
+  unfolding writeTyped ownNumbers
+  found-same Unknown out own = refl
+  found-same (Row r) out own = row-same r own out
+
+  pub same-written : (out : List ℕ) → writeOf h raw body out ≡ writeOf g raw′ body′ out
+  unfolding writeOf
+  same-written out =
+      let o : rowOf (g .kind) ≡ rowOf (h .kind) = ap rowOf (sym kind-same) in
+      found-same (rowOf (h .kind)) out (own-same ∙ ap (λ (o : Found). ownNumbers o (g .fields)) o)
+      ∙ ap (λ (k : ℕ). writeTyped (rowOf k) g raw′ body′ out) kind-same
