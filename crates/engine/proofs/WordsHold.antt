@@ -6,9 +6,10 @@ use lib.ListN.{length, getD, replicate, length-replicate}
 use mathlib.Core.Bool.{Bool, true, false, _&&_}
 use mathlib.Core.List.{List}
 use mathlib.Core.Path.{_≡_, refl, sym, ap, ap₂, _∙_, subst}
-use native.Mathlib.Nat.{mul-assoc, zero-div}
+use native.Mathlib.Nat.{zero-div}
 use native.Mathlib.Omega.{arith}
 use Rattle.bitmap.specs.Map.{bit, bitAt}
+use Rattle.engine.specs.Checks.{WordsAreTheAreasBits}
 use Rattle.engine.specs.InWords.{ClearMap, Eights, FreshEngine, OthersKept, SameFor, SameSetUp, SetUpKept, SetUpStartsFresh}
 use Rattle.engine.specs.SetUp.{Prepared, badSetUp, engineFits, engineOf, lentFits, notStarted, numbersFit, peerAt, peerCount, setUp}
 use Rattle.engine.specs.Steps.{Turn, World, badLent, badPeer, badState, callTurn, peerTurn, putBack, refusedTurn, wordsOf}
@@ -18,10 +19,10 @@ use Rattle.peer.specs.Calls.{Call}
 use Rattle.peer.specs.State.{freeSlot, freshPeer, phaseAt, slotCount}
 use Rattle.peer.specs.declared.types.Peer.{Peer}
 use Rattle.peer.specs.declared.types.Phase.{Phase}
+use Rattle.engine.proofs.EngineChecked.{words-are-the-areas-bits}
 use Rattle.engine.proofs.Walking.{fit-numbers, fit-peer, small}
 use Rattle.engine.proofs.Worlds.{Good, byte-other, good-called, kept, lent-lengths, peer-other, sized, turn-own, words-other}
 use Rattle.laws.proofs.Choosing.{and-left, and-right, branch}
-use Rattle.laws.proofs.Reading.{getD-part}
 use Rattle.peer.proofs.Valid.{fits-valid}
 
 -- ---- set-up
@@ -117,19 +118,8 @@ same-for q w = record { next = refl; slots = refl; bytes = λ x h. refl; bits = 
 -- bit x of peer q's words stands at q×A + x of the map
 own-bit : (w : World) (q x : ℕ) → w .engine .area % 64 ≡ 0 → x < w .engine .area
     → bitAt (w .map) (q * w .engine .area + x) ≡ bitAt (wordsOf w q) x
-unfolding bitAt
-own-bit w q x whole h =
-    ap₂ (λ (i k : ℕ). bit (getD (w .map) i 0) k) word place
-    ∙ ap (λ (v : ℕ). bit v (x % 64)) (sym (getD-part (w .map) (q * (w .engine .area / 64)) (w .engine .area / 64) (x / 64) 0 (omega arith)))
-  where
-    base : q * w .engine .area ≡ q * (w .engine .area / 64) * 64
-    base = ap (λ (n : ℕ). q * n) (omega arith) ∙ sym (mul-assoc q (w .engine .area / 64) 64)
-
-    word : (q * w .engine .area + x) / 64 ≡ q * (w .engine .area / 64) + x / 64
-    word = omega (arith, base)
-
-    place : (q * w .engine .area + x) % 64 ≡ x % 64
-    place = omega (arith, base)
+unfolding WordsAreTheAreasBits bitAt bit
+own-bit w q x whole h = sym (words-are-the-areas-bits w q x whole h)
 
 -- the call that is made
 module _ (w : World) (p : ℕ) (c : Call) (g : Good w) (h : p < w .engine .n) where

@@ -3,3 +3,4 @@ pub mod Steps
 pub mod Gates
 pub mod Left
 pub mod InWords
+pub mod Checks

@@ -5,3 +5,4 @@ pub mod Seeing
 pub mod Delivering
 pub mod Ranges
 pub mod Isolated
+pub mod Replied

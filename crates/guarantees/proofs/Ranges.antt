@@ -3,30 +3,39 @@ use Prim.Native.Nat.{ℕ}
 use borrow.Author.Tests.{eq-eqb, ne-eqb}
 use lib.Dec.{eqb}
 use mathlib.Core.List.{List, [], _∷_}
-use mathlib.Core.Path.{_≡_, sym, ap, subst}
+use mathlib.Core.Path.{_≡_, sym, ap, subst, subst₂}
 use native.Mathlib.Decide.{ℕ-discrete}
 use Rattle.engine.specs.Steps.{World}
 use Rattle.guarantees.specs.Delivery.{AllWrite, OwnRange, Writes, demanded}
 use Rattle.guarantees.specs.Runs.{Request, Seen, callOf, freshWorld, noStarts, seenAt, turnOf}
 use Rattle.laws.specs.Choose.{pick}
-use Rattle.peer.specs.Expected.{expected}
+use Rattle.peer.specs.Calls.{Call}
+use Rattle.peer.specs.Expected.{expected, targetOfCall}
+use Rattle.peer.specs.Origins.{Origin, noOrigins, noteOrigin}
 use Rattle.peer.specs.Plain.{Plain, enter, freshPlain}
 use Rattle.peer.specs.Starts.{noteStart}
 use Rattle.peer.specs.declared.types.Answer.{Answer}
 use Rattle.guarantees.proofs.Seeing.{fresh-tracks}
 use Rattle.guarantees.proofs.Tracking.{Tracks, other-tracks, own-seen, own-writes}
 use Rattle.laws.proofs.Choosing.{pick-false, pick-true}
+use Rattle.peer.proofs.OriginsHold.{Trace, call-traced, fresh-traced}
 
 abbrev Rest : ℕ → List Request → Type 0
-Rest p qs = (w : World) (starts : List ℕ) (l : Plain) → Tracks p w starts l → AllWrite p w l qs
+Rest p qs = (w : World) (starts : List ℕ) (l : Plain) (gs : List Origin) → Tracks p w starts l → Trace l gs → AllWrite p w l gs qs
 
 written : (p : ℕ) (qs : List Request) → Rest p qs
 unfolding AllWrite
-written p [] w starts l t = tt
-written p (q ∷ qs) w starts l t = go (ℕ-discrete (q .peer) p) (written p qs)
+written p [] w starts l gs t from = tt
+written p (q ∷ qs) w starts l gs t from = go (ℕ-discrete (q .peer) p) (written p qs)
   where
-    next : Plain
-    next = pick (eqb (q .peer) p) (enter (w .engine .limit) l (callOf (q .act)) (turnOf w q .answer)) l
+    c : Call
+    c = callOf (q .act)
+
+    entered : Answer → Plain
+    entered a = enter (w .engine .limit) l c a
+
+    noted : Answer → List Origin
+    noted a = noteOrigin (targetOfCall (w .engine .limit) l c) gs c a
 
     own : Request
     own = record { peer = p; act = q .act }
@@ -34,29 +43,32 @@ written p (q ∷ qs) w starts l t = go (ℕ-discrete (q .peer) p) (written p qs)
     is : q .peer ≡ p → own ≡ q
     is e = ap (λ (n : ℕ). record { peer = n; act = q .act }) (sym e)
 
-    mine : (seenAt p w starts own ≡ demanded (w .engine .area) (w .engine .limit) l (callOf (q .act)))
-        × Tracks p (turnOf w own .world) (noteStart starts (callOf (q .act)) (turnOf w own .answer))
-        (enter (w .engine .limit) l (callOf (q .act)) (expected (w .engine .area) (w .engine .limit) l (callOf (q .act))))
+    mine : (seenAt p w starts own ≡ demanded (w .engine .area) (w .engine .limit) l c)
+        × Tracks p (turnOf w own .world) (noteStart starts c (turnOf w own .answer)) (entered (expected (w .engine .area) (w .engine .limit) l c))
         × (turnOf w own .world .engine .area ≡ w .engine .area) × (turnOf w own .world .engine .limit ≡ w .engine .limit)
-        → Rest p qs → AllWrite p (turnOf w own .world) (enter (w .engine .limit) l (callOf (q .act)) (turnOf w own .answer)) qs
+        → Rest p qs → AllWrite p (turnOf w own .world) (entered (turnOf w own .answer)) (noted (turnOf w own .answer)) qs
     mine x rest =
-        subst (λ (a : Answer). AllWrite p (turnOf w own .world) (enter (w .engine .limit) l (callOf (q .act)) a) qs) (sym (ap (λ (s : Seen). s .answer) (x .0)))
-        (rest (turnOf w own .world) _ _ (x .1))
+        subst (λ (a : Answer). AllWrite p (turnOf w own .world) (entered a) (noted a) qs) (sym (ap (λ (s : Seen). s .answer) (x .0)))
+        (rest (turnOf w own .world) _ _ _ (x .1)
+        (call-traced (w .engine .limit) l gs from (w .engine .area) c))
 
     go : Dec (q .peer ≡ p) → Rest p qs
-        → (q .peer ≡ p → Writes p w (turnOf w q .world) l (callOf (q .act)) (turnOf w q .answer)) × AllWrite p (turnOf w q .world) next qs
+        → (q .peer ≡ p → Writes p w (turnOf w q .world) l gs c (turnOf w q .answer))
+        × AllWrite p (turnOf w q .world) (pick (eqb (q .peer) p) (entered (turnOf w q .answer)) l) (pick (eqb (q .peer) p) (noted (turnOf w q .answer)) gs) qs
     go (yes e) rest = (
-      λ x. subst (λ (r : Request). Writes p w (turnOf w r .world) l (callOf (q .act)) (turnOf w r .answer)) (is e) (own-writes p w starts l t (q .act)),
-      subst (λ (m : Plain). AllWrite p (turnOf w q .world) m qs) (sym (pick-true _ _ (eq-eqb (q .peer) p e)))
-          (subst (λ (r : Request). AllWrite p (turnOf w r .world) (enter (w .engine .limit) l (callOf (q .act)) (turnOf w r .answer)) qs) (is e)
+      λ x. subst (λ (r : Request). Writes p w (turnOf w r .world) l gs c (turnOf w r .answer)) (is e) (own-writes p w starts l t (q .act) gs from),
+      subst₂ (λ (m : Plain) (g : List Origin). AllWrite p (turnOf w q .world) m g qs) (sym (pick-true _ _ (eq-eqb (q .peer) p e))) (sym (pick-true _ _ (eq-eqb (q .peer) p e)))
+          (subst (λ (r : Request). AllWrite p (turnOf w r .world) (entered (turnOf w r .answer)) (noted (turnOf w r .answer)) qs) (is e)
           (mine (own-seen p w starts l t (q .act)) rest)),
     )
-    go (no e) rest = (
-      λ x. absurd (e x),
-      subst (λ (m : Plain). AllWrite p (turnOf w q .world) m qs) (sym (pick-false _ _ (ne-eqb (q .peer) p e))) (rest (turnOf w q .world) starts l (other-tracks p w starts l t q e .0)),
-    )
+    go (no e) rest =
+        let other = other-tracks p w starts l t q e in (
+          λ x. absurd (e x),
+          subst₂ (λ (m : Plain) (g : List Origin). AllWrite p (turnOf w q .world) m g qs) (sym (pick-false _ _ (ne-eqb (q .peer) p e))) (sym (pick-false _ _ (ne-eqb (q .peer) p e)))
+              (rest (turnOf w q .world) starts l gs (other .0) from),
+        )
 
 pub own-range : OwnRange
 unfolding OwnRange
 own-range n area limit p arena map ready h calls =
-    written p calls (freshWorld n area limit arena map) noStarts freshPlain (fresh-tracks n area limit p arena map ready h)
+    written p calls (freshWorld n area limit arena map) noStarts freshPlain noOrigins (fresh-tracks n area limit p arena map ready h) fresh-traced

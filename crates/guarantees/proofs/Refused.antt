@@ -2,7 +2,7 @@
 use Prim.Native.Nat.{ℕ, _+_, _*_, _/_, _≤_, _<_}
 use borrow.Author.Tests.{ltb-true}
 use lib.Dec.{ltb, eqb}
-use lib.ListN.{length, replicate}
+use lib.ListN.{length}
 use lib.Seq.{set-getD}
 use mathlib.Core.Bool.{Bool, true, false, _&&_, _||_, or-true}
 use mathlib.Core.List.{List, []}
@@ -10,14 +10,14 @@ use mathlib.Core.Logic.{_⊎_, inl, inr}
 use mathlib.Core.Path.{_≡_, refl, sym, ap, _∙_}
 use native.Mathlib.Decide.{decLt}
 use native.Mathlib.Omega.{arith}
-use Rattle.engine.specs.SetUp.{Prepared, badSetUp, engineFits, engineOf, lentFits, notStarted, numbersFit, peerAt, setUp}
+use Rattle.engine.specs.Checks.{readySays}
+use Rattle.engine.specs.SetUp.{Prepared, engineFits, lentFits, notStarted, numbersFit, peerAt, setUp}
 use Rattle.engine.specs.Steps.{Turn, World, badLent, badPeer, badState, callTurn, peerTurn, putBack, refusedTurn, withPeer, wordsOf}
 use Rattle.engine.specs.declared.types.Engine.{Engine}
-use Rattle.engine.specs.declared.types.Ready.{Ready}
 use Rattle.guarantees.specs.Refusals.{NeverBadState, RefusedLeavesAll, RefusedSetUp, listFor}
 use Rattle.guarantees.specs.Runs.{Act, bufferOf, callOf, cancel, freshWorld, packet, post, report, turnOf, worldAfter}
-use Rattle.laws.specs.Choose.{pick}
 use Rattle.laws.specs.Parts.{storeAt}
+use Rattle.protocol.specs.Checks.{refused}
 use Rattle.protocol.specs.declared.types.Refusal.{Refusal}
 use Rattle.peer.specs.Effects.{Effect, refuse}
 use Rattle.peer.specs.Refusing.{among, refusalsOf}
@@ -83,20 +83,11 @@ refused-leaves-all w q k e =
 
 pub refused-set-up : RefusedSetUp
 unfolding RefusedSetUp setUp
-refused-set-up n area limit arena map k e = go (numbersFit n area limit && lentFits n area arena (length map)) e
-  where
-    made : Prepared
-    made = record { started = record { answer = Ready.Ready; engine = engineOf n area limit }; map = replicate (length map) 0 }
-
-    go : (t : Bool) → pick t made (notStarted map) .started .answer ≡ Ready.Refused k → (k .number ≡ 1) × (pick t made (notStarted map) .map ≡ map)
-    go true x =
-        let y : Ready.Ready ≡ Ready.Refused k = unfold pick in x in
-        let z : _≡_ {A = ℕ} 0 1 = cc in
-        absurd (omega arith)
-    go false x =
-        let y : Ready.Refused badSetUp ≡ Ready.Refused k = unfold pick in x in
-        let is : badSetUp ≡ k = cc in
-        (ap (λ (m : Refusal). m .number) (sym is), unfold pick in refl)
+refused-set-up n area limit arena map k =
+    branch (λ (x : Prepared). readySays (x .started .answer) ≡ refused k → (k ≡ 1) × (x .map ≡ map))
+    (numbersFit n area limit && lentFits n area arena (length map)) _ (notStarted map)
+    (λ x y. let z : _≡_ {A = ℕ} 0 1 = cc in absurd (omega arith))
+    (λ x y. (cc, refl))
 
 -- a call in a good world is refused 4, or by its peer
 good-refusal : (w : World) → Good w → (p : ℕ) (a : Act) (k : Refusal) → callTurn w p (callOf a) .answer ≡ Answer.Refused k

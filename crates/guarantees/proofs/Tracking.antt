@@ -13,11 +13,13 @@ use Rattle.guarantees.specs.Runs.{Act, Request, Seen, bufferOf, bytesSee
 use Rattle.laws.specs.Parts.{part, storeAt}
 use Rattle.protocol.specs.declared.types.CqData.{CqData}
 use Rattle.peer.specs.Calls.{peerStep}
+use Rattle.peer.specs.Claims.{WriteClaim}
 use Rattle.peer.specs.Coverage.{Segment, byteOf, bytesFrom, inside}
 use Rattle.peer.specs.Effects.{Effect}
 use Rattle.peer.specs.Expected.{expected, expectedBytes, expectedReply, targetOfCall}
 use Rattle.peer.specs.Numbers.{said}
-use Rattle.peer.specs.Plain.{Plain, Role, enter}
+use Rattle.peer.specs.Origins.{Origin, OwnClaim, originOfCall}
+use Rattle.peer.specs.Plain.{Plain, Role, Target, enter}
 use Rattle.peer.specs.Starts.{noteStart}
 use Rattle.peer.specs.declared.types.Answer.{Answer}
 use Rattle.peer.specs.declared.types.Peer.{Peer}
@@ -27,7 +29,10 @@ use Rattle.laws.proofs.Storing.{length-part, part-store}
 use Rattle.peer.proofs.Agreement.{Agrees}
 use Rattle.peer.proofs.CoverageLaws.{Wrote, byte-at, length-bytes}
 use Rattle.peer.proofs.Entered.{agrees-kept}
+use Rattle.peer.proofs.HistoryFacts.{outcome}
 use Rattle.peer.proofs.Kept.{Kept}
+use Rattle.peer.proofs.OriginReplies.{own-claim}
+use Rattle.peer.proofs.OriginsHold.{Trace, call-claim}
 use Rattle.peer.proofs.Replies.{Yielded, roomOf, step-room, step-yields}
 use Rattle.peer.proofs.Steps.{Stepped, stepped}
 use Rattle.peer.proofs.Yields.{Starts, starts-stepped}
@@ -173,10 +178,28 @@ module _ (p : ℕ) (w : World) (starts : List ℕ) (l : Plain) (t : Tracks p w s
     ap (λ (u : Turn). u .world .engine .limit) turn ∙ (unfold putBack in refl),
   )
 
-  pub own-writes : Writes p w (turnOf w own .world) l (callOf a) (turnOf w own .answer)
-  own-writes =
-      subst (λ (u : Turn). Writes p w (u .world) l (callOf a) (u .answer)) (sym turn)
-      (record { at = f .at; bytes = f .bytes; claim = unfold putBack in yields .writes; arena = unfold putBack in refl })
+  -- what it writes, by the peer's origins
+  pub own-writes : (gs : List Origin) → Trace l gs → Writes p w (turnOf w own .world) l gs (callOf a) (turnOf w own .answer)
+  own-writes gs from =
+      subst (λ (u : Turn). Writes p w (u .world) l gs (callOf a) (u .answer)) (sym turn)
+      (record {
+        at = f .at;
+        bytes = f .bytes;
+        claim = unfold putBack in subst (λ (x : Answer). OwnClaim (w .engine .area) (originOfCall (w .engine .limit) l gs (callOf a) x) (callOf a) x (f .at) (f .bytes)) (sym (step .answer)) claim;
+        arena = unfold putBack in refl;
+      })
+    where
+      e : Answer
+      e = expected (w .engine .area) (w .engine .limit) l (callOf a)
+
+      t′ : Target
+      t′ = targetOfCall (w .engine .limit) l (callOf a)
+
+      claim : OwnClaim (w .engine .area) (originOfCall (w .engine .limit) l gs (callOf a) e) (callOf a) e (f .at) (f .bytes)
+      claim =
+          own-claim (w .engine .area) (w .engine .limit) l (callOf a) t′ (originOfCall (w .engine .limit) l gs (callOf a) e) (f .at) (f .bytes) e
+          (outcome (w .engine .area) (w .engine .limit) l (callOf a)) (call-claim (w .engine .limit) l gs from (w .engine .area) (callOf a))
+          (subst (λ (x : Answer). WriteClaim (w .engine .area) t′ x (f .at) (f .bytes)) (step .answer) (yields .writes))
 
 -- ---- another's call
 

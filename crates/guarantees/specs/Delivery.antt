@@ -15,9 +15,10 @@ use Rattle.protocol.specs.Reading.{readOf}
 use Rattle.protocol.specs.declared.types.Packet.{Packet}
 use Rattle.protocol.specs.declared.types.Read.{Read}
 use Rattle.peer.specs.Calls.{Call}
-use Rattle.peer.specs.Claims.{BytesClaim, Distinct, DoneClaim, GrantClaim, InOrder, WriteClaim, isDone, isMatch, receivesOf, takes}
+use Rattle.peer.specs.Claims.{AllBytes, BytesClaim, CountsUp, Distinct, DoneClaim, GrantClaim, InOrder, TruncateClaim, idsOf, isDone, isMatch, receivesOf, takes}
 use Rattle.peer.specs.Expected.{expected, expectedBytes, expectedReply, targetOfCall}
 use Rattle.peer.specs.Numbers.{said}
+use Rattle.peer.specs.Origins.{Origin, OriginClaim, OwnClaim, ReplyClaim, noOrigins, noteOrigin, originOfCall}
 use Rattle.peer.specs.Plain.{Plain, enter, freshPlain}
 use Rattle.peer.specs.declared.types.Answer.{Answer}
 
@@ -48,8 +49,8 @@ SeenByHistory =
 
 -- ---- each call of a run, by the peer's history before it
 
--- what demand 2 says of one call c after the history l, of which s was seen
-pub record Delivered (area limit : ℕ) (l : Plain) (c : Call) (s : Seen) : Type 0 where
+-- what demand 2 says of one call c after the history l with the origins gs, of which s was seen
+pub record Delivered (area limit : ℕ) (l : Plain) (gs : List Origin) (c : Call) (s : Seen) : Type 0 where
   -- the answer, refusals included, and each number that it says
   pub answer : s .answer ≡ expected area limit l c
   pub says : s .says ≡ said (expected area limit l c)
@@ -58,43 +59,67 @@ pub record Delivered (area limit : ℕ) (l : Plain) (c : Call) (s : Seen) : Type
   -- in message order, to the receive posted first of those that fit
   pub order : (bs : List ℕ) (room : ℕ) (q : Packet) → c ≡ Call.packet bs room → readOf false limit bs ≡ Read.Packet q → takes (s .answer) ≡ true
       → targetOfCall limit l c .matched ≡ true → InOrder l q (targetOfCall limit l c)
+  -- truncated exactly if the message is longer than the oldest fitting receive
+  pub truncated : (bs : List ℕ) (room : ℕ) (q : Packet) → c ≡ Call.packet bs room → readOf false limit bs ≡ Read.Packet q
+      → TruncateClaim l q (targetOfCall limit l c) (s .answer)
+  -- the message is that of the packet that matched it, in the receive that was posted; done answers that packet's CQ data
+  pub origin : OriginClaim (originOfCall limit l gs c (s .answer)) (targetOfCall limit l c) (s .answer)
+  -- the reply packet is a CTS for that message, or none
+  pub reply : ReplyClaim (originOfCall limit l gs c (s .answer)) (s .answer) (s .reply)
   -- a done message's bytes, as the arena has them, are at each offset those of the one accepted segment that covers it
   pub read : s .bytes ≡ expectedBytes (targetOfCall limit l c .entry .segments) (s .answer)
   pub bytes : BytesClaim (targetOfCall limit l c) (s .answer)
   -- the grants of a long message
   pub grants : GrantClaim limit (targetOfCall limit l c) (s .answer)
 
-unfoldable pub AllDelivered : ℕ → ℕ → Plain → List Call → List Seen → Type 0
-AllDelivered area limit l [] ss = Unit {0}
-AllDelivered area limit l (c ∷ cs) [] = ⊥
-AllDelivered area limit l (c ∷ cs) (s ∷ ss) = Delivered area limit l c s × AllDelivered area limit (enter limit l c (s .answer)) cs ss
+-- each call with what was seen of it, neither more nor fewer
+unfoldable pub AllDelivered : ℕ → ℕ → Plain → List Origin → List Call → List Seen → Type 0
+AllDelivered area limit l gs [] [] = Unit {0}
+AllDelivered area limit l gs [] (s ∷ ss) = ⊥
+AllDelivered area limit l gs (c ∷ cs) [] = ⊥
+AllDelivered area limit l gs (c ∷ cs) (s ∷ ss) =
+    Delivered area limit l gs c s × AllDelivered area limit (enter limit l c (s .answer)) (noteOrigin (targetOfCall limit l c) gs c (s .answer)) cs ss
 
--- every call of every peer in every run; each match takes a receive of its own, and of each a done is answered at most once
+abbrev pub answersIn : List Seen → List Answer
+answersIn [] = []
+answersIn (s ∷ ss) = s .answer ∷ answersIn ss
+
+-- what demand 2 says of all calls of a peer, of which ss was seen
+pub record DeliveredAll (area limit : ℕ) (calls : List Call) (ss : List Seen) : Type 0 where
+  pub each : AllDelivered area limit freshPlain noOrigins calls ss
+  -- "and once": each match takes a receive of its own, and of each a done is answered at most once
+  pub matchedOnce : Distinct (receivesOf isMatch limit freshPlain calls (answersIn ss))
+  pub doneOnce : Distinct (receivesOf isDone limit freshPlain calls (answersIn ss))
+  -- "in message order": the k-th message that is matched, truncated ones counted, has the id k mod 2^32
+  pub counted : AllBytes calls → CountsUp (idsOf limit freshPlain calls (answersIn ss))
+
+-- every call of every peer in every run
 unfoldable pub Delivery : Type 0
 Delivery =
     (n area limit p : ℕ) (arena map : List ℕ)
     → setUp n area limit (length arena) map .started .answer ≡ Ready.Ready
     → p < n
     → (calls : List Request)
-    → AllDelivered area limit freshPlain (callsOf p calls) (observe p (freshWorld n area limit arena map) noStarts calls)
-    × Distinct (receivesOf isMatch area limit freshPlain (callsOf p calls))
-    × Distinct (receivesOf isDone area limit freshPlain (callsOf p calls))
+    → DeliveredAll area limit (callsOf p calls) (observe p (freshWorld n area limit arena map) noStarts calls)
 
 -- ---- what is written
 
--- a call of peer p after the history l writes its own segment into the arena, and nothing else
-pub record Writes (p : ℕ) (w w′ : World) (l : Plain) (c : Call) (a : Answer) : Type 0 where
+-- a call c of peer p, answered a, after the history l with the origins gs writes its own packet's data into its own range of the receive that
+-- was posted, and nothing else into the arena
+pub record Writes (p : ℕ) (w w′ : World) (l : Plain) (gs : List Origin) (c : Call) (a : Answer) : Type 0 where
   pub at : ℕ
   pub bytes : List ℕ
-  pub claim : WriteClaim (w .engine .area) (targetOfCall (w .engine .limit) l c) a at bytes
+  pub claim : OwnClaim (w .engine .area) (originOfCall (w .engine .limit) l gs c a) c a at bytes
   pub arena : w′ .arena ≡ storeAt (w .arena) (p * w .engine .area + at) bytes
 
 -- at every call of peer p in a run from w
-unfoldable pub AllWrite : ℕ → World → Plain → List Request → Type 0
-AllWrite p w l [] = Unit {0}
-AllWrite p w l (q ∷ qs) =
-    (q .peer ≡ p → Writes p w (turnOf w q .world) l (callOf (q .act)) (turnOf w q .answer))
-    × AllWrite p (turnOf w q .world) (pick (eqb (q .peer) p) (enter (w .engine .limit) l (callOf (q .act)) (turnOf w q .answer)) l) qs
+unfoldable pub AllWrite : ℕ → World → Plain → List Origin → List Request → Type 0
+AllWrite p w l gs [] = Unit {0}
+AllWrite p w l gs (q ∷ qs) =
+    (q .peer ≡ p → Writes p w (turnOf w q .world) l gs (callOf (q .act)) (turnOf w q .answer))
+    × AllWrite p (turnOf w q .world)
+    (pick (eqb (q .peer) p) (enter (w .engine .limit) l (callOf (q .act)) (turnOf w q .answer)) l)
+    (pick (eqb (q .peer) p) (noteOrigin (targetOfCall (w .engine .limit) l (callOf (q .act))) gs (callOf (q .act)) (turnOf w q .answer)) gs) qs
 
 -- "Each accepted segment puts its own data into its own range of its own buffer and changes no other arena byte", in every run
 unfoldable pub OwnRange : Type 0
@@ -103,4 +128,4 @@ OwnRange =
     → setUp n area limit (length arena) map .started .answer ≡ Ready.Ready
     → p < n
     → (calls : List Request)
-    → AllWrite p (freshWorld n area limit arena map) freshPlain calls
+    → AllWrite p (freshWorld n area limit arena map) freshPlain noOrigins calls

@@ -2,3 +2,4 @@ pub mod Runs
 pub mod Refusals
 pub mod Delivery
 pub mod Isolation
+pub mod Replies

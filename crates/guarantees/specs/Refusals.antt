@@ -5,10 +5,12 @@ use mathlib.Core.Path.{_≡_}
 use mathlib.Core.List.{List, _∷_}
 use mathlib.Core.Bool.{true}
 use lib.ListN.{length}
+use Rattle.protocol.specs.Checks.{refused}
 use Rattle.protocol.specs.declared.types.Refusal.{Refusal}
 use Rattle.peer.specs.declared.types.Answer.{Answer}
 use Rattle.peer.specs.Refusing.{refusalsOf, among}
 use Rattle.engine.specs.declared.types.Ready.{Ready}
+use Rattle.engine.specs.Checks.{readySays}
 use Rattle.engine.specs.SetUp.{setUp}
 use Rattle.engine.specs.Steps.{World}
 use Rattle.guarantees.specs.Runs.{Act, Request, callOf, bufferOf, bufferAfter, turnOf, worldAfter, freshWorld}
@@ -29,9 +31,9 @@ RefusedLeavesAll =
 -- a set-up that is refused answers 1 and leaves the map
 unfoldable pub RefusedSetUp : Type 0
 RefusedSetUp =
-    (n area limit arena : ℕ) (map : List ℕ) (k : Refusal)
-    → setUp n area limit arena map .started .answer ≡ Ready.Refused k
-    → (k .number ≡ 1) × (setUp n area limit arena map .map ≡ map)
+    (n area limit arena : ℕ) (map : List ℕ) (k : ℕ)
+    → readySays (setUp n area limit arena map .started .answer) ≡ refused k
+    → (k ≡ 1) × (setUp n area limit arena map .map ≡ map)
 
 -- refusals 2 and 3 never arise in a run after a set-up that was not refused
 unfoldable pub NeverBadState : Type 0

@@ -14,6 +14,7 @@ use Rattle.peer.specs.Incomings.{isLong}
 use Rattle.peer.specs.Matching.{findOpen}
 use Rattle.peer.specs.Plain.{Entry, Plain, Target, begunEntry, enterSegment, entryAt, extendedRole, grantedEntry, grown, matchTarget, nextAfter, noEntry, openIn, receiving, segmentOf, settle, targetIn, targetOf}
 use Rattle.peer.specs.State.{phaseAt}
+use Rattle.peer.specs.View.{roleOf}
 use Rattle.peer.specs.declared.types.Fit.{Fit}
 use Rattle.peer.specs.declared.types.Found.{Found}
 use Rattle.peer.specs.declared.types.Inbound.{Inbound}
@@ -29,7 +30,7 @@ use Rattle.peer.proofs.Agreement.{Agrees, more-bits}
 use Rattle.peer.proofs.CoverageLaws.{Bits, Content, Wrote, bits-cleared, bits-same, content-same, content-written, inside-end}
 use Rattle.peer.proofs.Entered.{Change, agrees-kept, agrees-set, freed, others-cleared, others-kept, others-marked}
 use Rattle.peer.proofs.Kept.{Standing, begun-standing, continued-standing}
-use Rattle.peer.proofs.Roles.{SameFit, fit-same, open-same, role-at, roleOf, to, unfit}
+use Rattle.peer.proofs.Roles.{SameFit, fit-same, open-same, role-at, to, unfit}
 use Rattle.peer.proofs.Valid.{Valid}
 use Rattle.peer.proofs.Verdicts.{Begins, Continues, Judged, Matched, chosen-at, continued-at}
 
@@ -204,8 +205,8 @@ module _ (area limit : ℕ) (p : Peer) (ws : List ℕ) (mem mem′ : ℕ → ℕ
       no-cover k e = false≢true (unfold covers in e)
 
   -- a match moves the next id on
-  moved : (i : ℕ) (r : Receive) → (p .next + 1) % 4294967296 ≡ nextAfter l (begunAt i r)
-  moved i r = ap (λ (n : ℕ). (n + 1) % 4294967296) (agrees .next) ∙ sym (pick-true _ _ refl)
+  moved : (i : ℕ) (r : Receive) → advance p .next ≡ nextAfter l (begunAt i r)
+  moved i r = ap (λ (n : ℕ). advance (record { next = n; slots = p .slots }) .next) (agrees .next) ∙ sym (pick-true _ _ refl)
 
   -- nothing is written
   same : Wrote area mem mem′ 0 [] → Agrees p ws mem′ l
@@ -224,7 +225,7 @@ module _ (area limit : ℕ) (p : Peer) (ws : List ℕ) (mem mem′ : ℕ → ℕ
       unfold begun accept in
       subst (λ (t : Target). Agrees (settledAs limit (advance p) i (opened r h) (progressOf (ws′ r) (opened r h)) .peer) (ws′ r) mem′
       (enterSegment l t (settledAs limit (advance p) i (opened r h) (progressOf (ws′ r) (opened r h)) .answer))) (sym (match-target i r (j .matched)))
-      (settled-agrees area limit p ((p .next + 1) % 4294967296) ws (ws′ r) mem mem′ l i (opened r h) (begunAt i r) (progressOf (ws′ r) (opened r h)) agrees
+      (settled-agrees area limit p (advance p .next) ws (ws′ r) mem mem′ l i (opened r h) (begunAt i r) (progressOf (ws′ r) (opened r h)) agrees
       (moved i r) refl (begun-taken i r j w))
     where
       ws′ : Receive → List ℕ

@@ -25,6 +25,7 @@ use Rattle.peer.specs.Matching.{ahead, findOpen, oldest, vacancy}
 use Rattle.peer.specs.Numbers.{beyondGrant}
 use Rattle.peer.specs.Plain.{Plain, entryAt, openIn, roles, segmentOf}
 use Rattle.peer.specs.State.{phaseAt, phaseFits}
+use Rattle.peer.specs.View.{roleOf, rolesOf}
 use Rattle.peer.specs.declared.types.Answer.{Answer}
 use Rattle.peer.specs.declared.types.Fit.{Fit}
 use Rattle.peer.specs.declared.types.Found.{Found}
@@ -41,7 +42,7 @@ use Rattle.bitmap.proofs.CoverLaws.{count-cover, first-cover, touched-cover}
 use Rattle.laws.proofs.Choosing.{and-intro, in-step, pick-false, pick-true}
 use Rattle.peer.proofs.CoverageLaws.{Bits, Content, all-before, bits-cleared, bits-marked, first-whole}
 use Rattle.peer.proofs.PacketsRead.{read-formed}
-use Rattle.peer.proofs.Roles.{Ordered, SameFit, fit-same, open-same, overlap-same, role-at, roleOf, rolesOf, to, unfit, vacancy-same}
+use Rattle.peer.proofs.Roles.{Ordered, SameFit, fit-same, open-same, overlap-same, role-at, to, unfit, vacancy-same}
 use Rattle.peer.proofs.Slots.{found-open, stands-at}
 use Rattle.peer.proofs.Valid.{Valid, Within, posted-within}
 use Rattle.peer.proofs.Verdicts.{again-inside, found-within}

@@ -15,6 +15,7 @@ use Rattle.peer.specs.Coverage.{covers}
 use Rattle.peer.specs.Incomings.{isLong}
 use Rattle.peer.specs.Plain.{Entry, Plain, entryAt, noEntry}
 use Rattle.peer.specs.State.{clash, freeSlot, overlap, phaseAt, phaseFits, slotWith}
+use Rattle.peer.specs.View.{roleOf}
 use Rattle.peer.specs.declared.types.Inbound.{Inbound}
 use Rattle.peer.specs.declared.types.Peer.{Peer}
 use Rattle.peer.specs.declared.types.Phase.{Phase}
@@ -25,7 +26,7 @@ use Rattle.laws.proofs.Choosing.{or-left}
 use Rattle.peer.proofs.Agreement.{Agrees}
 use Rattle.peer.proofs.CoverageLaws.{Bits, Content, Wrote, content-same}
 use Rattle.peer.proofs.Kept.{Standing}
-use Rattle.peer.proofs.Roles.{role-lengths, roleOf, roles-set}
+use Rattle.peer.proofs.Roles.{role-lengths, roles-set}
 use Rattle.peer.proofs.Slots.{phase-other, phase-same}
 use Rattle.peer.proofs.Valid.{Valid, open-within}
 

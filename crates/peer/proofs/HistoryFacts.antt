@@ -2,13 +2,14 @@
 use Prim.Native.Nat.{ℕ, _+_, _/_, _≤_, _<_}
 use borrow.Author.Tests.{ltb-true, ltb-false, eqb-true}
 use lib.Dec.{leb, ltb}
-use mathlib.Core.Bool.{true, false, false≢true}
+use mathlib.Core.Bool.{Bool, true, false, false≢true}
 use mathlib.Core.List.{List}
 use mathlib.Core.Path.{_≡_, refl, ap}
 use native.Mathlib.Omega.{arith}
 use Rattle.bitmap.specs.Offsets.{someOf}
 use Rattle.protocol.specs.Reading.{readOf}
 use Rattle.protocol.specs.Values.{bytesAt}
+use Rattle.protocol.specs.declared.types.CqData.{CqData}
 use Rattle.protocol.specs.declared.types.Packet.{Packet}
 use Rattle.protocol.specs.declared.types.Read.{Read}
 use Rattle.peer.specs.Calls.{Call, cancel, packet, post, report}
@@ -81,22 +82,39 @@ taken-role w = go (w .aims)
 
 -- ---- what an answer says
 
+-- a message that is matched now is no longer than its receive
+abbrev pub Fitting : Bool → Inbound → Type 0
+Fitting matched o = matched ≡ true → o .message .length ≤ o .receive .capacity
+
 -- bytes are missing
 pub record Partly (limit : ℕ) (l : Plain) (c : Call) (t : Target) : Type 0 where
   pub taken : Taken limit l c t
   pub covered : allOf (covers (t .entry .segments)) 0 (taken .message .message .length) ≡ false
+  pub fits : Fitting (t .matched) (taken .message)
+
+-- the message is longer than the receive that it fits
+pub record Cut (limit : ℕ) (l : Plain) (c : Call) (t : Target) (slot id n : ℕ) : Type 0 where
+  pub taken : Taken limit l c t
+  pub matched : t .matched ≡ true
+  pub slotIs : slot ≡ t .index
+  pub idIs : id ≡ headOf (taken .brings) .id
+  pub lengthIs : n ≡ headOf (taken .brings) .length
+  pub above : taken .message .receive .capacity < n
 
 pub record Granting (limit : ℕ) (l : Plain) (c : Call) (t : Target) (n : ℕ) : Type 0 where
   pub partly : Partly limit l c t
+  pub long : isLong (partly .taken .message .message .kind) ≡ true
   pub amount : n ≡ grantOf limit (partly .taken .message .message)
   pub short : partly .taken .message .message .granted < partly .taken .message .message .length
 
-pub record Wholly (limit : ℕ) (l : Plain) (c : Call) (t : Target) (slot id n : ℕ) : Type 0 where
+pub record Wholly (limit : ℕ) (l : Plain) (c : Call) (t : Target) (slot id n : ℕ) (cq : CqData) : Type 0 where
   pub taken : Taken limit l c t
   pub covered : allOf (covers (t .entry .segments)) 0 (taken .message .message .length) ≡ true
   pub slotIs : slot ≡ t .index
   pub idIs : id ≡ taken .message .message .id
   pub lengthIs : n ≡ taken .message .message .length
+  pub cqIs : cq ≡ taken .message .message .«cq_data»
+  pub fits : Fitting (t .matched) (taken .message)
 
 abbrev pub Outcome : ℕ → Plain → Call → Target → Answer → Type 0
 Outcome limit l c t (Answer.Refused k) = Unit {0}
@@ -104,8 +122,8 @@ Outcome limit l c t (Answer.Posted i) = Unit {0}
 Outcome limit l c t (Answer.Cancelled i) = Unit {0}
 Outcome limit l c t Answer.Stored = Partly limit l c t
 Outcome limit l c t (Answer.Granted n) = Granting limit l c t n
-Outcome limit l c t (Answer.Done slot id n cq) = Wholly limit l c t slot id n
-Outcome limit l c t (Answer.Truncated slot id n) = Taken limit l c t
+Outcome limit l c t (Answer.Done slot id n cq) = Wholly limit l c t slot id n cq
+Outcome limit l c t (Answer.Truncated slot id n) = Cut limit l c t slot id n
 Outcome limit l c t (Answer.Missing c′ o) = Unit {0}
 
 -- an answer that takes the packet
@@ -116,7 +134,7 @@ taken-by (Answer.Cancelled i) w e = absurd (false≢true e)
 taken-by Answer.Stored w e = w .taken
 taken-by (Answer.Granted n) w e = w .partly .taken
 taken-by (Answer.Done slot id n cq) w e = w .taken
-taken-by (Answer.Truncated slot id n) w e = w
+taken-by (Answer.Truncated slot id n) w e = w .taken
 taken-by (Answer.Missing c o) w e = absurd (false≢true e)
 
 -- ---- the tests, one after the other
@@ -135,19 +153,21 @@ module _ (limit : ℕ) (l : Plain) (c : Call) (b : Brings limit c) where
   segment : Segment
   segment = segmentOf (headOf b) (bytesOf b)
 
-  accepted : (t : Target) (o : Inbound) → Aims l (headOf b) (bytesOf b) t o → O t (expectTaken limit (t .index) o (t .entry .segments))
+  accepted : (t : Target) (o : Inbound) → Aims l (headOf b) (bytesOf b) t o → Fitting (t .matched) o
+      → O t (expectTaken limit (t .index) o (t .entry .segments))
   unfolding O expectTaken
-  accepted t o a =
+  accepted t o a f =
       let w : Taken limit l c t = record { brings = b; message = o; aims = a } in
       branch (Outcome limit l c t) _ _ _
-      (λ x. record { taken = w; covered = x; slotIs = refl; idIs = refl; lengthIs = refl })
+      (λ x. record { taken = w; covered = x; slotIs = refl; idIs = refl; lengthIs = refl; cqIs = refl; fits = f })
       (λ x. branch (Outcome limit l c t) _ (Answer.Granted (grantOf limit (o .message))) Answer.Stored
       (λ y. record {
-        partly = record { taken = w; covered = x };
+        partly = record { taken = w; covered = x; fits = f };
+        long = and-left (isLong (o .message .kind)) _ y;
         amount = refl;
         short = ltb-true _ _ (and-right (allOf (covers (t .entry .segments)) 0 (o .message .granted)) _ (and-right (isLong (o .message .kind)) _ y));
       })
-      (λ y. record { taken = w; covered = x }))
+      (λ y. record { taken = w; covered = x; fits = f }))
 
   more : (i : ℕ) (o : Inbound) → entryAt (l .entries) i .role ≡ receiving o
       → (isLong (o .message .kind) ≡ true → headOf b .offset + headOf b .size ≤ o .message .granted)
@@ -155,7 +175,7 @@ module _ (limit : ℕ) (l : Plain) (c : Call) (b : Brings limit c) where
   unfolding O segment targetIn expectMore
   more i o e g =
       branch (Outcome limit l c _) (someOf (covers (entryAt (l .entries) i .segments)) (headOf b .offset) (headOf b .size)) (Answer.Refused repeated) _
-      (λ x. tt) (λ x. accepted _ o (goesOn i o (record { role = e; new = x; inGrant = g })))
+      (λ x. tt) (λ x. accepted _ o (goesOn i o (record { role = e; new = x; inGrant = g })) (λ y. absurd (false≢true y)))
 
   again : (i : ℕ) (o : Inbound) → entryAt (l .entries) i .role ≡ receiving o
       → O (targetIn l (headOf b) segment (Found.At i o)) (expectAgain limit l (headOf b) (bytesOf b) i o)
@@ -180,7 +200,15 @@ module _ (limit : ℕ) (l : Plain) (c : Call) (b : Brings limit c) where
   fitted (Fit.To i r serial) e rtm next =
       let m : Matches l (headOf b) i r serial = record { rtm = rtm; next = next; chosen = foremost (headOf b) (l .entries) i r serial e } in
       branch (Outcome limit l c _) (ltb (r .capacity) (headOf b .length)) (Answer.Truncated i (headOf b .id) (headOf b .length)) _
-      (λ x. record { brings = b; message = opened r (headOf b); aims = begins i r serial m }) (λ x. accepted _ _ (begins i r serial m))
+      (λ x. record {
+        taken = record { brings = b; message = opened r (headOf b); aims = begins i r serial m };
+        matched = refl;
+        slotIs = refl;
+        idIs = refl;
+        lengthIs = refl;
+        above = ltb-true (r .capacity) (headOf b .length) x;
+      })
+      (λ x. accepted _ _ (begins i r serial m) (λ y. ltb-false (r .capacity) (headOf b .length) x))
 
   fresh : isRtm (headOf b .kind) ≡ true → O (targetIn l (headOf b) segment Found.Nothing) (expectNew limit l (headOf b) (bytesOf b))
   unfolding O targetIn expectNew

@@ -8,7 +8,7 @@ use mathlib.Core.Path.{_≡_, refl, sym, ap, _∙_}
 use native.Mathlib.Omega.{arith}
 use Rattle.laws.specs.Choose.{pick}
 use Rattle.peer.specs.Calls.{Call}
-use Rattle.peer.specs.Claims.{Distinct, Once, isDone, isMatch, receivesOf, takes}
+use Rattle.peer.specs.Claims.{Distinct, Once, answersOf, isDone, isMatch, numbersOf, receivesOf, takes}
 use Rattle.peer.specs.Expected.{expected, targetOfCall}
 use Rattle.peer.specs.Plain.{Entry, Plain, Role, Target, enter, freshPlain, grantedEntry, idle, nextAfter, noEntry, receiving, waiting}
 use Rattle.peer.specs.declared.types.Answer.{Answer}
@@ -56,7 +56,7 @@ match-ends {limit} {l} {c} {t} {a} {l′} w x = go w (m .0) (m .1)
     go (withCancel t i) x y = absurd (false≢true x)
     go (withSegment t w) x y = ended (w .taken) (t .entry) y (stays (w .taken))
     go (withGrant t n w) x y = ended (w .partly .taken) (grantedEntry n (t .entry)) y (goes-on n (w .partly .taken))
-    go (withEnd t a w) x y = ended w noEntry y refl
+    go (withEnd t a w k) x y = ended w noEntry y refl
 
 done-takes : (t : Target) (a : Answer) → isDone t a ≡ true → takes a ≡ true
 done-takes t (Answer.Refused k) e = e
@@ -76,7 +76,7 @@ done-ends (withPost t i r) x = absurd (false≢true x)
 done-ends (withCancel t i) x = absurd (false≢true x)
 done-ends (withSegment t w) x = absurd (false≢true x)
 done-ends (withGrant t n w) x = absurd (false≢true x)
-done-ends {l} (withEnd t a w) x =
+done-ends {l} (withEnd t a w k) x =
     let u = aims-used (w .aims) .0 in
     ends-set used l (nextAfter l t) (t .index) noEntry u u refl
 
@@ -120,8 +120,8 @@ module _ (live : Role → Bool) (named : Target → Answer → Bool)
     future : (i : ℕ) → i < length ns → Future l (getD ns i 0)
     distinct : Distinct ns
 
-  names : (l : Plain) (calls : List Call) → Numbered l → Names l (receivesOf named area limit l calls)
-  unfolding receivesOf
+  names : (l : Plain) (calls : List Call) → Numbered l → Names l (receivesOf named limit l calls (answersOf area limit l calls))
+  unfolding numbersOf answersOf
   names l [] n = record { future = λ i h. absurd (omega arith); distinct = λ i j h. absurd (omega arith) }
   names l (c ∷ cs) n =
       go (entered area limit l c) (names (enter limit l c (expected area limit l c)) cs (numbered (passes (entered area limit l c)) n))
@@ -133,7 +133,7 @@ module _ (live : Role → Bool) (named : Target → Answer → Bool)
       l′ = enter limit l c (expected area limit l c)
 
       ns : List ℕ
-      ns = receivesOf named area limit l′ cs
+      ns = receivesOf named limit l′ cs (answersOf area limit l′ cs)
 
       go : Entered limit l c t (expected area limit l c) l′ → Names l′ ns
           → Names l (pick (named t (expected area limit l c)) (serialAt l (t .index) ∷ ns) ns)

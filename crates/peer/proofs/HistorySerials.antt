@@ -126,7 +126,7 @@ passes {l} (withSegment t w) = passes-set l (nextAfter l t) (t .index) (t .entry
 passes {l} (withGrant t n w) =
     passes-set l (nextAfter l t) (t .index) (grantedEntry n (t .entry))
     (λ x. taken-was (w .partly .taken) (grantedEntry n (t .entry)) refl (goes-on n (w .partly .taken)))
-passes {l} (withEnd t a w) = passes-set l (nextAfter l t) (t .index) noEntry (λ x. absurd (false≢true x))
+passes {l} (withEnd t a w k) = passes-set l (nextAfter l t) (t .index) noEntry (λ x. absurd (false≢true x))
 
 pub numbered : {l l′ : Plain} → Passes l l′ → Numbered l → Numbered l′
 numbered {l} {l′} s n =

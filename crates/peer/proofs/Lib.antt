@@ -26,3 +26,17 @@ pub mod OffsetsHold
 pub mod WordsHold
 pub mod FieldsHold
 pub mod SlotTurns
+pub mod OriginsHold
+pub mod HistoryCount
+pub mod OriginReplies
+pub mod CannotBeLaws
+pub mod FirstLaws
+pub mod PostChecked
+pub mod BytesHold
+pub mod PacketChecked
+pub mod ViewSearch
+pub mod AcceptOrRefuse
+pub mod HistoryChecked
+pub mod SlotMovesHold
+pub mod BitMoves
+pub mod MovesHold

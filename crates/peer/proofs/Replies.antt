@@ -4,7 +4,7 @@ use Prim.Native.Nat.{ℕ, _+_, _*_, _≤_, _<_}
 use borrow.Author.Tests.{ltb-false}
 use lib.Dec.{ltb}
 use lib.ListN.{length, getD}
-use mathlib.Core.Bool.{Bool, true, false, _&&_}
+use mathlib.Core.Bool.{Bool, true, false, _&&_, true≢false}
 use mathlib.Core.List.{List, [], _∷_}
 use mathlib.Core.Logic.{_⊎_, inl, inr}
 use mathlib.Core.Path.{_≡_, refl, sym, ap, _∙_, subst}
@@ -21,7 +21,7 @@ use Rattle.protocol.specs.declared.types.CqData.{CqData}
 use Rattle.protocol.specs.declared.types.Read.{Read}
 use Rattle.protocol.specs.declared.types.Refusal.{Refusal}
 use Rattle.peer.specs.Calls.{Call, cancel, cancelAt, cancelEffect, missingIn, packet, packetEffect, peerStep, placed, placedIn, post, postEffect, readEffect, report, reportAt, reportEffect}
-use Rattle.peer.specs.Claims.{SegmentIn, WriteClaim}
+use Rattle.peer.specs.Claims.{SegmentIn, WriteClaim, isGrant}
 use Rattle.peer.specs.Coverage.{Segment, allOf, byteOf, covers}
 use Rattle.peer.specs.Effects.{Effect, accept, advance, begun, carry, grantOf, landed, opened, progressOf, quiet, refuse, settledAs, truncatedAt, withPhase}
 use Rattle.peer.specs.Expected.{expectTaken, expectedReply, targetOfCall, targetOfRead}
@@ -289,3 +289,49 @@ step-room area limit p ws (report i) =
     at Phase.Free n e = absurd (let z : _≡_ {A = ℕ} 0 1 = cc in omega arith)
     at (Phase.Posted r b) n e = absurd (let z : _≡_ {A = ℕ} 0 1 = cc in omega arith)
     at (Phase.Open o) n e = absurd (let z : _≡_ {A = ℕ} 0 1 = cc in omega arith)
+
+-- ---- no grant, no reply
+
+abbrev Silent : Effect → Type 0
+Silent f = isGrant (f .answer) ≡ false → f .reply ≡ []
+
+silent-packet : (limit : ℕ) (p : Peer) (ws bs : List ℕ) (room : ℕ) → Silent (packetEffect limit p ws bs room)
+unfolding packetEffect readEffect carry truncatedAt begun accept settledAs
+silent-packet limit p ws bs room = branch Silent _ _ _ (λ x e. refl) (λ x. read (readOf false limit bs))
+  where
+    settled : (q : Peer) (i : ℕ) (o : Inbound) (g : Progress) → isGrant (settledAs limit q i o g .answer) ≡ false → settledAs limit q i o g .reply ≡ []
+    settled q i o Progress.Whole e = refl
+    settled q i o Progress.Due e = absurd (true≢false e)
+    settled q i o Progress.Partial e = refl
+
+    carried : (h : Incoming) (bytes : List ℕ) (d : Verdict) → Silent (carry limit p ws h bytes d)
+    carried h bytes (Verdict.Refuse k) e = refl
+    carried h bytes (Verdict.Truncate i) e = refl
+    carried h bytes (Verdict.Begin i q) e = settled (advance p) i (opened q h) (progressOf (marked (cleared ws (q .start) (q .capacity)) (q .start + h .offset) (length bytes)) (opened q h)) e
+    carried h bytes (Verdict.More i o) e = settled p i o (progressOf (marked ws (o .receive .start + h .offset) (length bytes)) o) e
+
+    read : (d : Read) → Silent (readEffect limit p ws bs d)
+    read (Read.Refused k) e = refl
+    read (Read.Packet q) e = carried (incomingOf q) (bytesAt bs (q .«data»)) (judge p ws (incomingOf q)) e
+
+pub step-silent : (area limit : ℕ) (p : Peer) (ws : List ℕ) (c : Call) → Silent (peerStep area limit p ws c)
+unfolding peerStep postEffect placedIn cancelEffect cancelAt reportEffect reportAt
+step-silent area limit p ws (packet bs room) = silent-packet limit p ws bs room
+step-silent area limit p ws (post r) =
+    branch Silent _ _ _ (λ x e. refl) (λ x. branch Silent _ _ _ (λ y e. refl) (λ y. place (vacancy 0 (p .slots))))
+  where
+    place : (y : Vacancy) → Silent (placedIn p ws r y)
+    place Vacancy.Full e = refl
+    place (Vacancy.Slot i) e = refl
+step-silent area limit p ws (cancel i) = branch Silent _ _ _ (λ x e. refl) (λ x. at (phaseAt (p .slots) i))
+  where
+    at : (f : Phase) → Silent (cancelAt p ws i f)
+    at Phase.Free e = refl
+    at (Phase.Posted r b) e = refl
+    at (Phase.Open o) e = refl
+step-silent area limit p ws (report i) = branch Silent _ _ _ (λ x e. refl) (λ x. at (phaseAt (p .slots) i))
+  where
+    at : (f : Phase) → Silent (reportAt p ws f)
+    at Phase.Free e = refl
+    at (Phase.Posted r b) e = refl
+    at (Phase.Open o) e = refl

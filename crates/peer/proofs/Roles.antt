@@ -3,15 +3,16 @@ use Prim.Native.Nat.{ℕ, zero, suc, _+_}
 use lib.Dec.{ltb, eqb}
 use lib.ListN.{length, getD, drop, set, length-map}
 use mathlib.Core.Bool.{Bool, true, false, _||_, true≢false, false≢true}
-use mathlib.Core.List.{List, [], _∷_, map}
+use mathlib.Core.List.{List, [], _∷_}
 use mathlib.Core.Path.{_≡_, refl, sym, ap, ap₂, _∙_, subst₂}
 use native.Mathlib.Omega.{arith}
 use Rattle.laws.specs.Choose.{pick}
 use Rattle.peer.specs.Calls.{renumbered, renumberedPhase, someInTheWay}
 use Rattle.peer.specs.Expected.{anyOverlap, lowestIdle}
 use Rattle.peer.specs.Matching.{findOpen, fits, older, olderHere, oldest, openHere, orElse, vacancy}
-use Rattle.peer.specs.Plain.{Entry, Role, entryAt, firstHere, firstPosted, idle, openIn, receiving, roles, waiting}
+use Rattle.peer.specs.Plain.{Entry, Role, entryAt, firstHere, firstPosted, idle, openIn, roles}
 use Rattle.peer.specs.State.{inTheWay, isFree, overlap, phaseAt, slotWith}
+use Rattle.peer.specs.View.{roleOf, rolesOf}
 use Rattle.peer.specs.declared.types.Fit.{Fit}
 use Rattle.peer.specs.declared.types.Fit.the-variants.{To, Unfit}
 use Rattle.peer.specs.declared.types.Found.{Found}
@@ -22,14 +23,6 @@ use Rattle.peer.specs.declared.types.Phase.the-variants.{Free, Open, Pos
 use Rattle.peer.specs.declared.types.Receive.{Receive}
 use Rattle.peer.specs.declared.types.Slot.{Slot}
 use Rattle.peer.specs.declared.types.Vacancy.{Vacancy}
-
-abbrev pub roleOf : Phase → Role
-roleOf Phase.Free = idle
-roleOf (Phase.Posted r a) = waiting r
-roleOf (Phase.Open o) = receiving o
-
-abbrev pub rolesOf : List Slot → List Role
-rolesOf ss = map (λ (s : Slot). roleOf (s .phase)) ss
 
 -- ---- slot by slot
 

@@ -1,4 +1,4 @@
--- One peer's step: a call on the peer and its own map words (01, "The refusal numbers": the order of each call's checks from 5 on).
+-- One peer's step: a call on the peer and its own map words (01's table of refusals: the order of each call's checks from 5 on).
 use Prim.Native.Nat.{ℕ, _+_}
 use mathlib.Core.List.{List, [], _∷_}
 use mathlib.Core.Bool.{Bool, false, _||_}

@@ -1,5 +1,5 @@
 -- What demand 2 says of a peer's calls, from its history alone. Each claim is about every call after every history.
-use Prim.Native.Nat.{ℕ, _+_, _-_, _/_, _≤_, _<_}
+use Prim.Native.Nat.{ℕ, _+_, _-_, _/_, _%_, _^_, _≤_, _<_}
 use mathlib.Core.Path.{_≡_}
 use mathlib.Core.List.{List, [], _∷_}
 use mathlib.Core.Bool.{Bool, true, false}
@@ -11,12 +11,13 @@ use Rattle.protocol.specs.Reading.{readOf}
 use Rattle.peer.specs.declared.types.Answer.{Answer}
 use Rattle.peer.specs.declared.types.Inbound.{Inbound}
 use Rattle.peer.specs.declared.types.Receive.{Receive}
-use Rattle.peer.specs.Calls.{Call, packet}
+use Rattle.peer.specs.Calls.{Call, cancel, packet, post, report}
 use Rattle.peer.specs.Coverage.{Segment, covers, inside, allOf}
 use Rattle.peer.specs.Expected.{expected, targetOfCall, expectedBytes}
 use Rattle.peer.specs.Incomings.{incomingOf, isLong}
 use Rattle.peer.specs.Matching.{ahead, fits}
 use Rattle.peer.specs.Plain.{waiting, receiving, Plain, Target, entryAt, freshPlain, enter}
+use Rattle.wire.specs.LittleEndian.{leAt}
 
 -- the plain receiver after a history: a list of calls, each with the answer that 01 demands
 unfoldable pub plainAfter : ℕ → ℕ → Plain → List Call → Plain
@@ -71,6 +72,8 @@ pub record InOrder (l : Plain) (q : Packet) (t : Target) : Type 0 where
   pub fit : fits (incomingOf q) receive ≡ true
   pub first : (j : ℕ) (r : Receive) → entryAt (l .entries) j .role ≡ waiting r → fits (incomingOf q) r ≡ true
       → entryAt (l .entries) (t .index) .serial ≤ entryAt (l .entries) j .serial
+  -- the receive opened is the one that waited
+  pub opens : (o : Inbound) → t .entry .role ≡ receiving o → o .receive ≡ receive
 
 -- the answer takes the packet: it accepts its segment, or truncates its message
 abbrev pub takes : Answer → Bool
@@ -83,6 +86,17 @@ takes (Answer.Done slot id n cq) = true
 takes (Answer.Truncated slot id n) = true
 takes (Answer.Missing c o) = false
 
+-- the answer comes with a CTS
+abbrev pub isGrant : Answer → Bool
+isGrant (Answer.Refused k) = false
+isGrant (Answer.Posted i) = false
+isGrant (Answer.Cancelled i) = false
+isGrant Answer.Stored = false
+isGrant (Answer.Granted n) = true
+isGrant (Answer.Done slot id n cq) = false
+isGrant (Answer.Truncated slot id n) = false
+isGrant (Answer.Missing c o) = false
+
 -- "messages are matched in message order to the oldest fitting receive"
 unfoldable pub MatchedInOrder : Type 0
 MatchedInOrder =
@@ -91,6 +105,37 @@ MatchedInOrder =
     → takes (expected area limit (history area limit calls) (packet bs room)) ≡ true
     → targetOfCall limit (history area limit calls) (packet bs room) .matched ≡ true
     → InOrder (history area limit calls) q (targetOfCall limit (history area limit calls) (packet bs room))
+
+-- ---- truncated
+
+-- "Length above capacity: answer truncated (slot, id, length)"
+pub record Truncates (l : Plain) (q : Packet) (t : Target) (slot id n : ℕ) : Type 0 where
+  pub order : InOrder l q t
+  pub slotIs : slot ≡ t .index
+  pub idIs : id ≡ incomingOf q .id
+  pub lengthIs : n ≡ incomingOf q .length
+  pub above : order .receive .capacity < n
+
+-- and only then: a message that is accepted into the oldest fitting receive is no longer than its capacity
+pub record HasRoom (l : Plain) (q : Packet) (t : Target) : Type 0 where
+  pub roomy : (m : t .matched ≡ true) (i : InOrder l q t) → incomingOf q .length ≤ i .receive .capacity
+
+abbrev pub TruncateClaim : Plain → Packet → Target → Answer → Type 0
+TruncateClaim l q t (Answer.Refused k) = Unit {0}
+TruncateClaim l q t (Answer.Posted i) = Unit {0}
+TruncateClaim l q t (Answer.Cancelled i) = Unit {0}
+TruncateClaim l q t Answer.Stored = HasRoom l q t
+TruncateClaim l q t (Answer.Granted n) = HasRoom l q t
+TruncateClaim l q t (Answer.Done slot id n cq) = HasRoom l q t
+TruncateClaim l q t (Answer.Truncated slot id n) = Truncates l q t slot id n
+TruncateClaim l q t (Answer.Missing c o) = Unit {0}
+
+unfoldable pub TruncatedAboveCapacity : Type 0
+TruncatedAboveCapacity =
+    (area limit : ℕ) (calls : List Call) (bs : List ℕ) (room : ℕ) (q : Packet)
+    → readOf false limit bs ≡ Read.Packet q
+    → TruncateClaim (history area limit calls) q (targetOfCall limit (history area limit calls) (packet bs room))
+    (expected area limit (history area limit calls) (packet bs room))
 
 -- ---- once
 
@@ -108,12 +153,27 @@ isDone t (Answer.Missing c o) = false
 abbrev pub isMatch : Target → Answer → Bool
 isMatch t a = pick (takes a) (t .matched) false
 
--- the receives, each by the number of posts before it, that the answers of a history name by t, in order
-unfoldable pub receivesOf : (Target → Answer → Bool) → ℕ → ℕ → Plain → List Call → List ℕ
-receivesOf named area limit l [] = []
-receivesOf named area limit l (c ∷ cs) =
-    let rest : List ℕ = receivesOf named area limit (enter limit l c (expected area limit l c)) cs in
-    pick (named (targetOfCall limit l c) (expected area limit l c)) (entryAt (l .entries) (targetOfCall limit l c .index) .serial ∷ rest) rest
+-- the answers that 01 demands of a list of calls after the history l
+unfoldable pub answersOf : ℕ → ℕ → Plain → List Call → List Answer
+answersOf area limit l [] = []
+answersOf area limit l (c ∷ cs) = expected area limit l c ∷ answersOf area limit (enter limit l c (expected area limit l c)) cs
+
+-- a number of each call of a list that its answer names, in order, by the history l before it
+unfoldable pub numbersOf : (Target → Answer → Bool) → (Plain → Target → Call → ℕ) → ℕ → Plain → List Call → List Answer → List ℕ
+numbersOf named number limit l [] answers = []
+numbersOf named number limit l (c ∷ cs) [] = []
+numbersOf named number limit l (c ∷ cs) (a ∷ answers) =
+    pick (named (targetOfCall limit l c) a)
+    (number l (targetOfCall limit l c) c ∷ numbersOf named number limit (enter limit l c a) cs answers)
+    (numbersOf named number limit (enter limit l c a) cs answers)
+
+-- a receive, by the number of posts before it
+abbrev pub receiveAt : Plain → Target → Call → ℕ
+receiveAt l t c = entryAt (l .entries) (t .index) .serial
+
+-- the receives that the answers name
+abbrev pub receivesOf : (Target → Answer → Bool) → ℕ → Plain → List Call → List Answer → List ℕ
+receivesOf named limit l cs answers = numbersOf named receiveAt limit l cs answers
 
 -- no number stands at two places
 abbrev pub Distinct : List ℕ → Type 0
@@ -123,7 +183,41 @@ Distinct ns = (i j : ℕ) → i < length ns → j < length ns → getD ns i 0 �
 unfoldable pub Once : Type 0
 Once =
     (area limit : ℕ) (calls : List Call)
-    → Distinct (receivesOf isMatch area limit freshPlain calls) × Distinct (receivesOf isDone area limit freshPlain calls)
+    → Distinct (receivesOf isMatch limit freshPlain calls (answersOf area limit freshPlain calls))
+    × Distinct (receivesOf isDone limit freshPlain calls (answersOf area limit freshPlain calls))
+
+-- ---- the k-th message
+
+-- the id of an RTM, in its bytes: "msg_id 4"
+abbrev pub idAt : Plain → Target → Call → ℕ
+idAt l t (post r) = 0
+idAt l t (packet bs room) = leAt 4 bs 4
+idAt l t (cancel i) = 0
+idAt l t (report i) = 0
+
+-- the ids of the messages that are matched, truncated ones too, in the order of their matches
+abbrev pub idsOf : ℕ → Plain → List Call → List Answer → List ℕ
+idsOf limit l cs answers = numbersOf isMatch idAt limit l cs answers
+
+-- what is lent to be read are bytes
+abbrev pub AreBytes : Call → Type 0
+AreBytes (post r) = Unit {0}
+AreBytes (packet bs room) = (i : ℕ) → getD bs i 0 < 256
+AreBytes (cancel i) = Unit {0}
+AreBytes (report i) = Unit {0}
+
+abbrev pub AllBytes : List Call → Type 0
+AllBytes [] = Unit {0}
+AllBytes (c ∷ cs) = AreBytes c × AllBytes cs
+
+-- number k of the list is k mod 2^32
+abbrev pub CountsUp : List ℕ → Type 0
+CountsUp ns = (k : ℕ) → k < length ns → getD ns k 0 ≡ k % 2 ^ 32
+
+-- "in message order": the k-th message that a peer matches, from 0 on, has the id k mod 2^32
+unfoldable pub MatchedByCount : Type 0
+MatchedByCount =
+    (area limit : ℕ) (calls : List Call) → AllBytes calls → CountsUp (idsOf limit freshPlain calls (answersOf area limit freshPlain calls))
 
 -- ---- the bytes of a done message
 

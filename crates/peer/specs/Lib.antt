@@ -13,3 +13,11 @@ pub mod Claims
 pub mod Starts
 pub mod Refusing
 pub mod InWords
+pub mod Origins
+pub mod View
+pub mod CannotBe
+pub mod Firsts
+pub mod PacketBytes
+pub mod Checks
+pub mod SlotMoves
+pub mod Moves

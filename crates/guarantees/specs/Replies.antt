@@ -1,0 +1,23 @@
+-- The reply buffer (01: "gets a CTS in the first 24 reply bytes (flags and multiuse 0, rest untouched) and answers granted; no other answer
+-- touches the reply buffer"), for every world and every call. What the CTS says: `reply` of Delivered in Delivery. Proved in
+-- proofs/Replied.antt.
+use Prim.Native.Nat.{ℕ, _≤_}
+use lib.ListN.{length, drop}
+use mathlib.Core.Bool.{true, false}
+use mathlib.Core.Path.{_≡_}
+use Rattle.engine.specs.Steps.{World}
+use Rattle.guarantees.specs.Runs.{Request, bufferAfter, bufferOf, turnOf}
+use Rattle.peer.specs.Claims.{isGrant}
+
+-- "no other answer touches the reply buffer"
+unfoldable pub ReplyUntouched : Type 0
+ReplyUntouched = (w : World) (q : Request) → isGrant (turnOf w q .answer) ≡ false → bufferAfter w q ≡ bufferOf (q .act)
+
+-- "in the first 24 reply bytes .., rest untouched"
+pub record RestKept (w : World) (q : Request) : Type 0 where
+  pub room : 24 ≤ length (bufferOf (q .act))
+  pub size : length (bufferAfter w q) ≡ length (bufferOf (q .act))
+  pub rest : drop 24 (bufferAfter w q) ≡ drop 24 (bufferOf (q .act))
+
+unfoldable pub RestUntouched : Type 0
+RestUntouched = (w : World) (q : Request) → isGrant (turnOf w q .answer) ≡ true → RestKept w q

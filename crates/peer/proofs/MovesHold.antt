@@ -1,0 +1,278 @@
+-- Each answer of a peer's call leaves what 01 says: the statement of specs/Moves.antt.
+use Prim.Native.Nat.{ℕ, _+_, _*_, _%_, _≤_, _<_}
+use borrow.Author.Tests.{leb-false}
+use lib.ListN.{length, drop}
+use mathlib.Core.Bool.{false}
+use mathlib.Core.List.{List}
+use mathlib.Core.Logic.{_⊎_, inl, inr}
+use mathlib.Core.Path.{_≡_, refl, sym, ap, _∙_}
+use native.Mathlib.Omega.{arith}
+use Rattle.bitmap.specs.Map.{cleared, marked}
+use Rattle.protocol.specs.InWords.{headIn}
+use Rattle.protocol.specs.Reading.{readOf}
+use Rattle.protocol.specs.Values.{bytesAt}
+use Rattle.protocol.specs.declared.types.Packet.{Packet}
+use Rattle.protocol.specs.declared.types.Read.{Read}
+use Rattle.protocol.specs.declared.types.Refusal.{Refusal}
+use Rattle.peer.specs.Calls.{Call, cancel, cancelAt, cancelEffect, missingIn, packet, packetEffect, peerStep, placedIn, post, postEffect, readEffect, report, reportAt, reportEffect}
+use Rattle.peer.specs.Effects.{Effect, accept, begun, carry, extended, grantOf, landed, opened, progressOf, refuse, settledAs, truncatedAt}
+use Rattle.peer.specs.Formed.{Formed}
+use Rattle.peer.specs.Incomings.{incomingOf}
+use Rattle.peer.specs.Judging.{judge}
+use Rattle.peer.specs.Matching.{vacancy}
+use Rattle.peer.specs.Moves.{Beginning, GoingOn, Moved, MovesAreAsSaid}
+use Rattle.peer.specs.Numbers.{badSlot, noSlot, outsideArea, overlaps, shortReply}
+use Rattle.peer.specs.PacketBytes.{offsetIn}
+use Rattle.peer.specs.State.{phaseAt, slotCount}
+use Rattle.peer.specs.View.{roleOf}
+use Rattle.peer.specs.declared.types.Answer.{Answer}
+use Rattle.peer.specs.declared.types.Inbound.{Inbound}
+use Rattle.peer.specs.declared.types.Incoming.{Incoming}
+use Rattle.peer.specs.declared.types.Peer.{Peer}
+use Rattle.peer.specs.declared.types.Phase.{Phase}
+use Rattle.peer.specs.declared.types.Progress.{Progress}
+use Rattle.peer.specs.declared.types.Receive.{Receive}
+use Rattle.peer.specs.declared.types.Vacancy.{Vacancy}
+use Rattle.peer.specs.declared.types.Verdict.{Verdict}
+use Rattle.bitmap.proofs.BitLaws.{length-cleared, length-marked}
+use Rattle.laws.proofs.Choosing.{branch}
+use Rattle.peer.proofs.BitMoves.{Reached, count-listed, first-lowest, match-marked, more-marked, reached}
+use Rattle.peer.proofs.BytesHold.{Says, bytes-told, read-says}
+use Rattle.peer.proofs.Kept.{Standing, begun-standing, continued-standing}
+use Rattle.peer.proofs.OriginsHold.{begun-by}
+use Rattle.peer.proofs.PacketsRead.{read-formed}
+use Rattle.peer.proofs.SlotMovesHold.{free-moves, matching, placed-moves, quiet-lent, set-now, set-only, truncated-moves}
+use Rattle.peer.proofs.Slots.{found-open}
+use Rattle.peer.proofs.Valid.{Valid, fits-valid}
+use Rattle.peer.proofs.Verdicts.{Begins, Continues, Judged, chosen-at, continued-at, judged}
+
+refused-moves : (limit : ℕ) (p : Peer) (ws : List ℕ) (c : Call) (k : Refusal) → Moved limit p ws c (refuse p ws k) (Answer.Refused k)
+refused-moves limit p ws c k = record { peer = refl; lent = quiet-lent p ws (Answer.Refused k) }
+
+module _ (limit : ℕ) (p : Peer) (ws : List ℕ) (eight : length (p .slots) ≡ 8) where
+  post-moves : (r : Receive) (y : Vacancy) → vacancy 0 (p .slots) ≡ y → Moved limit p ws (post r) (placedIn p ws r y) (placedIn p ws r y .answer)
+  unfolding placedIn
+  post-moves r Vacancy.Full e = refused-moves limit p ws (post r) noSlot
+  post-moves r (Vacancy.Slot i) e = (r, refl, placed-moves p ws eight r i e)
+
+  cancel-moves : (i : ℕ) → i < length (p .slots) → (f : Phase) → phaseAt (p .slots) i ≡ f
+      → Moved limit p ws (cancel i) (cancelAt p ws i f) (cancelAt p ws i f .answer)
+  unfolding cancelAt
+  cancel-moves i l Phase.Free e = refused-moves limit p ws (cancel i) badSlot
+  cancel-moves i l (Phase.Posted r a) e =
+      (refl, free-moves p ws eight i l (λ x. let y = sym (ap roleOf e) ∙ x in let z : _≡_ {A = ℕ} 0 1 = cc in omega arith))
+  cancel-moves i l (Phase.Open o) e =
+      (refl, free-moves p ws eight i l (λ x. let y = sym (ap roleOf e) ∙ x in let z : _≡_ {A = ℕ} 0 1 = cc in omega arith))
+
+  report-moves : (i : ℕ) (f : Phase) → phaseAt (p .slots) i ≡ f → Moved limit p ws (report i) (reportAt p ws f) (reportAt p ws f .answer)
+  unfolding reportAt
+  report-moves i Phase.Free e = refused-moves limit p ws (report i) badSlot
+  report-moves i (Phase.Posted r a) e = refused-moves limit p ws (report i) badSlot
+  report-moves i (Phase.Open o) e =
+      let (os, fall, each, count) = count-listed ws (o .receive .start) (o .message .length) in
+      let (below, before, at) = first-lowest ws (o .receive .start) (o .message .length) in (
+        i,
+        refl,
+        record {
+          message = o;
+          receives = ap roleOf e;
+          unmoved = record { peer = refl; lent = quiet-lent p ws (missingIn ws o) };
+          offsets = os;
+          once = fall;
+          each = each;
+          count = count;
+          inLength = below;
+          before = before;
+          lowest = at;
+        },
+      )
+
+  -- ---- an accepted segment
+
+  module _ (bs : List ℕ) (room i : ℕ) (o : Inbound) (n at : ℕ) (now bytes : List ℕ) (inside : i < length (p .slots))
+      (how : Beginning p ws bs i o n now ⊎ GoingOn p ws bs i o n now) (words : length now ≡ length ws) (place : at ≡ o .receive .start + offsetIn bs)
+      (content : bytes ≡ drop (headIn bs) bs) where
+    abbrev q : Peer
+    q = record { next = n; slots = p .slots }
+
+    abbrev Landed : Progress → Effect
+    Landed g = landed now at bytes (settledAs limit q i o g)
+
+    settled-moves : (g : Progress) → Reached now o g → Moved limit p ws (packet bs room) (Landed g) (Landed g .answer)
+    unfolding settledAs grantOf
+    settled-moves Progress.Whole w = (
+      o,
+      record {
+        taking = record {
+          text = bs;
+          room = room;
+          call = refl;
+          how = how;
+          only = set-only p eight i inside Phase.Free n;
+          words = words;
+          place = place;
+          content = content;
+        };
+        now = set-now p eight i inside Phase.Free;
+        idIs = refl;
+        lengthIs = refl;
+        cqIs = refl;
+        whole = w;
+        reply = refl;
+      },
+    )
+    settled-moves Progress.Due w = (
+      i,
+      o,
+      record {
+        taking = record {
+          text = bs;
+          room = room;
+          call = refl;
+          how = how;
+          only = set-only p eight i inside (Phase.Open (extended (grantOf limit (o .message)) o)) n;
+          words = words;
+          place = place;
+          content = content;
+        };
+        message = extended (grantOf limit (o .message)) o;
+        now = set-now p eight i inside (Phase.Open (extended (grantOf limit (o .message)) o));
+        more = record {
+          receive = refl;
+          kind = refl;
+          id = refl;
+          tag = refl;
+          size = refl;
+          granted = refl;
+          sendId = refl;
+          request = refl;
+          cqData = refl;
+        };
+        amount = refl;
+        long = w .0;
+        allIn = w .1;
+        remains = w .2;
+      },
+    )
+    settled-moves Progress.Partial w = (
+      i,
+      o,
+      record {
+        taking = record {
+          text = bs;
+          room = room;
+          call = refl;
+          how = how;
+          only = set-only p eight i inside (Phase.Open o) n;
+          words = words;
+          place = place;
+          content = content;
+        };
+        now = set-now p eight i inside (Phase.Open o);
+        missing = w .0;
+        waits = w .1;
+        reply = refl;
+      },
+    )
+
+  -- ---- a packet that was read
+
+  module _ (area : ℕ) (v : Valid area (p .slots)) (cover : area ≤ 64 * length ws) (bs : List ℕ) (room : ℕ) (q : Packet)
+      (e : readOf false limit bs ≡ Read.Packet q) where
+    abbrev h : Incoming
+    h = incomingOf q
+
+    abbrev bytes : List ℕ
+    bytes = bytesAt bs (q .«data»)
+
+    says : Says bs (incomingOf q)
+    says = read-says limit bs q e
+
+    form : Formed (incomingOf q) (length (bytesAt bs (q .«data»)))
+    form = read-formed limit bs q e
+
+    begun-moves : (i : ℕ) (r : Receive) → Begins p h i r → Moved limit p ws (packet bs room) (begun limit p ws i r h bytes) (begun limit p ws i r h bytes .answer)
+    unfolding begun accept
+    begun-moves i r b =
+        settled-moves bs room i (opened r h) ((p .next + 1) % 4294967296) (r .start + h .offset) now bytes (chosen-at p h i r (b .matched) .0)
+        (inl (record {
+          matched = matching p ws eight bs h says i r (b .matched);
+          message = begun-by limit bs q e (b .matched .rtm) r;
+          granted = says .size;
+          fitting = b .inCapacity;
+          moves = refl;
+          bits = match-marked ws bs r (r .start + h .offset) (length bytes) (ap (λ (x : ℕ). r .start + x) (says .offset)) (sym (form .size) ∙ says .size)
+              (omega (arith, form .size, form .inside (b .matched .rtm), b .inCapacity))
+              (omega (arith, s .within .inArea));
+        }))
+        (length-marked mid (r .start + h .offset) (length bytes) ∙ length-cleared ws (r .start) (r .capacity)) (ap (λ (x : ℕ). r .start + x) (says .offset))
+        (bytes-told limit bs q e .rest) (progressOf now (opened r h)) (reached now (opened r h))
+      where
+        s : Standing area (p .slots) i (opened r h)
+        s = begun-standing area p h (length bytes) i r v form b
+
+        mid : List ℕ
+        mid = cleared ws (r .start) (r .capacity)
+
+        now : List ℕ
+        now = marked mid (r .start + h .offset) (length bytes)
+
+    more-moves : (i : ℕ) (o : Inbound) → Continues p ws h i o
+        → Moved limit p ws (packet bs room) (accept limit p ws i o (h .offset) bytes) (accept limit p ws i o (h .offset) bytes .answer)
+    unfolding accept
+    more-moves i o c =
+        settled-moves bs room i o (p .next) (o .receive .start + h .offset) now bytes (continued-at p ws h i o c .0)
+        (inr (record {
+          receives = ap roleOf (continued-at p ws h i o c .1);
+          id = found-open (h .id) 0 (p .slots) i o (c .found) .1 ∙ says .id;
+          stays = refl;
+          bits = more-marked ws bs (o .receive) (o .receive .start + h .offset) (length bytes) (ap (λ (x : ℕ). o .receive .start + x) (says .offset))
+              (sym (form .size) ∙ says .size)
+              (omega (arith, form .size, c .inLength, s .within .inRange, s .within .inArea));
+        }))
+        (length-marked ws (o .receive .start + h .offset) (length bytes)) (ap (λ (x : ℕ). o .receive .start + x) (says .offset))
+        (bytes-told limit bs q e .rest) (progressOf now o) (reached now o)
+      where
+        s : Standing area (p .slots) i o
+        s = continued-standing area p ws h i o v c
+
+        now : List ℕ
+        now = marked ws (o .receive .start + h .offset) (length bytes)
+
+    carried-moves : (d : Verdict) → Judged p ws h d → Moved limit p ws (packet bs room) (carry limit p ws h bytes d) (carry limit p ws h bytes d .answer)
+    unfolding carry
+    carried-moves (Verdict.Refuse k) j = refused-moves limit p ws (packet bs room) k
+    carried-moves (Verdict.Truncate i) j = unfold truncatedAt in truncated-moves p ws eight bs h says room i j
+    carried-moves (Verdict.Begin i r) j = begun-moves i r j
+    carried-moves (Verdict.More i o) j = more-moves i o j
+
+-- ---- every call
+
+pub moves-are-as-said : MovesAreAsSaid
+unfolding MovesAreAsSaid peerStep postEffect packetEffect readEffect cancelEffect reportEffect
+moves-are-as-said area limit p ws (post r) fit eight words =
+    branch P _ _ _ (λ x. refused-moves limit p ws (post r) outsideArea) (λ x.
+    branch P _ _ _ (λ y. refused-moves limit p ws (post r) overlaps) (λ y. post-moves limit p ws eight r (vacancy 0 (p .slots)) refl))
+  where
+    P : Effect → Type 0
+    P f = Moved limit p ws (post r) f (f .answer)
+moves-are-as-said area limit p ws (packet bs room) fit eight words =
+    branch P _ _ _ (λ x. refused-moves limit p ws (packet bs room) shortReply) (λ x. read (readOf false limit bs) refl)
+  where
+    P : Effect → Type 0
+    P f = Moved limit p ws (packet bs room) f (f .answer)
+
+    v : Valid area (p .slots)
+    v = fits-valid area p fit
+
+    read : (d : Read) → readOf false limit bs ≡ d → P (readEffect limit p ws bs d)
+    read (Read.Refused k) e = refused-moves limit p ws (packet bs room) k
+    read (Read.Packet q) e =
+        carried-moves limit p ws eight area v words bs room q e (judge p ws (incomingOf q))
+        (judged area p ws (incomingOf q) (length (bytesAt bs (q .«data»))) v (read-formed limit bs q e))
+moves-are-as-said area limit p ws (cancel i) fit eight words =
+    branch (λ (f : Effect). Moved limit p ws (cancel i) f (f .answer)) _ _ _ (λ x. refused-moves limit p ws (cancel i) badSlot)
+    (λ x. cancel-moves limit p ws eight i (omega (arith, leb-false slotCount i x)) (phaseAt (p .slots) i) refl)
+moves-are-as-said area limit p ws (report i) fit eight words =
+    branch (λ (f : Effect). Moved limit p ws (report i) f (f .answer)) _ _ _ (λ x. refused-moves limit p ws (report i) badSlot)
+    (λ x. report-moves limit p ws eight i (phaseAt (p .slots) i) refl)
