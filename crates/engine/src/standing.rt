@@ -4,7 +4,6 @@ use crate::checks;
 use crate::types::Engine;
 use crate::types::Gate;
 ghost use mathlib.Core.Path.{_≡_};
-ghost use mathlib.Core.Bool.{_&&_};
 ghost use Rattle.engine.specs.Gates.{gateOf};
 ghost use Rattle.engine.specs.SetUp.{engineFits, numbersFit};
 
@@ -24,22 +23,11 @@ pub fn fits(engine: Engine) -> bool
     good
 }
 
-// Whether a call of a peer goes through, by whether the state can be, the set-up numbers and the
-// lengths of arena and map.
-pub fn admit(
-    good: bool,
-    n: usize,
-    area: usize,
-    limit: usize,
-    arena: usize,
-    map: usize,
-    peer: usize,
-) -> Gate
-    ensures { λ r. ⌜ r ≡ gateOf (good && numbersFit n area limit) n area arena map peer ⌝ }
+// Whether a call of a peer goes through, by the set-up numbers, the lengths of arena and map and the
+// peer's number alone: of the state it says nothing.
+pub fn admit(n: usize, area: usize, limit: usize, arena: usize, map: usize, peer: usize) -> Gate
+    ensures { λ r. ⌜ r ≡ gateOf (numbersFit n area limit) n area arena map peer ⌝ }
 {
-    if !good {
-        return checks::gate(false, n, area, arena, map, peer);
-    }
     let numbers = checks::numbers_fit(n, area, limit);
     checks::gate(numbers, n, area, arena, map, peer)
 }

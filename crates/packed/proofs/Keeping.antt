@@ -1,6 +1,5 @@
--- A run and a set-up with the state's words around them.
+-- A run with the state's words around it.
 use Prim.Native.Nat.{ℕ, _+_, _*_, _≤_, _<_}
-use borrow.Author.Tests.{eq-eqb, ne-eqb}
 use lib.ListN.{length, length-replicate, List·getD-eq-default}
 use mathlib.Core.Bool.{true, false}
 use mathlib.Core.List.{List}
@@ -8,20 +7,18 @@ use mathlib.Core.Path.{_≡_, sym, ap, _∙_}
 use native.Mathlib.Decide.{decLt, ℕ-discrete}
 use native.Mathlib.Omega.{arith}
 use Rattle.laws.proofs.Choosing.{clashing, pick-either, pick-false, pick-true}
-use Rattle.protocol.specs.declared.types.Refusal.{Refusal}
 use Rattle.peer.specs.State.{freeSlot, freshPeer, slotCount}
 use Rattle.peer.specs.declared.types.Peer.{Peer}
 use Rattle.engine.specs.Left.{world}
-use Rattle.engine.specs.SetUp.{Prepared, badSetUp, engineOf, peerAt, peerCount, setUp}
-use Rattle.engine.specs.declared.types.Ready.{Ready}
+use Rattle.engine.specs.SetUp.{engineOf, peerAt, peerCount}
 use Rattle.state_words.specs.Flat.{tabulate}
 use Rattle.state_words.specs.Loading.{engineIn, isState, peerIn, stateAfter, stateOf}
 use Rattle.state_words.specs.Saving.{engineWords, peerSize, stateSize}
 use Rattle.state_words.specs.declared.types.Loaded.{Loaded}
 use Rattle.state_words.proofs.FlatLaws.{getD-tabulate, length-tabulate}
 use Rattle.state_words.proofs.Sizes.{not-state}
-use Rattle.packed.specs.Running.{Eights, Kept, Left, ranFrom, runOf}
-use Rattle.packed.specs.Starting.{startOf, startedAs}
+use Rattle.packed.specs.Running.{Kept, Left, ranFrom, runOf}
+use Rattle.engine.specs.InWords.{Eights}
 
 -- ---- the engine of a state's words
 
@@ -81,23 +78,3 @@ module _ (state arena map calls bytes replies answers : List ℕ) (d : Loaded) (
       let s : isState state ≡ false = sym (ap (λ (d : Loaded). d .whole) e) ∙ t in
       ap (keepWith state) ran
       ∙ ap (λ (w : List ℕ). keepWith w (ranFrom (world (stateOf state) arena map) calls bytes replies answers)) (sym (pick-false _ _ s))
-
--- ---- a set-up
-
-module _ (n area limit arena : ℕ) (map state : List ℕ) where
-  pub start-short : (length state ≡ stateSize → ⊥) → record { refusal = badSetUp .number; map = map; state = state } ≡ startOf n area limit arena map state
-  unfolding startOf
-  start-short h = sym (pick-false _ _ (ne-eqb (length state) stateSize h))
-
-  module _ (h : length state ≡ stateSize) (p : Prepared) (e : p ≡ setUp n area limit arena map) where
-    started : startedAs state p (p .started .answer) ≡ startOf n area limit arena map state
-    unfolding startOf
-    started = ap (λ (p : Prepared). startedAs state p (p .started .answer)) e ∙ sym (pick-true _ _ (eq-eqb (length state) stateSize h))
-
-    pub start-refused : (k : Refusal) → p .started .answer ≡ Ready.Refused k
-        → record { refusal = k .number; map = p .map; state = state } ≡ startOf n area limit arena map state
-    start-refused k z = rw z at started
-
-    pub start-ready : p .started .answer ≡ Ready.Ready
-        → record { refusal = 0; map = p .map; state = engineWords (p .started .engine) } ≡ startOf n area limit arena map state
-    start-ready z = rw z at started

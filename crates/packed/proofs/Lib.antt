@@ -3,4 +3,7 @@ pub mod DecodeLaws
 pub mod RunLaws
 pub mod Standing
 pub mod Going
+pub mod SettingUp
+pub mod Holding
+pub mod AsOneRun
 pub mod Keeping

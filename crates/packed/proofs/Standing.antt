@@ -15,9 +15,10 @@ use Rattle.engine.specs.Steps.{World, callTurn, refusedTurn}
 use Rattle.engine.specs.declared.types.Engine.{Engine}
 use Rattle.engine.specs.declared.types.Gate.{Gate}
 use Rattle.engine.proofs.Walking.{Passed, fit-numbers, fit-peer, gate-open, opened, small, through}
+use Rattle.engine.proofs.WordsHold.{checked-good}
 use Rattle.engine.proofs.Worlds.{Good, good-called, good-fits}
 use Rattle.protocol.specs.declared.types.Refusal.{Refusal}
-use Rattle.packed.specs.Running.{Eights}
+use Rattle.engine.specs.InWords.{Eights}
 
 pub record Standing (good : Bool) (e : Engine) : Type 0 where
   pub eights : Eights e
@@ -52,16 +53,7 @@ module _ {good : Bool} (w : World) (p : ℕ) (s : Standing good (w .engine)) (g 
     standing-in-peers = omega (arith, standing-passed .peer, few, s .eights .peers)
 
     pub standing-good : Good w
-    standing-good =
-        let o = standing-passed in
-        let state : engineFits (w .engine) ≡ true = s .state ∙ o .state in
-        record {
-          numbers = fit-numbers (w .engine) state;
-          lent = o .lent;
-          peers = s .eights .peers;
-          each = λ q h. fits-valid (w .engine .area) (peerAt (w .engine) q) (fit-peer (w .engine) q freshPeer state h (omega (arith, s .eights .peers, few)));
-          slots = s .eights .slots;
-        }
+    standing-good = checked-good w (s .eights) (s .state ∙ standing-passed .state) (standing-passed .lent)
 
     -- the check would say the same of what the call leaves
     pub standing-turn : (c : Call) → Standing good (callTurn w p c .world .engine)

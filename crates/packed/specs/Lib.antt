@@ -3,3 +3,4 @@ pub mod Answers
 pub mod Steps
 pub mod Running
 pub mod Starting
+pub mod Whole

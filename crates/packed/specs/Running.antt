@@ -1,12 +1,8 @@
 -- A run of packed calls: the calls that the words say, run as `guarantees` defines a run, and what is left of all that is lent.
-use Prim.Native.Nat.{ℕ, zero, suc, _+_, _/_, _<_, min}
+use Prim.Native.Nat.{ℕ, zero, suc, _+_, _/_, min}
 use mathlib.Core.List.{List, [], _∷_, _++_}
 use lib.ListN.{length}
-use mathlib.Core.Path.{_≡_}
 use Rattle.laws.specs.Parts.{part, storeAt}
-use Rattle.peer.specs.State.{slotCount}
-use Rattle.engine.specs.declared.types.Engine.{Engine}
-use Rattle.engine.specs.SetUp.{peerAt, peerCount}
 use Rattle.engine.specs.Left.{world}
 use Rattle.engine.specs.Steps.{World}
 use Rattle.guarantees.specs.Runs.{Act, Request, turnOf, worldAfter}
@@ -66,11 +62,6 @@ module _ (bytes replies : List ℕ) where
       repliesAfter (turnOf w (requestOf bytes replies c) .world) (storeAt now (placeOf c) (turnOf w (requestOf bytes replies c) .reply)) cs
 
 -- ---- the run
-
--- an engine as the code holds it: eight peers, and each in use has eight slots
-pub record Eights (e : Engine) : Type 0 where
-  pub peers : length (e .peers) ≡ peerCount
-  pub slots : (p : ℕ) → p < e .n → length (peerAt e p .slots) ≡ slotCount
 
 -- the engine and the number of calls, and what is left of what is lent
 pub record Left : Type 0 where

@@ -2,6 +2,7 @@
 // eight words.
 mod answers;
 mod calls;
+mod gates;
 mod running;
 mod starting;
 mod types;

@@ -2,6 +2,7 @@
 // once: a call of an engine whose state can be leaves one whose state can be.
 use crate::answers;
 use crate::calls;
+use crate::gates;
 use crate::types::Call;
 use crate::types::Found;
 use crate::types::Ran;
@@ -19,7 +20,8 @@ ghost use Rattle.lending.specs.Lending.{Owned};
 ghost use Rattle.engine.specs.Left.{world};
 ghost use Rattle.guarantees.specs.Runs.{callOf};
 ghost use Rattle.packed.specs.Calls.{Inside};
-ghost use Rattle.packed.specs.Running.{actOf, placeOf, budgetOf, ranFrom, runOf, Eights};
+ghost use Rattle.packed.specs.Running.{actOf, placeOf, budgetOf, ranFrom, runOf};
+ghost use Rattle.engine.specs.InWords.{Eights};
 ghost use Rattle.packed.specs.Steps.{leavesAt};
 
 // One call of peer p, whose gate is open. Of arena and map only the peer's own part is lent on, and
@@ -99,7 +101,7 @@ fn run_calls(
                 let n = engine.n;
                 let area = engine.area;
                 let limit = engine.limit;
-                match engine::admit(good, n, area, limit, arena.len(), map.len(), p) {
+                match gates::admit(good, n, area, limit, arena.len(), map.len(), p) {
                     Gate::Shut(refusal) => {
                         let words = answers::answer_words(Answer::Refused(refusal));
                         words::put_words(answers, at, &words);

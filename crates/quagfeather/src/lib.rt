@@ -3,7 +3,8 @@
 // number of a refusal, a refusal leaves everything as it was.
 ghost use mathlib.Core.Path.{_≡_};
 ghost use lib.ListN.{length};
-ghost use Rattle.packet_words.specs.Values.{readInto, writeFrom};
+ghost use Rattle.packet_words.specs.Values.{readInto};
+ghost use Rattle.packet_words.specs.Writing.{writeFrom};
 ghost use Rattle.packed.specs.Running.{runOf};
 ghost use Rattle.packed.specs.Starting.{startOf};
 ghost use Rattle.replay.specs.Replaying.{replayOf};

@@ -86,7 +86,7 @@ phase-read w at (Phase.Open o) held s =
 module _ (w : List ℕ) (at : ℕ) (p : Peer) (held : PeerHeld p) (s : Stand w at (peerWords p)) where
   slot-read : (i : ℕ) → i < slotCount → phaseIn w (at + 1 + slotSize * i) ≡ phaseAt (p .slots) i
   slot-read i h =
-      let there = stand-each slotWords slotSize (p .slots) freeSlot (λ n q. length-slot (getD (p .slots) n freeSlot)) w (at + 1) (stand-rest w at (p .next) (flat slotWords (p .slots)) s) in
+      let there = stand-each slotWords slotSize (p .slots) freeSlot (λ n q. length-slot (getD (p .slots) n freeSlot)) w (at + 1) (stand-rest w at _ (flat slotWords (p .slots)) s) in
       phase-read w (at + 1 + slotSize * i) (phaseAt (p .slots) i) (held .messages i) (there i (omega (arith, held .slots)))
 
   peer-read : peerIn w at ≡ p
@@ -113,9 +113,11 @@ module _ (e : Engine) (held : Held e) where
       ap (λ (l : List Peer). record { peers = l; n = e .n; area = e .area; limit = e .limit })
       (tabulate-is (λ p. peerIn (engineWords e) (3 + peerSize * p)) peerCount (e .peers) freshPeer (held .peers) each-read)
 
+-- the words of such an engine are a state's
+pub saved-is-state : (e : Engine) → Held e → isState (engineWords e) ≡ true
+unfolding isState
+saved-is-state e held = let w = engineWords e in ap (λ (x : Engine). same w (engineWords x)) (engine-read e held) ∙ same-refl w
+
 pub loaded-again : LoadedAgain
-unfolding LoadedAgain isState stateOf
-loaded-again e held =
-    let w = engineWords e in
-    let again : isState w ≡ true = ap (λ (x : Engine). same w (engineWords x)) (engine-read e held) ∙ same-refl w in
-    pick-true (engineIn w) (engineOf 0 0 0) again ∙ engine-read e held
+unfolding LoadedAgain stateOf
+loaded-again e held = pick-true (engineIn (engineWords e)) (engineOf 0 0 0) (saved-is-state e held) ∙ engine-read e held

@@ -2,7 +2,7 @@
 use borrow.Author.Needs.{needs}
 use Rattle.packed.proofs.starting.set_up.Statement.{statement}
 use Rattle.packed.proofs.starting.set_up.Tie as tie
-use Rattle.packed.proofs.Keeping.{start-ready, start-refused, start-short}
+use Rattle.packed.proofs.SettingUp.{start-ready, start-refused, start-short}
 
 returns : tie.Need-returns
 returns c = start-short _ _ _ _ _ _ (c .if1 .taken)

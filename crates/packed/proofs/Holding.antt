@@ -1,0 +1,250 @@
+-- What a run's calls leave is an engine as the code holds it: numbers of fewer than 64 bits stay within their types, as they are read from
+-- bytes or counted modulo 2^32.
+use Prim.Native.Nat.{ℕ, zero, suc, _+_, _^_, _<_}
+use borrow.Author.Tests.{leb-true}
+use lib.Dec.{leb, lit<}
+use lib.ListN.{length, getD, set, replicate, length-set, length-replicate}
+use mathlib.Core.Bool.{false}
+use mathlib.Core.List.{List, [], _∷_}
+use mathlib.Core.Logic.{_⊎_, inl, inr, ⊎-elim}
+use mathlib.Core.Path.{_≡_, refl, sym, ap, _∙_, subst}
+use native.Mathlib.Decide.{decLt}
+use native.Mathlib.Nat.{mod-lt}
+use native.Mathlib.Omega.{arith}
+use Rattle.laws.proofs.Choosing.{branch, pick-either}
+use Rattle.laws.proofs.Storing.{part-all}
+use Rattle.protocol.specs.Layout.{Field}
+use Rattle.protocol.specs.Reading.{headerIn, packetIn, readOf}
+use Rattle.protocol.specs.Values.{bytesAt}
+use Rattle.protocol.specs.declared.types.Packet.{Packet}
+use Rattle.protocol.specs.declared.types.Read.{Read}
+use Rattle.protocol.proofs.Accepted.{as-read}
+use Rattle.protocol.proofs.ReadNumbers.{read-numbers}
+use Rattle.protocol.proofs.Served.{served-read}
+use Rattle.protocol.proofs.TableRule.{row-passes}
+use Rattle.peer.specs.Calls.{Call, cancelAt, cancelEffect, packetEffect, peerStep, placed, placedIn, postEffect, readEffect, renumbered, renumberedPhase, reportAt, reportEffect}
+use Rattle.peer.specs.Effects.{Effect, accept, advance, begun, carry, extended, grantOf, opened, settledAs, truncatedAt, withPhase}
+use Rattle.peer.specs.Incomings.{incomingOf}
+use Rattle.peer.specs.Judging.{judge}
+use Rattle.peer.specs.Matching.{vacancy}
+use Rattle.peer.specs.State.{freeSlot, freshPeer, phaseAt, slotCount, slotWith}
+use Rattle.peer.specs.declared.types.Inbound.{Inbound}
+use Rattle.peer.specs.declared.types.Incoming.{Incoming}
+use Rattle.peer.specs.declared.types.Peer.{Peer}
+use Rattle.peer.specs.declared.types.Phase.{Phase}
+use Rattle.peer.specs.declared.types.Progress.{Progress}
+use Rattle.peer.specs.declared.types.Slot.{Slot}
+use Rattle.peer.specs.declared.types.Vacancy.{Vacancy}
+use Rattle.peer.specs.declared.types.Verdict.{Verdict}
+use Rattle.peer.proofs.Ages.{length-renumbered, phase-renumbered}
+use Rattle.peer.proofs.PacketsRead.{read-formed}
+use Rattle.peer.proofs.Valid.{Valid}
+use Rattle.peer.proofs.Verdicts.{Judged, continued-at, judged}
+use Rattle.engine.specs.SetUp.{engineOf, peerAt, peerCount}
+use Rattle.engine.specs.Steps.{Turn, World, callTurn, putBack, wordsOf}
+use Rattle.engine.proofs.Worlds.{Good, good-called, sized, turn-none, turn-own}
+use Rattle.guarantees.specs.Runs.{callOf, turnOf, worldAfter}
+use Rattle.engine.proofs.WordsHold.{fresh-peer}
+use Rattle.state_words.specs.RoundTrip.{Held, MessageHeld, PeerHeld}
+use Rattle.packed.specs.Calls.{peerOf}
+use Rattle.packed.specs.Running.{actOf, requestsOf}
+use Rattle.packed.specs.declared.types.Call as packed
+
+-- what is at a place of a list after a store
+set-either : {A : Type 0} (l : List A) (i j : ℕ) (a d : A) → (getD (set l i a) j d ≡ a) ⊎ (getD (set l i a) j d ≡ getD l j d)
+set-either [] i j a d = inr refl
+set-either (x ∷ l) zero zero a d = inl refl
+set-either (x ∷ l) zero (suc j) a d = inr refl
+set-either (x ∷ l) (suc i) zero a d = inr refl
+set-either (x ∷ l) (suc i) (suc j) a d = set-either l i j a d
+
+-- ---- a peer
+
+abbrev PhaseHeld : Phase → Type 0
+PhaseHeld f = (o : Inbound) → f ≡ Phase.Open o → MessageHeld (o .message)
+
+free-held : PhaseHeld Phase.Free
+free-held o e = let z : _≡_ {A = ℕ} 0 1 = cc in absurd (omega arith)
+
+open-held : (o : Inbound) → MessageHeld (o .message) → PhaseHeld (Phase.Open o)
+open-held o m q e = let same : o ≡ q = cc in subst (λ (x : Inbound). MessageHeld (x .message)) same m
+
+put-held : (next : ℕ) (ss : List Slot) (i : ℕ) (f : Phase) → PeerHeld (record { next = next; slots = ss }) → PhaseHeld f
+    → PeerHeld (record { next = next; slots = set ss i (slotWith f) })
+put-held next ss i f h g =
+    record {
+      next = h .next;
+      slots = length-set ss i (slotWith f) ∙ h .slots;
+      messages = λ j o e.
+          ⊎-elim (λ x. g o (ap (λ (s : Slot). s .phase) (sym x) ∙ e)) (λ x. h .messages j o (ap (λ (s : Slot). s .phase) (sym x) ∙ e))
+          (set-either ss i j (slotWith f) freeSlot);
+    }
+
+with-held : (p : Peer) (i : ℕ) (f : Phase) → PeerHeld p → PhaseHeld f → PeerHeld (withPhase p i f)
+with-held p i f h g = put-held (p .next) (p .slots) i f h g
+
+advance-held : (p : Peer) → PeerHeld p → PeerHeld (advance p)
+advance-held p h = record { next = mod-lt (p .next + 1) (lit< tt); slots = h .slots; messages = h .messages }
+
+-- ---- a post
+
+renumbered-held : (all : List Slot) (f : Phase) → PhaseHeld f → PhaseHeld (renumberedPhase all f)
+renumbered-held all Phase.Free h = h
+renumbered-held all (Phase.Posted r a) h = λ o e. let z : _≡_ {A = ℕ} 0 1 = cc in absurd (omega arith)
+renumbered-held all (Phase.Open q) h = h
+
+placed-held : (p : Peer) (ws : List ℕ) (r : _) (y : Vacancy) → PeerHeld p → PeerHeld (placedIn p ws r y .peer)
+unfolding placedIn placed
+placed-held p ws r Vacancy.Full h = h
+placed-held p ws r (Vacancy.Slot i) h =
+    put-held (p .next) (renumbered (p .slots) (p .slots)) i _
+    (record {
+      next = h .next;
+      slots = length-renumbered (p .slots) (p .slots) ∙ h .slots;
+      messages = λ j o e.
+          renumbered-held (p .slots) (phaseAt (p .slots) j) (h .messages j) o (sym (phase-renumbered (p .slots) (p .slots) j) ∙ e);
+    })
+    (λ o e. let z : _≡_ {A = ℕ} 0 1 = cc in absurd (omega arith))
+
+-- ---- a packet
+
+-- what a packet says of its message
+pub record IncomingHeld (h : Incoming) : Type 0 where
+  pub kind : h .kind < 256
+  pub id : h .id < 2 ^ 32
+  pub sendId : h .«send_id» < 2 ^ 32
+  pub creditRequest : h .«credit_request» < 2 ^ 32
+
+read-held : (limit : ℕ) (bs : List ℕ) (q : Packet) → ((i : ℕ) → getD bs i 0 < 256) → readOf false limit bs ≡ Read.Packet q → IncomingHeld (incomingOf q)
+unfolding incomingOf
+read-held limit bs q b e =
+    let there = served-read limit bs q e in
+    let numbers = read-numbers bs b limit q there in
+    let (r, a, same) = as-read limit bs q there in
+    let kind : q .header .kind ≡ r .kind = unfold packetIn headerIn in ap (λ (x : Packet). x .header .kind) same in
+    let small = leb-true (r .kind) 255 (row-passes (λ x. leb (x .kind) 255) refl (getD bs 0 0) r (a .row)) in
+    record {
+      kind = omega arith;
+      id = pick-either (λ (n : ℕ). n < 2 ^ 32) _ (numbers .fields Field.msg-id) (numbers .fields Field.recv-id);
+      sendId = numbers .fields Field.send-id;
+      creditRequest = numbers .fields Field.credit-request;
+    }
+
+settled-held : (limit : ℕ) (p : Peer) (i : ℕ) (o : Inbound) (g : Progress) → PeerHeld p → MessageHeld (o .message) → PeerHeld (settledAs limit p i o g .peer)
+unfolding settledAs
+settled-held limit p i o Progress.Whole h m = with-held p i Phase.Free h free-held
+settled-held limit p i o Progress.Due h m =
+    let wider = extended (grantOf limit (o .message)) o in
+    with-held p i (Phase.Open wider) h
+    (open-held wider (record { kind = m .kind; id = m .id; sendId = m .sendId; creditRequest = m .creditRequest }))
+settled-held limit p i o Progress.Partial h m = with-held p i (Phase.Open o) h (open-held o m)
+
+carry-held : (limit : ℕ) (p : Peer) (ws : List ℕ) (h : Incoming) (bytes : List ℕ) (d : Verdict) → PeerHeld p → IncomingHeld h → Judged p ws h d
+    → PeerHeld (carry limit p ws h bytes d .peer)
+unfolding carry begun truncatedAt accept
+carry-held limit p ws h bytes (Verdict.Refuse k) x y j = x
+carry-held limit p ws h bytes (Verdict.Truncate i) x y j = advance-held (withPhase p i Phase.Free) (with-held p i Phase.Free x free-held)
+carry-held limit p ws h bytes (Verdict.Begin i r) x y j =
+    settled-held limit (advance p) i (opened r h) _ (advance-held p x)
+    (record { kind = y .kind; id = y .id; sendId = y .sendId; creditRequest = y .creditRequest })
+carry-held limit p ws h bytes (Verdict.More i o) x y j =
+    settled-held limit p i o _ x (x .messages i o (continued-at p ws h i o j .1))
+
+-- ---- every call
+
+-- a packet's bytes are bytes
+abbrev pub BytesOf : Call → Type 0
+BytesOf (Call.post r) = Unit {0}
+BytesOf (Call.packet bs room) = (i : ℕ) → getD bs i 0 < 256
+BytesOf (Call.cancel i) = Unit {0}
+BytesOf (Call.report i) = Unit {0}
+
+step-held : (area limit : ℕ) (p : Peer) (ws : List ℕ) (c : Call) → Valid area (p .slots) → PeerHeld p → BytesOf c
+    → PeerHeld (peerStep area limit p ws c .peer)
+unfolding peerStep postEffect packetEffect readEffect cancelEffect reportEffect
+step-held area limit p ws (Call.post r) v h b =
+    branch (λ (f : Effect). PeerHeld (f .peer)) _ _ _ (λ x. h) (λ x.
+    branch (λ (f : Effect). PeerHeld (f .peer)) _ _ _ (λ y. h) (λ y. placed-held p ws r (vacancy 0 (p .slots)) h))
+step-held area limit p ws (Call.packet bs room) v h b =
+    branch (λ (f : Effect). PeerHeld (f .peer)) _ _ _ (λ x. h) (λ x. read (readOf false limit bs) refl)
+  where
+    read : (d : Read) → readOf false limit bs ≡ d → PeerHeld (readEffect limit p ws bs d .peer)
+    read (Read.Refused k) x = h
+    read (Read.Packet q) x =
+        carry-held limit p ws (incomingOf q) (bytesAt bs (q .«data»)) (judge p ws (incomingOf q)) h (read-held limit bs q b x)
+        (judged area p ws (incomingOf q) (length (bytesAt bs (q .«data»))) v (read-formed limit bs q x))
+step-held area limit p ws (Call.cancel i) v h b =
+    branch (λ (f : Effect). PeerHeld (f .peer)) _ _ _ (λ x. h) (λ x. at (phaseAt (p .slots) i))
+  where
+    at : (f : Phase) → PeerHeld (cancelAt p ws i f .peer)
+    at Phase.Free = unfold cancelAt in h
+    at (Phase.Posted r a) = unfold cancelAt in with-held p i Phase.Free h free-held
+    at (Phase.Open o) = unfold cancelAt in with-held p i Phase.Free h free-held
+step-held area limit p ws (Call.report i) v h b =
+    branch (λ (f : Effect). PeerHeld (f .peer)) _ _ _ (λ x. h) (λ x. at (phaseAt (p .slots) i))
+  where
+    at : (f : Phase) → PeerHeld (reportAt p ws f .peer)
+    at Phase.Free = unfold reportAt in h
+    at (Phase.Posted r a) = unfold reportAt in h
+    at (Phase.Open o) = unfold reportAt in h
+
+-- ---- the engine
+
+pub fresh-held : (n area limit : ℕ) → Held (engineOf n area limit)
+fresh-held n area limit =
+    record {
+      peers = length-replicate peerCount freshPeer;
+      each = λ p h. subst PeerHeld (sym (fresh-peer n area limit p)) fresh;
+    }
+  where
+    free-slots : (m i : ℕ) → getD (replicate m freeSlot) i freeSlot ≡ freeSlot
+    free-slots zero i = refl
+    free-slots (suc m) zero = refl
+    free-slots (suc m) (suc i) = free-slots m i
+
+    fresh : PeerHeld freshPeer
+    fresh =
+        unfold freshPeer in
+        (record {
+          next = lit< tt;
+          slots = length-replicate slotCount freeSlot;
+          messages = λ i o e. free-held o (ap (λ (s : Slot). s .phase) (sym (free-slots slotCount i)) ∙ e);
+        })
+
+called-held : (w : World) → Good w → Held (w .engine) → (p : ℕ) (c : Call) → BytesOf c → Held (callTurn w p c .world .engine)
+called-held w g h p c b = elim (decLt p (w .engine .n)) as (λ d. Held (callTurn w p c .world .engine)) [
+  | yes l ↦ subst (λ (t : Turn). Held (t .world .engine)) (sym (turn-own w g p l c)) (own l)
+  | no l ↦ subst (λ (t : Turn). Held (t .world .engine)) (sym (turn-none w g p (omega (arith, l)) c)) h
+]
+  where
+    own : p < w .engine .n → Held (putBack w p (peerStep (w .engine .area) (w .engine .limit) (peerAt (w .engine) p) (wordsOf w p) c) .world .engine)
+    own l =
+        unfold putBack in
+        (record {
+          peers = length-set (w .engine .peers) p _ ∙ h .peers;
+          each = λ q k.
+              ⊎-elim
+              (λ x.
+              subst PeerHeld (sym x)
+              (step-held (w .engine .area) (w .engine .limit) (peerAt (w .engine) p) (wordsOf w p) c (g .each p l)
+              (h .each p (omega (arith, sized _ _ _ (g .numbers) .few))) b))
+              (λ x. subst PeerHeld (sym x) (h .each q k))
+              (set-either (w .engine .peers) p q _ freshPeer);
+        })
+
+-- the calls of a batch, whose packets lie in its bytes
+pub batch-held : (bytes replies : List ℕ) → ((i : ℕ) → getD bytes i 0 < 256) → (w : World) → Good w → Held (w .engine) → (cs : List packed.Call)
+    → Held (worldAfter w (requestsOf bytes replies cs) .engine)
+unfolding worldAfter turnOf
+batch-held bytes replies b w g h [] = h
+batch-held bytes replies b w g h (c ∷ cs) =
+    batch-held bytes replies b _ (good-called w g (peerOf c) call) (called-held w g h (peerOf c) call (within c)) cs
+  where
+    call : Call
+    call = callOf (actOf bytes replies c)
+
+    within : (c : packed.Call) → BytesOf (callOf (actOf bytes replies c))
+    within (packed.Call.Post peer receive) = tt
+    within (packed.Call.Packet peer at n place room) = part-all (λ x. x < 256) 0 bytes at n b
+    within (packed.Call.Cancel peer slot) = tt
+    within (packed.Call.Report peer slot) = tt
