@@ -18,7 +18,7 @@ use Rattle.peer.specs.Claims.{history, isMatch, plainAfter, takes}
 use Rattle.peer.specs.Effects.{opened}
 use Rattle.peer.specs.Expected.{expected, targetOfCall, targetOfRead}
 use Rattle.peer.specs.Incomings.{incomingOf, isRtm}
-use Rattle.peer.specs.Origins.{AcceptedFromOrigin, BegunBy, Comes, FromOrigin, OpenIsTheMatchingPackets, Origin, OriginClaim, noOrigin, noOrigins, noteOrigin, notePost, originAt, originOfCall, originsFrom, originsOf}
+use Rattle.peer.specs.Origins.{AcceptedFromOrigin, BegunBy, Comes, ComparedWithTheMatchingPacket, FromOrigin, OpenIsTheMatchingPackets, Origin, OriginClaim, noOrigin, noOrigins, noteOrigin, notePost, originAt, originOfCall, originsFrom, originsOf}
 use Rattle.peer.specs.Plain.{Entry, Plain, Role, Target, enter, enterCancel, enterPost, enterRead, enterSegment, entryAt, extendedRole, freshPlain, grantedEntry, idle, noEntry, nowhere, receiving, settle, targetOf, waiting}
 use Rattle.peer.specs.State.{slotCount}
 use Rattle.peer.specs.declared.types.Answer.{Answer}
@@ -255,6 +255,12 @@ traced area limit calls = traced-from area limit freshPlain noOrigins calls fres
 pub open-is-the-matching-packets : OpenIsTheMatchingPackets
 unfolding OpenIsTheMatchingPackets
 open-is-the-matching-packets area limit calls j = traced area limit calls .1 j
+
+pub compared-with-the-matching-packet : ComparedWithTheMatchingPacket
+unfolding ComparedWithTheMatchingPacket
+compared-with-the-matching-packet area limit calls j o bs e =
+    let b : BegunBy (originAt (originsOf area limit calls) j .rtm) (o .message) = subst (FromOrigin (originAt (originsOf area limit calls) j)) e (traced area limit calls .1 j) .1 in
+    rw (b .kind, b .size, b .tag) (λ x. x, λ x. x)
 
 pub accepted-from-origin : AcceptedFromOrigin
 unfolding AcceptedFromOrigin

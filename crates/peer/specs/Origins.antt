@@ -4,13 +4,14 @@ use Prim.Native.Nat.{ℕ, _+_, _≤_, _<_}
 use lib.ListN.{length, getD, drop, replicate, set}
 use mathlib.Core.Bool.{false}
 use mathlib.Core.List.{List, [], _∷_}
-use mathlib.Core.Logic.{_⊎_}
+use mathlib.Core.Logic.{_⊎_, _↔_, _≢_}
 use mathlib.Core.Path.{_≡_}
 use Rattle.laws.specs.Choose.{pick}
 use Rattle.protocol.specs.CtsWords.{ReadsAsCts}
 use Rattle.protocol.specs.InWords.{bitOf, flagsIn, headIn, rawEnd}
 use Rattle.protocol.specs.declared.types.CqData.{CqData}
 use Rattle.peer.specs.Calls.{Call, cancel, packet, post, report}
+use Rattle.peer.specs.Checks.{Differs}
 use Rattle.peer.specs.Claims.{history, isMatch}
 use Rattle.peer.specs.Expected.{expected, expectedReply, targetOfCall}
 use Rattle.peer.specs.PacketBytes.{idIn, lengthIn, offsetIn, tagIn, typeIn}
@@ -86,11 +87,23 @@ FromOrigin g idle = Unit {0}
 FromOrigin g (waiting r) = r ≡ g .posted
 FromOrigin g (receiving o) = (o .receive ≡ g .posted) × BegunBy (g .rtm) (o .message)
 
--- in every slot, after every history: so 14 compares with the matching packet, and 16, 17 and the report speak of the receive that was posted
+-- in every slot, after every history
 unfoldable pub OpenIsTheMatchingPackets : Type 0
 OpenIsTheMatchingPackets =
     (area limit : ℕ) (calls : List Call) (j : ℕ)
     → FromOrigin (originAt (originsOf area limit calls) j) (entryAt (history area limit calls .entries) j .role)
+
+-- 14: "type, length or tag differs, or the type isn't medium", held against the matching packet's bytes
+abbrev pub DiffersFrom : List ℕ → List ℕ → Type 0
+DiffersFrom rtm bs =
+    (typeIn bs ≢ typeIn rtm) ⊎ ((lengthIn bs ≢ lengthIn rtm) ⊎ ((tagIn bs ≢ tagIn rtm) ⊎ ((typeIn bs ≢ 66) × (typeIn bs ≢ 67))))
+
+-- a packet that differs from the open message of a slot, as refusal 14 has it, differs from the packet that matched it, and the other way round
+unfoldable pub ComparedWithTheMatchingPacket : Type 0
+ComparedWithTheMatchingPacket =
+    (area limit : ℕ) (calls : List Call) (j : ℕ) (o : Inbound) (bs : List ℕ)
+    → entryAt (history area limit calls .entries) j .role ≡ receiving o
+    → Differs bs (o .message) ↔ DiffersFrom (originAt (originsOf area limit calls) j .rtm) bs
 
 -- ---- an answer names its message's origin
 
