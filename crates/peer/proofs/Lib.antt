@@ -40,3 +40,4 @@ pub mod HistoryChecked
 pub mod SlotMovesHold
 pub mod BitMoves
 pub mod MovesHold
+pub mod SlotsRound

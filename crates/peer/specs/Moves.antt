@@ -1,5 +1,5 @@
 -- What each answer of a peer's call leaves of its slots, next id, map and area, in 01's own words, over roles, bits and bytes: accepted segments,
--- the missing-byte report, and the statement of every answer. Proved in proofs/MovesHold.antt.
+-- the missing-byte report, and the statement of every answer. Proved in proofs/MovesHold.antt and proofs/SlotsRound.antt.
 use Prim.Native.Nat.{ℕ, _+_, _-_, _*_, _<_, _≤_, min, max}
 use lib.ListN.{length, drop}
 use mathlib.Core.Bool.{true}
@@ -15,7 +15,7 @@ use Rattle.peer.specs.Effects.{Effect}
 use Rattle.peer.specs.InWords.{Falling, HasByte}
 use Rattle.peer.specs.Origins.{BegunBy}
 use Rattle.peer.specs.PacketBytes.{idIn, offsetIn, sizeIn}
-use Rattle.peer.specs.Plain.{idle, receiving}
+use Rattle.peer.specs.Plain.{Role, idle, receiving, waiting}
 use Rattle.peer.specs.SlotMoves.{Cancelling, Matching, NextMoves, NextStays, OnlySlot, Posting, Truncating, Unmoved, roleAt}
 use Rattle.peer.specs.State.{peerFits}
 use Rattle.peer.specs.declared.types.Answer.{Answer}
@@ -156,3 +156,19 @@ unfoldable pub MovesAreAsSaid : Type 0
 MovesAreAsSaid =
     (area limit : ℕ) (p : Peer) (ws : List ℕ) (c : Call) → peerFits area p ≡ true → length (p .slots) ≡ 8 → area ≤ 64 * length ws
     → Moved limit p ws c (peerStep area limit p ws c) (peerStep area limit p ws c .answer)
+
+-- ---- the slots go round
+
+-- "A slot goes from free to posted, to open, back to free": what a slot was used for, and what it is used for after one call more. A message
+-- that is open stays as it is but for its granted end; a receive that is truncated, cancelled or done at its match goes back to free at once
+pub data Goes : Role → Role → Type 0 where
+  stays : (u : Role) → Goes u u
+  toPosted : (r : Receive) → Goes idle (waiting r)
+  toOpen : (o : Inbound) → Goes (waiting (o .receive)) (receiving o)
+  granted : (n : ℕ) (o q : Inbound) → GrantedOn n o q → Goes (receiving o) (receiving q)
+  toFree : (u : Role) → Goes u idle
+
+unfoldable pub SlotsGoRound : Type 0
+SlotsGoRound =
+    (area limit : ℕ) (p : Peer) (ws : List ℕ) (c : Call) → peerFits area p ≡ true → length (p .slots) ≡ 8 → area ≤ 64 * length ws
+    → (j : ℕ) → Goes (roleAt p j) (roleAt (peerStep area limit p ws c .peer) j)
