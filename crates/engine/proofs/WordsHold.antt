@@ -1,20 +1,19 @@
 -- A set-up that is not refused starts fresh peers over a clear map; a call leaves other peers' slots, bytes and bits, and the set-up numbers.
-use Prim.Native.Nat.{ℕ, zero, suc, _+_, _*_, _/_, _%_, _^_, _≤_, _<_}
+use Prim.Native.Nat.{ℕ, zero, suc, _+_, _*_, _/_, _%_, _^_, _<_}
 use borrow.Author.Tests.{ltb-true}
 use lib.Dec.{ltb}
 use lib.ListN.{length, getD, replicate, length-replicate}
-use mathlib.Core.Bool.{Bool, true, false, _&&_}
+use mathlib.Core.Bool.{true, _&&_}
 use mathlib.Core.List.{List}
-use mathlib.Core.Path.{_≡_, refl, sym, ap, ap₂, _∙_, subst}
+use mathlib.Core.Path.{_≡_, refl, sym, ap, _∙_, subst}
 use native.Mathlib.Nat.{zero-div}
 use native.Mathlib.Omega.{arith}
 use Rattle.bitmap.specs.Map.{bit, bitAt}
 use Rattle.engine.specs.Checks.{WordsAreTheAreasBits}
 use Rattle.engine.specs.InWords.{ClearMap, Eights, FreshEngine, OthersKept, SameFor, SameSetUp, SetUpKept, SetUpStartsFresh}
-use Rattle.engine.specs.SetUp.{Prepared, badSetUp, engineFits, engineOf, lentFits, notStarted, numbersFit, peerAt, peerCount, setUp}
+use Rattle.engine.specs.SetUp.{Prepared, engineFits, engineOf, lentFits, notStarted, numbersFit, peerAt, peerCount, setUp}
 use Rattle.engine.specs.Steps.{Turn, World, badLent, badPeer, badState, callTurn, peerTurn, putBack, refusedTurn, wordsOf}
 use Rattle.engine.specs.declared.types.Ready.{Ready}
-use Rattle.laws.specs.Choose.{pick}
 use Rattle.peer.specs.Calls.{Call}
 use Rattle.peer.specs.State.{freeSlot, freshPeer, phaseAt, slotCount}
 use Rattle.peer.specs.declared.types.Peer.{Peer}

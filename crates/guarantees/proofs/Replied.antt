@@ -3,13 +3,13 @@ use Prim.Native.Nat.{ℕ, _+_, _≤_}
 use lib.Dec.{ltb}
 use lib.ListN.{length, drop}
 use mathlib.Core.Bool.{true, false, false≢true}
-use mathlib.Core.List.{List, []}
-use mathlib.Core.Path.{_≡_, refl, sym, ap, _∙_, subst}
+use mathlib.Core.List.{[]}
+use mathlib.Core.Path.{_≡_, refl, ap, _∙_, subst}
 use native.Mathlib.Omega.{arith}
 use Rattle.engine.specs.SetUp.{engineFits, lentFits, peerAt}
 use Rattle.engine.specs.Steps.{Turn, World, badLent, badPeer, badState, callTurn, peerTurn, putBack, refusedTurn, wordsOf}
 use Rattle.guarantees.specs.Replies.{ReplyUntouched, RestKept, RestUntouched}
-use Rattle.guarantees.specs.Runs.{Act, Request, bufferAfter, bufferOf, callOf, cancel, packet, post, report, turnOf}
+use Rattle.guarantees.specs.Runs.{Act, bufferOf, callOf, cancel, packet, post, report, turnOf}
 use Rattle.laws.specs.Parts.{storeAt}
 use Rattle.protocol.specs.declared.types.Refusal.{Refusal}
 use Rattle.peer.specs.Calls.{Call}

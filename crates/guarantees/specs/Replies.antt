@@ -1,7 +1,7 @@
 -- The reply buffer (01: "gets a CTS in the first 24 reply bytes (flags and multiuse 0, rest untouched) and answers granted; no other answer
 -- touches the reply buffer"), for every world and every call. What the CTS says: `reply` of Delivered in Delivery. Proved in
 -- proofs/Replied.antt.
-use Prim.Native.Nat.{ℕ, _≤_}
+use Prim.Native.Nat.{_≤_}
 use lib.ListN.{length, drop}
 use mathlib.Core.Bool.{true, false}
 use mathlib.Core.Path.{_≡_}

@@ -5,16 +5,14 @@ use mathlib.Core.Bool.{Bool, true, false, _&&_}
 use mathlib.Core.Path.{_≡_, refl, sym, _∙_}
 use native.Mathlib.Omega.{arith}
 use Rattle.peer.specs.Calls.{Call}
-use Rattle.peer.specs.State.{freshPeer}
 use Rattle.peer.specs.declared.types.Peer.{Peer}
-use Rattle.peer.proofs.Valid.{fits-valid}
 use Rattle.lending.specs.Lending.{Owned}
 use Rattle.engine.specs.Gates.{gateOf, throughGate}
-use Rattle.engine.specs.SetUp.{engineFits, numbersFit, peerAt, peerCount}
+use Rattle.engine.specs.SetUp.{engineFits, numbersFit, peerCount}
 use Rattle.engine.specs.Steps.{World, callTurn, refusedTurn}
 use Rattle.engine.specs.declared.types.Engine.{Engine}
 use Rattle.engine.specs.declared.types.Gate.{Gate}
-use Rattle.engine.proofs.Walking.{Passed, fit-numbers, fit-peer, gate-open, opened, small, through}
+use Rattle.engine.proofs.Walking.{Passed, fit-numbers, gate-open, opened, small, through}
 use Rattle.engine.proofs.WordsHold.{checked-good}
 use Rattle.engine.proofs.Worlds.{Good, good-called, good-fits}
 use Rattle.protocol.specs.declared.types.Refusal.{Refusal}

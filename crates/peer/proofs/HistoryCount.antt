@@ -1,5 +1,5 @@
 -- The k-th message that is matched has the id k mod 2^32: next counts the matches.
-use Prim.Native.Nat.{ℕ, zero, suc, _+_, _-_, _%_, _^_, _<_}
+use Prim.Native.Nat.{ℕ, zero, suc, _+_, _%_, _^_, _<_}
 use lib.ListN.{length, getD}
 use mathlib.Core.Bool.{Bool, true, false, false≢true}
 use mathlib.Core.List.{List, [], _∷_}
@@ -7,7 +7,7 @@ use mathlib.Core.Path.{_≡_, refl, sym, ap, _∙_, subst}
 use native.Mathlib.Omega.{arith}
 use Rattle.laws.specs.Choose.{pick}
 use Rattle.protocol.specs.InWords.{NumbersAreLittleEndian}
-use Rattle.peer.specs.Calls.{Call, cancel, packet, post, report}
+use Rattle.peer.specs.Calls.{Call}
 use Rattle.peer.specs.Claims.{AllBytes, AreBytes, MatchedByCount, answersOf, idAt, idsOf, isMatch, numbersOf, takes}
 use Rattle.peer.specs.Expected.{expected, targetOfCall}
 use Rattle.peer.specs.Matching.{ahead}
@@ -16,10 +16,10 @@ use Rattle.peer.specs.declared.types.Answer.{Answer}
 use Rattle.peer.specs.declared.types.Inbound.{Inbound}
 use Rattle.peer.specs.declared.types.Incoming.{Incoming}
 use Rattle.wire.specs.LittleEndian.{leAt}
-use Rattle.laws.proofs.Choosing.{branch, clashing, pick-first}
+use Rattle.laws.proofs.Choosing.{branch, pick-first}
 use Rattle.protocol.proofs.WordsHold.{numbers-are-little-endian}
 use Rattle.peer.proofs.BytesHold.{read-says}
-use Rattle.peer.proofs.HistoryFacts.{Aims, Taken, begins, goesOn, outcome, taken-by}
+use Rattle.peer.proofs.HistoryFacts.{Aims, begins, goesOn, outcome, taken-by}
 use Rattle.peer.proofs.HistorySteps.{Entered, asBefore, entered, withCancel, withEnd, withGrant, withPost, withSegment}
 
 -- ---- the next id

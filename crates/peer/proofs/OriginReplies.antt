@@ -1,26 +1,23 @@
 -- A grant's reply is a CTS for the matching packet's message, and an accepted segment's bytes are its packet's, in the receive that was posted:
 -- the statements of specs/Origins.antt on replies and writes.
-use Prim.Native.Nat.{ℕ, _+_, _-_, _*_, _^_, _≤_, _<_, min, max}
+use Prim.Native.Nat.{ℕ, _+_, _-_, _^_, _≤_, _<_, min, max}
 use lib.ListN.{length, getD}
-use mathlib.Core.Bool.{Bool, true, false}
-use mathlib.Core.List.{List, [], _∷_}
-use mathlib.Core.Logic.{_⊎_, inl, inr, ⊎-elim}
+use mathlib.Core.List.{List, _∷_}
+use mathlib.Core.Logic.{_⊎_, inl, inr}
 use mathlib.Core.Path.{_≡_, refl, sym, ap, _∙_, subst}
 use native.Mathlib.Nat.{mul-le-mul}
 use native.Mathlib.Omega.{arith}
 use Rattle.protocol.specs.CtsWords.{CtsReadBack, ReadsAsCts}
 use Rattle.protocol.specs.InWords.{NumbersAreLittleEndian}
-use Rattle.protocol.specs.Reading.{readOf}
-use Rattle.protocol.specs.declared.types.Read.{Read}
-use Rattle.peer.specs.Calls.{Call, packet}
+use Rattle.peer.specs.Calls.{Call}
 use Rattle.peer.specs.Claims.{SegmentIn, WriteClaim, history}
 use Rattle.peer.specs.Coverage.{Segment}
 use Rattle.peer.specs.Effects.{grantOf}
-use Rattle.peer.specs.Expected.{expected, expectedReply, targetOfCall}
+use Rattle.peer.specs.Expected.{expected, expectedReply}
 use Rattle.laws.specs.Choose.{pick}
 use Rattle.peer.specs.InWords.{LongIs68And69}
 use Rattle.peer.specs.Incomings.{isLong}
-use Rattle.peer.specs.Origins.{AcceptedFromOrigin, BegunBy, Comes, GrantIsACts, Origin, OriginClaim, OwnClaim, OwnSegment, ReplyClaim, originOfCall, originsOf}
+use Rattle.peer.specs.Origins.{AcceptedFromOrigin, Comes, GrantIsACts, Origin, OriginClaim, OwnClaim, OwnSegment, ReplyClaim}
 use Rattle.peer.specs.PacketBytes.{idIn, lengthAs, lengthIn, offsetIn, typeIn}
 use Rattle.peer.specs.Plain.{Plain, Role, Target, receiving, segmentOf}
 use Rattle.peer.specs.declared.types.Answer.{Answer}

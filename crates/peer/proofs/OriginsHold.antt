@@ -1,12 +1,11 @@
 -- After every history a receive waits as it was posted, and an open message is the matching packet's: the statements of specs/Origins.antt.
-use Prim.Native.Nat.{ℕ, zero, suc, _+_, _*_, _%_, _≤_, _<_}
-use lib.ListN.{length, getD, replicate, set, length-drop, length-set, length-replicate}
+use Prim.Native.Nat.{ℕ, zero, suc, _<_}
+use lib.ListN.{length, set, length-set, length-replicate}
 use lib.Seq.{getD-set-same}
 use mathlib.Core.Bool.{Bool, true, false, false≢true}
 use mathlib.Core.List.{List, [], _∷_}
-use mathlib.Core.Logic.{_⊎_, inl, inr, ⊎-elim}
+use mathlib.Core.Logic.{⊎-elim}
 use mathlib.Core.Path.{_≡_, refl, sym, ap, _∙_, subst, subst₂}
-use native.Mathlib.Decide.{decLt, ℕ-discrete}
 use native.Mathlib.Omega.{arith}
 use Rattle.laws.specs.Choose.{pick}
 use Rattle.protocol.specs.Reading.{readOf}
@@ -14,7 +13,7 @@ use Rattle.protocol.specs.Values.{bytesAt}
 use Rattle.protocol.specs.declared.types.Packet.{Packet}
 use Rattle.protocol.specs.declared.types.Read.{Read}
 use Rattle.peer.specs.Calls.{Call, cancel, packet, post, report}
-use Rattle.peer.specs.Claims.{history, isMatch, plainAfter, takes}
+use Rattle.peer.specs.Claims.{history, plainAfter, takes}
 use Rattle.peer.specs.Effects.{opened}
 use Rattle.peer.specs.Expected.{expected, targetOfCall, targetOfRead}
 use Rattle.peer.specs.Incomings.{incomingOf, isRtm}
@@ -25,11 +24,11 @@ use Rattle.peer.specs.declared.types.Answer.{Answer}
 use Rattle.peer.specs.declared.types.Inbound.{Inbound}
 use Rattle.peer.specs.declared.types.Incoming.{Incoming}
 use Rattle.peer.specs.declared.types.Receive.{Receive}
-use Rattle.laws.proofs.Choosing.{pick-either, pick-false, pick-true}
+use Rattle.laws.proofs.Choosing.{pick-either, pick-false}
 use Rattle.laws.proofs.Listing.{replicate-each, set-cases}
 use Rattle.peer.proofs.AcceptOrRefuse.{rtm-of}
 use Rattle.peer.proofs.BytesHold.{bytes-told, read-says, told}
-use Rattle.peer.proofs.HistoryFacts.{Aims, Brings, Outcome, Taken, begins, bytesOf, goesOn, headOf, outcome, taken-by, taken-role}
+use Rattle.peer.proofs.HistoryFacts.{Aims, Brings, Outcome, Taken, begins, goesOn, headOf, outcome, taken-role}
 use Rattle.peer.proofs.HistorySteps.{refused-brings, untaken, untaken-cancel, untaken-post, untaken-report}
 
 -- ---- a packet that begins a message

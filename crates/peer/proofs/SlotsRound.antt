@@ -7,13 +7,12 @@ use native.Mathlib.Decide.{ℕ-discrete}
 use Rattle.peer.specs.Calls.{Call, peerStep}
 use Rattle.peer.specs.Effects.{Effect}
 use Rattle.peer.specs.Moves.{Beginning, Goes, GoingOn, Moved, MovesAreAsSaid, SlotsGoRound, Taking, granted, stays, toFree, toOpen, toPosted}
-use Rattle.peer.specs.Plain.{Role, idle, receiving, waiting}
+use Rattle.peer.specs.Plain.{idle, receiving, waiting}
 use Rattle.peer.specs.SlotMoves.{OnlySlot, roleAt}
 use Rattle.peer.specs.View.{roleOf}
 use Rattle.peer.specs.declared.types.Answer.{Answer}
 use Rattle.peer.specs.declared.types.Inbound.{Inbound}
 use Rattle.peer.specs.declared.types.Peer.{Peer}
-use Rattle.peer.specs.declared.types.Receive.{Receive}
 use Rattle.peer.proofs.MovesHold.{moves-are-as-said}
 
 module _ (p q : Peer) (i : ℕ) where

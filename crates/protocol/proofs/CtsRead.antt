@@ -1,15 +1,14 @@
 -- A grant's CTS is read as what it was written from: the statement of specs/CtsWords.antt.
 use Prim.Native.Nat.{ℕ, _^_, _≤_, _<_}
 use borrow.Author.Tests.{le-leb}
-use lib.Dec.{leb}
-use lib.ListN.{length, take, replicate}
+use lib.ListN.{take, replicate}
 use mathlib.Core.Bool.{true}
 use mathlib.Core.List.{List, []}
-use mathlib.Core.Path.{_≡_, refl, sym, ap, _∙_, subst}
+use mathlib.Core.Path.{_≡_, refl, ap, subst}
 use native.Mathlib.Omega.{arith}
 use Rattle.protocol.specs.Checks.{gives}
 use Rattle.protocol.specs.Cts.{ctsBytes, ctsHeader}
-use Rattle.protocol.specs.CtsWords.{CtsReadBack, ReadsAsCts, ctsValues}
+use Rattle.protocol.specs.CtsWords.{CtsReadBack, ReadsAsCts}
 use Rattle.protocol.specs.Flags.{connidBit, cqDataBit, flagsFit, flagsOf, rawAddressBit}
 use Rattle.protocol.specs.Layout.{Field, credit-request, fieldBytes, layout, msg-id, msg-length, numberIn, recv-id, recv-length, seg-length, seg-offset, send-id, tag, width}
 use Rattle.protocol.specs.Lengths.{lengthsFit}
@@ -17,14 +16,13 @@ use Rattle.protocol.specs.Options.{connidBytes, connidOrZero, cqDataByte
 use Rattle.protocol.specs.Reading.{readOf}
 use Rattle.protocol.specs.RoundTrip.{Numbers}
 use Rattle.protocol.specs.Says.{readSays, writtenSays}
-use Rattle.protocol.specs.Types.{row, rowIn, rowOf}
+use Rattle.protocol.specs.Types.{rowIn, rowOf}
 use Rattle.protocol.specs.Values.{ownNumbers, values}
 use Rattle.protocol.specs.Writing.{Outcome, baseBytes, mandatoryBytes, packetBytes, writeAs, writeBytes, writeOf, writeTyped}
 use Rattle.protocol.specs.declared.types.Written.{Written}
 use Rattle.laws.specs.Choose.{pick}
 use Rattle.laws.specs.Parts.{part, storeAt}
 use Rattle.wire.specs.LittleEndian.{leAt, leBytes, leOf}
-use Rattle.laws.proofs.Choosing.{pick-true}
 use Rattle.protocol.proofs.RoundTrips.{reads-what-was-written}
 
 module _ (sendId recvId recvLength : ℕ) (s : sendId < 2 ^ 32) (r : recvId < 2 ^ 32) (some : 1 ≤ recvLength) (n : recvLength < 2 ^ 64) where

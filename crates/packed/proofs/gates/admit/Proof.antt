@@ -1,7 +1,7 @@
 -- `packed::gates::admit` meets its contract: a state that can't be is refused 2, any other goes by the engine's gate.
 use borrow.Author.Needs.{needs}
 use borrow.Author.Tests.{not-true, not-false}
-use mathlib.Core.Path.{sym, _∙_, refl}
+use mathlib.Core.Path.{_∙_, refl}
 use Rattle.engine.specs.Gates.{gateOf}
 use Rattle.laws.specs.Choose.{pick}
 use Rattle.packed.proofs.gates.admit.Statement.{statement}
