@@ -19,7 +19,7 @@ use Rattle.peer.specs.Effects.{Effect}
 use Rattle.peer.specs.Expected.{expected, expectedBytes, expectedReply, targetOfCall}
 use Rattle.peer.specs.Numbers.{said}
 use Rattle.peer.specs.Origins.{Origin, OwnClaim, originOfCall}
-use Rattle.peer.specs.Plain.{Plain, Role, Target, enter}
+use Rattle.peer.specs.Plain.{Plain, Target, enter}
 use Rattle.peer.specs.Starts.{noteStart}
 use Rattle.peer.specs.declared.types.Answer.{Answer}
 use Rattle.peer.specs.declared.types.Peer.{Peer}
@@ -51,16 +51,16 @@ buffer-reply : (buffer reply : List ℕ) → length reply ≡ 24 → 24 ≤ leng
 buffer-reply buffer reply e h = ap (λ (n : ℕ). take n (storeAt buffer 0 reply)) (sym e) ∙ (unfold part in part-store buffer 0 reply (omega arith))
 
 -- of a grant the first 24 bytes of the buffer are the reply, of any other answer there is none
-reply-seen : (r : Role) (a : Answer) (buffer reply : List ℕ) → reply ≡ expectedReply r a → ((n : ℕ) → a ≡ Answer.Granted n → (length reply ≡ 24) × (24 ≤ length buffer))
-    → replySeen (storeAt buffer 0 reply) a ≡ expectedReply r a
-reply-seen r (Answer.Refused k) buffer reply e g = refl
-reply-seen r (Answer.Posted i) buffer reply e g = refl
-reply-seen r (Answer.Cancelled i) buffer reply e g = refl
-reply-seen r Answer.Stored buffer reply e g = refl
-reply-seen r (Answer.Granted n) buffer reply e g = buffer-reply buffer reply (g n refl .0) (g n refl .1) ∙ e
-reply-seen r (Answer.Done i id n cq) buffer reply e g = refl
-reply-seen r (Answer.Truncated i id n) buffer reply e g = refl
-reply-seen r (Answer.Missing c o) buffer reply e g = refl
+reply-seen : (t : Target) (a : Answer) (buffer reply : List ℕ) → reply ≡ expectedReply t a → ((n : ℕ) → a ≡ Answer.Granted n → (length reply ≡ 24) × (24 ≤ length buffer))
+    → replySeen (storeAt buffer 0 reply) a ≡ expectedReply t a
+reply-seen t (Answer.Refused k) buffer reply e g = refl
+reply-seen t (Answer.Posted i) buffer reply e g = refl
+reply-seen t (Answer.Cancelled i) buffer reply e g = refl
+reply-seen t Answer.Stored buffer reply e g = refl
+reply-seen t (Answer.Granted n) buffer reply e g = buffer-reply buffer reply (g n refl .0) (g n refl .1) ∙ e
+reply-seen t (Answer.Done i id n cq) buffer reply e g = refl
+reply-seen t (Answer.Truncated i id n) buffer reply e g = refl
+reply-seen t (Answer.Missing c o) buffer reply e g = refl
 
 -- the bytes of a done message
 part-bytes : (arena : List ℕ) (at n : ℕ) (gs : List Segment) → at + n ≤ length arena → ((o : ℕ) → o < n → getD arena (at + o) 0 ≡ byteOf gs o)
@@ -143,19 +143,19 @@ module _ (p : ℕ) (w : World) (starts : List ℕ) (l : Plain) (t : Tracks p w s
   seen : seenAt p w starts own ≡ demanded (w .engine .area) (w .engine .limit) l (callOf a)
   seen =
       ap (λ (u : Turn). record { answer = u .answer; says = said (u .answer); reply = replySeen (storeAt (bufferOf a) 0 (u .reply)) (u .answer); bytes = bytesSeen (u .world .arena) (p * w .engine .area) starts (u .answer) }) turn
-      ∙ (unfold putBack in (three refl reply bytes ∙ ap (λ (x : Answer). record { answer = x; says = said x; reply = expectedReply role x; bytes = expectedBytes gs x }) (step .answer)))
+      ∙ (unfold putBack in (three refl reply bytes ∙ ap (λ (x : Answer). record { answer = x; says = said x; reply = expectedReply target x; bytes = expectedBytes gs x }) (step .answer)))
     where
-      role : Role
-      role = targetOfCall (w .engine .limit) l (callOf a) .entry .role
+      target : Target
+      target = targetOfCall (w .engine .limit) l (callOf a)
 
       gs : List Segment
-      gs = targetOfCall (w .engine .limit) l (callOf a) .entry .segments
+      gs = target .entry .segments
 
       three : {x y : Answer} {r s b c : List ℕ} → x ≡ y → r ≡ s → b ≡ c → _≡_ {A = Seen} (record { answer = x; says = said x; reply = r; bytes = b }) (record { answer = y; says = said y; reply = s; bytes = c })
       three d e h = λ i. record { answer = d i; says = said (d i); reply = e i; bytes = h i }
 
-      reply : replySeen (storeAt (bufferOf a) 0 (f .reply)) (f .answer) ≡ expectedReply role (f .answer)
-      reply = reply-seen role (f .answer) (bufferOf a) (f .reply) (yields .reply) roomy
+      reply : replySeen (storeAt (bufferOf a) 0 (f .reply)) (f .answer) ≡ expectedReply target (f .answer)
+      reply = reply-seen target (f .answer) (bufferOf a) (f .reply) (yields .reply) roomy
 
       bytes : bytesSeen (w′ .arena) (p * w .engine .area) starts (f .answer) ≡ expectedBytes gs (f .answer)
       bytes =

@@ -28,7 +28,7 @@ demanded area limit l c =
     record {
       answer = expected area limit l c;
       says = said (expected area limit l c);
-      reply = expectedReply (targetOfCall limit l c .entry .role) (expected area limit l c);
+      reply = expectedReply (targetOfCall limit l c) (expected area limit l c);
       bytes = expectedBytes (targetOfCall limit l c .entry .segments) (expected area limit l c);
     }
 

@@ -4,16 +4,17 @@ use Prim.Native.Nat.{ℕ, _+_, _-_, _^_, _≤_, _<_, min, max}
 use lib.ListN.{length, getD}
 use mathlib.Core.List.{List, _∷_}
 use mathlib.Core.Logic.{_⊎_, inl, inr}
-use mathlib.Core.Path.{_≡_, refl, sym, ap, _∙_, subst}
+use mathlib.Core.Path.{_≡_, refl, sym, ap, _∙_, subst, subst₂}
 use native.Mathlib.Nat.{mul-le-mul}
 use native.Mathlib.Omega.{arith}
+use Rattle.protocol.specs.Cts.{ctsBytes}
 use Rattle.protocol.specs.CtsWords.{CtsReadBack, ReadsAsCts}
 use Rattle.protocol.specs.InWords.{NumbersAreLittleEndian}
 use Rattle.peer.specs.Calls.{Call}
 use Rattle.peer.specs.Claims.{SegmentIn, WriteClaim, history}
 use Rattle.peer.specs.Coverage.{Segment}
 use Rattle.peer.specs.Effects.{grantOf}
-use Rattle.peer.specs.Expected.{expected, expectedReply}
+use Rattle.peer.specs.Expected.{expected, expectedReply, messageIn, messageOf}
 use Rattle.laws.specs.Choose.{pick}
 use Rattle.peer.specs.InWords.{LongIs68And69}
 use Rattle.peer.specs.Incomings.{isLong}
@@ -62,9 +63,13 @@ same-message : {u : Role} {o m : Inbound} → u ≡ receiving o → u ≡ receiv
 same-message e f = cc
 
 module _ (limit : ℕ) (low : 64 ≤ limit) (l : Plain) (c : Call) (t : Target) (g : Origin) where
-  granted-cts : (n : ℕ) → Granting limit l c t n → Comes g t → ReplyClaim g (Answer.Granted n) (expectedReply (t .entry .role) (Answer.Granted n))
+  granted-cts : (n : ℕ) → Granting limit l c t n → Comes g t → ReplyClaim g (Answer.Granted n) (expectedReply t (Answer.Granted n))
   granted-cts n w k b =
-      subst (λ (u : Role). ReadsAsCts (expectedReply u (Answer.Granted n)) (leAt 4 (g .rtm) 16) (idIn (g .rtm)) n) (sym (k .role)) go
+      unfold CtsReadBack in
+      subst₂ (λ (send recv : ℕ). ReadsAsCts (ctsBytes send recv n) (leAt 4 (g .rtm) 16) (idIn (g .rtm)) n) (sym send) (sym recv)
+      (cts-read-back (leAt 4 (g .rtm) 16) (idIn (g .rtm)) n (below 4 (g .rtm) 16 b) (below 4 (g .rtm) 4 b)
+      (subst (λ (x : ℕ). 1 ≤ x) (sym amount) (grant-some limit m low short))
+      (omega (arith, amount, grant-left limit m, size, below 8 (g .rtm) 8 b)))
     where
       m : Message
       m = k .message .message
@@ -87,18 +92,16 @@ module _ (limit : ℕ) (low : 64 ≤ limit) (l : Plain) (c : Call) (t : Target) 
       size : m .length ≡ leAt 8 (g .rtm) 8
       size = k .begun .size ∙ long-length (g .rtm) long
 
-      send : m .«send_id» ≡ leAt 4 (g .rtm) 16
-      send = k .begun .long long .0
+      message : messageIn t ≡ m
+      message = ap messageOf (k .role)
 
-      go : ReadsAsCts (expectedReply (receiving (k .message)) (Answer.Granted n)) (leAt 4 (g .rtm) 16) (idIn (g .rtm)) n
-      go =
-          unfold CtsReadBack in
-          rw (send, k .begun .id)
-          (cts-read-back (leAt 4 (g .rtm) 16) (idIn (g .rtm)) n (below 4 (g .rtm) 16 b) (below 4 (g .rtm) 4 b)
-          (subst (λ (x : ℕ). 1 ≤ x) (sym amount) (grant-some limit m low short))
-          (omega (arith, amount, grant-left limit m, size, below 8 (g .rtm) 8 b)))
+      send : messageIn t .«send_id» ≡ leAt 4 (g .rtm) 16
+      send = ap (λ (x : Message). x .«send_id») message ∙ k .begun .long long .0
 
-  reply-claim : (a : Answer) → Outcome limit l c t a → OriginClaim g t a → ReplyClaim g a (expectedReply (t .entry .role) a)
+      recv : messageIn t .id ≡ idIn (g .rtm)
+      recv = ap (λ (x : Message). x .id) message ∙ k .begun .id
+
+  reply-claim : (a : Answer) → Outcome limit l c t a → OriginClaim g t a → ReplyClaim g a (expectedReply t a)
   reply-claim (Answer.Refused k) w o = refl
   reply-claim (Answer.Posted i) w o = refl
   reply-claim (Answer.Cancelled i) w o = refl

@@ -7,7 +7,7 @@ use lib.ListN.{length, getD}
 use mathlib.Core.Bool.{Bool, true, false, _&&_, true≢false}
 use mathlib.Core.List.{List, [], _∷_}
 use mathlib.Core.Logic.{_⊎_, inl, inr}
-use mathlib.Core.Path.{_≡_, refl, sym, ap, _∙_, subst}
+use mathlib.Core.Path.{_≡_, refl, sym, ap, ap₂, _∙_, subst}
 use native.Mathlib.Omega.{arith}
 use Rattle.bitmap.specs.Map.{cleared, marked}
 use Rattle.laws.specs.Choose.{pick}
@@ -53,18 +53,28 @@ use Rattle.peer.proofs.Yields.{Starts, startOf}
 
 -- what a call yields, where the bytes of the area are `mem` after it, and its target is t
 pub record Yielded (area : ℕ) (mem : ℕ → ℕ) (starts : List ℕ) (t : Target) (f : Effect) : Type 0 where
-  pub reply : f .reply ≡ expectedReply (t .entry .role) (f .answer)
+  pub reply : f .reply ≡ expectedReply t (f .answer)
   pub done : (i id n : ℕ) (cq : CqData) → f .answer ≡ Answer.Done i id n cq
       → (getD starts i 0 + n ≤ area) × ((o : ℕ) → o < n → mem (getD starts i 0 + o) ≡ byteOf (t .entry .segments) o)
   pub writes : WriteClaim area t (f .answer) (f .at) (f .bytes)
 
 -- ---- a segment is accepted
 
-settled-reply : (limit : ℕ) (p : Peer) (i : ℕ) (o : Inbound) (g : Progress) → settledAs limit p i o g .reply ≡ expectedReply (receiving o) (settledAs limit p i o g .answer)
+-- the target t in slot i, its entry in role u
+abbrev seated : Target → ℕ → Role → Target
+seated t i u =
+    record {
+      index = i;
+      entry = record { role = u; serial = t .entry .serial; segments = t .entry .segments; rtm = t .entry .rtm; grants = t .entry .grants };
+      matched = t .matched;
+    }
+
+settled-reply : (limit : ℕ) (p : Peer) (i : ℕ) (o : Inbound) (t : Target) (g : Progress)
+    → settledAs limit p i o g .reply ≡ expectedReply (seated t i (receiving o)) (settledAs limit p i o g .answer)
 unfolding settledAs
-settled-reply limit p i o Progress.Whole = refl
-settled-reply limit p i o Progress.Due = refl
-settled-reply limit p i o Progress.Partial = refl
+settled-reply limit p i o t Progress.Whole = refl
+settled-reply limit p i o t Progress.Due = refl
+settled-reply limit p i o t Progress.Partial = refl
 
 -- done is answered where every byte is covered
 taken-done : (limit i : ℕ) (o : Inbound) (gs : List Segment) (j id n : ℕ) (cq : CqData) → expectTaken limit i o gs ≡ Answer.Done j id n cq
@@ -89,11 +99,12 @@ taken-done limit i o gs j id n cq e = go (pick-cases (allOf (covers gs) 0 (o .me
     go (inr x) = absurd (no-done _ (x .1))
 
 settled-yields : (area limit : ℕ) (p : Peer) (ws : List ℕ) (mem : ℕ → ℕ) (l : Plain) (starts : List ℕ) (q : Peer) (i : ℕ) (o : Inbound) (g : Segment) (gs : List Segment) (t : Target)
-    → Taken area p ws mem l i o (t .entry) → getD starts i 0 ≡ o .receive .start → t .entry .segments ≡ g ∷ gs → g .offset + length (g .bytes) ≤ o .message .length
+    → t .index ≡ i → Taken area p ws mem l i o (t .entry) → getD starts i 0 ≡ o .receive .start → t .entry .segments ≡ g ∷ gs → g .offset + length (g .bytes) ≤ o .message .length
     → Yielded area mem starts t (landed ws (o .receive .start + g .offset) (g .bytes) (settledAs limit q i o (progressOf ws o)))
-settled-yields area limit p ws mem l starts q i o g gs t k s latest fit =
+settled-yields area limit p ws mem l starts q i o g gs t at k s latest fit =
     record {
-      reply = settled-reply limit q i o (progressOf ws o) ∙ ap (λ (r : Role). expectedReply r (settledAs limit q i o (progressOf ws o) .answer)) (sym (k .role));
+      reply = settled-reply limit q i o t (progressOf ws o)
+          ∙ ap₂ (λ (j : ℕ) (u : Role). expectedReply (seated t j u) (settledAs limit q i o (progressOf ws o) .answer)) (sym at) (sym (k .role));
       done = λ j id n cq e.
           let (slot, len, all) = taken-done limit i o (t .entry .segments) j id n cq
           (sym (taken-answer limit q i o ws (t .entry .segments) (k .standing .within .inLength) (k .own)) ∙ e) in
@@ -127,7 +138,7 @@ settled-yields area limit p ws mem l starts q i o g gs t k s latest fit =
 -- ---- a call
 
 -- nothing is answered done, and no reply is written
-plain-yield : (area : ℕ) (mem : ℕ → ℕ) (starts : List ℕ) (t : Target) (p : Peer) (ws : List ℕ) (a : Answer) → expectedReply (t .entry .role) a ≡ []
+plain-yield : (area : ℕ) (mem : ℕ → ℕ) (starts : List ℕ) (t : Target) (p : Peer) (ws : List ℕ) (a : Answer) → expectedReply t a ≡ []
     → ((i id n : ℕ) (cq : CqData) → a ≡ Answer.Done i id n cq → ⊥) → WriteClaim area t a 0 [] → Yielded area mem starts t (quiet p ws a)
 plain-yield area mem starts t p ws a e d w = record { reply = sym e; done = λ i id n cq x. absurd (d i id n cq x); writes = w }
 
@@ -148,13 +159,13 @@ module _ (area limit : ℕ) (p : Peer) (ws : List ℕ) (mem mem′ : ℕ → ℕ
       let at = chosen-at p h i r (j .matched) in
       subst (λ (t : Target). Yielded area mem′ starts t (begun limit p ws i r h bytes)) (sym (match-target area limit p ws mem mem′ l h bytes v form big agrees i r (j .matched)))
       (settled-yields area limit p (marked (cleared ws (r .start) (r .capacity)) (r .start + h .offset) (length bytes)) mem′ l starts (advance p) i (opened r h)
-      (segmentOf h bytes) [] _ (begun-taken area limit p ws mem mem′ l h bytes v form big agrees i r j w)
+      (segmentOf h bytes) [] _ refl (begun-taken area limit p ws mem mem′ l h bytes v form big agrees i r j w)
       (s .at i (ap isFree (at .1)) ∙ ap startOf (at .1)) refl (omega (arith, form .size, form .inside (j .matched .rtm))))
   carried-yields h bytes (Verdict.More i o) form j w =
       let at = continued-at p ws h i o j in
       subst (λ (t : Target). Yielded area mem′ starts t (accept limit p ws i o (h .offset) bytes)) (sym (open-target area limit p ws mem mem′ l h bytes v form big agrees i o (j .found)))
       (settled-yields area limit p (marked ws (o .receive .start + h .offset) (length bytes)) mem′ l starts p i o (segmentOf h bytes)
-      (entryAt (l .entries) i .segments) _ (more-taken area limit p ws mem mem′ l h bytes v form big agrees i o j w)
+      (entryAt (l .entries) i .segments) _ refl (more-taken area limit p ws mem mem′ l h bytes v form big agrees i o j w)
       (s .at i (ap isFree (at .1)) ∙ ap startOf (at .1)) refl (omega (arith, form .size, j .inLength)))
 
   -- the effect of a call that writes nothing and is not answered done

@@ -6,10 +6,12 @@ use lib.Dec.{leb, ltb}
 use Rattle.laws.specs.Choose.{pick}
 use Rattle.bitmap.specs.Offsets.{someOf, countOf, firstNot}
 use Rattle.protocol.specs.Cts.{ctsBytes}
+use Rattle.protocol.specs.declared.types.CqData.{CqData}
 use Rattle.protocol.specs.declared.types.Read.{Read}
 use Rattle.protocol.specs.Reading.{readOf}
 use Rattle.protocol.specs.Values.{bytesAt}
 use Rattle.peer.specs.declared.types.Receive.{Receive}
+use Rattle.peer.specs.declared.types.Message.{Message}
 use Rattle.peer.specs.declared.types.Inbound.{Inbound}
 use Rattle.peer.specs.declared.types.Incoming.{Incoming}
 use Rattle.peer.specs.declared.types.Found.{Found}
@@ -139,21 +141,38 @@ targetOfCall limit l (packet bs room) = targetOfRead l bs (readOf false limit bs
 targetOfCall limit l (cancel i) = Rattle.peer.specs.Plain.nowhere
 targetOfCall limit l (report i) = Rattle.peer.specs.Plain.nowhere
 
--- "a CTS in the first 24 reply bytes" for the message, if the answer is granted; "no other answer touches the reply buffer"
-abbrev pub ctsFor : Role → ℕ → List ℕ
-ctsFor idle n = []
-ctsFor (waiting r) n = []
-ctsFor (receiving o) n = ctsBytes (o .message .«send_id») (o .message .id) n
+-- the message that a packet's segment goes to; all zeros where there is none
+abbrev pub noMessage : Message
+noMessage =
+    record {
+      kind = 0;
+      id = 0;
+      tag = 0;
+      length = 0;
+      granted = 0;
+      «send_id» = 0;
+      «credit_request» = 0;
+      «cq_data» = CqData.Absent;
+    }
 
-abbrev pub expectedReply : Role → Answer → List ℕ
-expectedReply u (Answer.Refused k) = []
-expectedReply u (Answer.Posted i) = []
-expectedReply u (Answer.Cancelled i) = []
-expectedReply u Answer.Stored = []
-expectedReply u (Answer.Granted n) = ctsFor u n
-expectedReply u (Answer.Done i id n cq) = []
-expectedReply u (Answer.Truncated i id n) = []
-expectedReply u (Answer.Missing c o) = []
+abbrev pub messageOf : Role → Message
+messageOf idle = noMessage
+messageOf (waiting r) = noMessage
+messageOf (receiving o) = o .message
+
+abbrev pub messageIn : Target → Message
+messageIn t = messageOf (t .entry .role)
+
+-- "a CTS in the first 24 reply bytes" for the message, if the answer is granted; "no other answer touches the reply buffer"
+abbrev pub expectedReply : Target → Answer → List ℕ
+expectedReply t (Answer.Refused k) = []
+expectedReply t (Answer.Posted i) = []
+expectedReply t (Answer.Cancelled i) = []
+expectedReply t Answer.Stored = []
+expectedReply t (Answer.Granted n) = ctsBytes (messageIn t .«send_id») (messageIn t .id) n
+expectedReply t (Answer.Done i id n cq) = []
+expectedReply t (Answer.Truncated i id n) = []
+expectedReply t (Answer.Missing c o) = []
 
 -- the bytes of a message that is answered done, by its accepted segments
 abbrev pub expectedBytes : List Segment → Answer → List ℕ

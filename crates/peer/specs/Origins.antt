@@ -186,4 +186,4 @@ GrantIsACts =
     (area limit : ℕ) (calls : List Call) (c : Call) → 64 ≤ limit
     → ReplyClaim (originOfCall limit (history area limit calls) (originsOf area limit calls) c (expected area limit (history area limit calls) c))
     (expected area limit (history area limit calls) c)
-    (expectedReply (targetOfCall limit (history area limit calls) c .entry .role) (expected area limit (history area limit calls) c))
+    (expectedReply (targetOfCall limit (history area limit calls) c) (expected area limit (history area limit calls) c))
