@@ -59,14 +59,14 @@ pub valid-free : (area : ℕ) (ss : List Slot) (i : ℕ) → i < length ss → V
 unfolding phaseFits clash
 valid-free area ss i h v = valid-set area ss i Phase.Free h v refl (λ k l n. refl)
 
--- an open message takes the place of its receive
-pub clash-begun : (r : Receive) (a : ℕ) (o : Inbound) (g : Phase) → o .receive ≡ r → clash (Phase.Posted r a) g ≡ false
+-- an open message takes the place of a receive with the same range
+pub clash-begun : (r : Receive) (a : ℕ) (o : Inbound) (g : Phase) → ((s : Receive) → overlap (o .receive) s ≡ overlap r s) → clash (Phase.Posted r a) g ≡ false
     → ((q : Inbound) → g ≡ Phase.Open q → q .message .id ≡ o .message .id → ⊥) → clash (Phase.Open o) g ≡ false
 unfolding clash
 clash-begun r a o Phase.Free e c d = refl
-clash-begun r a o (Phase.Posted s b) e c d = ap (λ (x : Receive). overlap x s) e ∙ or-left (overlap r s) (eqb a b) c
+clash-begun r a o (Phase.Posted s b) e c d = e s ∙ or-left (overlap r s) (eqb a b) c
 clash-begun r a o (Phase.Open q) e c d =
-    or-neither (overlap (o .receive) (q .receive)) (eqb (o .message .id) (q .message .id)) (ap (λ (x : Receive). overlap x (q .receive)) e ∙ c)
+    or-neither (overlap (o .receive) (q .receive)) (eqb (o .message .id) (q .message .id)) (e (q .receive) ∙ c)
     (ne-eqb (o .message .id) (q .message .id) (λ x. d q refl (sym x)))
 
 -- a message that keeps its range and its id clashes as before
@@ -129,7 +129,7 @@ begun-standing area p h n i r v form b =
         inLength = omega (arith, form .inside (b .matched .rtm));
       };
       apart = λ k l m.
-          clash-begun r (b .matched .age) (opened r h) (phaseAt (p .slots) k) refl
+          clash-begun r (b .matched .age) (opened r h) (phaseAt (p .slots) k) (λ s. unfold overlap in refl)
           (ap (λ (f : Phase). clash f (phaseAt (p .slots) k)) (sym (at .1)) ∙ v .pairs i k (at .0) l (λ x. m (sym x)))
           (λ q x y. found-nothing (h .id) 0 (p .slots) (b .matched .unopened) k l q x y);
     }
