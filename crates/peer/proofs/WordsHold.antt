@@ -78,7 +78,7 @@ rtm-is-64-to-69 k r e = (
 pub plain-fits-plain : PlainFitsPlain
 unfolding PlainFitsPlain fits
 plain-fits-plain h r e =
-    let p = pick-false (r .tagged && sameOutside (r .ignore) (h .tag) (r .tag)) (not (r .tagged)) (ne-eqb (h .kind % 2) 1 (λ x. omega arith)) in
+    let p : fits h r ≡ not (r .tagged) = pick-false _ _ (ne-eqb (h .kind % 2) 1 (λ x. omega arith)) in
     (λ t. not-true (r .tagged) (sym p ∙ t), λ x. p ∙ rw x)
 
 -- bit k of two numbers, each with the bits of a third
@@ -102,7 +102,7 @@ same-outside ignore a b = (
 pub tagged-fits-outside-ignore : TaggedFitsOutsideIgnore
 unfolding TaggedFitsOutsideIgnore fits
 tagged-fits-outside-ignore h r e =
-    let p = pick-true (r .tagged && sameOutside (r .ignore) (h .tag) (r .tag)) (not (r .tagged)) (eq-eqb (h .kind % 2) 1 e) in
+    let p : fits h r ≡ (r .tagged && sameOutside (r .ignore) (h .tag) (r .tag)) = pick-true _ _ (eq-eqb (h .kind % 2) 1 e) in
     let own : (r .tagged ≡ true) ↔ (r .tagged ≡ true) = (λ t. t, λ t. t) in
     let w = both-tests own (same-outside (r .ignore) (h .tag) (r .tag)) in
     (λ t. w .0 (sym p ∙ t), λ x. p ∙ w .1 x)
