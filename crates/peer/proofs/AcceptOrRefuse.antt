@@ -188,7 +188,7 @@ module _ (area limit : ℕ) (p : Peer) (ws : List ℕ) where
 
     more-unrefused : (i : ℕ) (o : Inbound) → Unrefused (told (Verdict.More i o))
     unfolding carry accept
-    more-unrefused i o = settled-unrefused limit p i o _
+    more-unrefused i o = settled-unrefused limit p i _ _
 
     begin-unrefused : (i : ℕ) (r : Receive) → Unrefused (told (Verdict.Begin i r))
     unfolding carry begun accept

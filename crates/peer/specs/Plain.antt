@@ -28,6 +28,12 @@ pub data Role : Type 0 where
   waiting : Receive → Role
   receiving : Inbound → Role
 
+-- the granted end of an open message moves on
+abbrev pub extendedRole : ℕ → Role → Role
+extendedRole n idle = idle
+extendedRole n (waiting r) = waiting r
+extendedRole n (receiving o) = receiving (extended n o)
+
 -- the role of a slot; the number of posts before its receive's; of an open message its accepted segments, the latest first, the length of
 -- its RTM's data, and the recv_length of every CTS written for it
 pub record Entry : Type 0 where
@@ -115,11 +121,6 @@ nextAfter l t = pick (t .matched) ((l .next + 1) % 4294967296) (l .next)
 
 abbrev pub settle : Plain → Target → Entry → Plain
 settle l t e = record { next = nextAfter l t; posts = l .posts; entries = set (l .entries) (t .index) e }
-
-abbrev pub extendedRole : ℕ → Role → Role
-extendedRole n idle = idle
-extendedRole n (waiting r) = waiting r
-extendedRole n (receiving o) = receiving (extended n o)
 
 -- a CTS for n bytes more
 abbrev pub grantedEntry : ℕ → Entry → Entry
