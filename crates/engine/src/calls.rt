@@ -28,10 +28,10 @@ pub fn post(mut engine: Engine, peer: usize, receive: Receive, arena: &[u8], map
     let answer = match checks::gate(fits, n, area, arena.len(), map.len(), peer) {
         Gate::Shut(refusal) => Answer::Refused(refusal),
         Gate::Open => {
-            let there = engine.peers[peer];
-            let step = posting::post(there, area, receive);
-            let after = step.peer;
-            engine.peers[peer] = after;
+            let poster = engine.peers[peer];
+            let step = posting::post(poster, area, receive);
+            let posted = step.peer;
+            engine.peers[peer] = posted;
             step.answer
         }
     };
@@ -62,10 +62,10 @@ pub fn packet(
     let answer = match checks::gate(fits, n, area, arena.len(), map.len(), peer) {
         Gate::Shut(refusal) => Answer::Refused(refusal),
         Gate::Open => {
-            let there = engine.peers[peer];
-            let step = lending::packet_at(there, peer, area, limit, bytes, arena, map, reply);
-            let after = step.peer;
-            engine.peers[peer] = after;
+            let sender = engine.peers[peer];
+            let step = lending::packet_at(sender, peer, area, limit, bytes, arena, map, reply);
+            let received = step.peer;
+            engine.peers[peer] = received;
             step.answer
         }
     };
@@ -88,10 +88,10 @@ pub fn cancel(mut engine: Engine, peer: usize, slot: usize, arena: &[u8], map: &
     let answer = match checks::gate(fits, n, area, arena.len(), map.len(), peer) {
         Gate::Shut(refusal) => Answer::Refused(refusal),
         Gate::Open => {
-            let there = engine.peers[peer];
-            let step = posting::cancel(there, slot);
-            let after = step.peer;
-            engine.peers[peer] = after;
+            let holder = engine.peers[peer];
+            let step = posting::cancel(holder, slot);
+            let cancelled = step.peer;
+            engine.peers[peer] = cancelled;
             step.answer
         }
     };
@@ -114,8 +114,8 @@ pub fn report(engine: Engine, peer: usize, slot: usize, arena: &[u8], map: &[u64
     let answer = match checks::gate(fits, n, area, arena.len(), map.len(), peer) {
         Gate::Shut(refusal) => Answer::Refused(refusal),
         Gate::Open => {
-            let there = engine.peers[peer];
-            lending::report_at(there, peer, slot, area, map)
+            let asked = engine.peers[peer];
+            lending::report_at(asked, peer, slot, area, map)
         }
     };
     Outcome { engine, answer }

@@ -92,20 +92,20 @@ enum-known-refusal c = search needs
 enum-told : tie.Need-enum-told Inv-loop μ-loop
 enum-told c = search needs
 
-mul-there : tie.Need-mul-there Inv-loop μ-loop
-mul-there c = omega (arith, admitted c .below)
+mul-holder : tie.Need-mul-holder Inv-loop μ-loop
+mul-holder c = omega (arith, admitted c .below)
 
-element-copy-out-there : tie.Need-element-copy-out-there Inv-loop μ-loop
-element-copy-out-there c = omega (arith, admitted c .below)
+element-copy-out-holder : tie.Need-element-copy-out-holder Inv-loop μ-loop
+element-copy-out-holder c = omega (arith, admitted c .below)
 
 cancel-requires : tie.Need-cancel-requires Inv-loop μ-loop
 cancel-requires c κs = search needs
 
-mul-after : tie.Need-mul-after Inv-loop μ-loop
-mul-after c = omega (arith, admitted (c .before .before .before) .below)
+mul-cancelled : tie.Need-mul-cancelled Inv-loop μ-loop
+mul-cancelled c = omega (arith, admitted (c .before .before .before) .below)
 
-element-set-from-after : tie.Need-element-set-from-after Inv-loop μ-loop
-element-set-from-after c = omega (arith, admitted (c .before .before .before) .below)
+element-set-from-cancelled : tie.Need-element-set-from-cancelled Inv-loop μ-loop
+element-set-from-cancelled c = omega (arith, admitted (c .before .before .before) .below)
 
 returns : tie.Need-returns Inv-loop μ-loop
 unfolding throughGate
@@ -144,10 +144,10 @@ cancel-spec =
     gate-requires
     enum-known-refusal
     enum-told
-    mul-there
-    element-copy-out-there
+    mul-holder
+    element-copy-out-holder
     cancel-requires
-    mul-after
-    element-set-from-after
+    mul-cancelled
+    element-set-from-cancelled
     returns
     returns-2)

@@ -90,20 +90,20 @@ enum-known-refusal c = search needs
 enum-told : tie.Need-enum-told Inv-loop μ-loop
 enum-told c = search needs
 
-mul-there : tie.Need-mul-there Inv-loop μ-loop
-mul-there c = omega (arith, admitted c .below)
+mul-sender : tie.Need-mul-sender Inv-loop μ-loop
+mul-sender c = omega (arith, admitted c .below)
 
-element-copy-out-there : tie.Need-element-copy-out-there Inv-loop μ-loop
-element-copy-out-there c = omega (arith, admitted c .below)
+element-copy-out-sender : tie.Need-element-copy-out-sender Inv-loop μ-loop
+element-copy-out-sender c = omega (arith, admitted c .below)
 
 packet-at-requires : tie.Need-packet-at-requires Inv-loop μ-loop
 packet-at-requires c κs = admitted (c .before .before .before .before) .owns _
 
-mul-after : tie.Need-mul-after Inv-loop μ-loop
-mul-after c = omega (arith, admitted (c .before .before .before .before .before .before .before .before .before .before .before .before) .below)
+mul-received : tie.Need-mul-received Inv-loop μ-loop
+mul-received c = omega (arith, admitted (c .before .before .before .before .before .before .before .before .before .before .before .before) .below)
 
-element-set-from-after : tie.Need-element-set-from-after Inv-loop μ-loop
-element-set-from-after c = omega (arith, admitted (c .before .before .before .before .before .before .before .before .before .before .before .before) .below)
+element-set-from-received : tie.Need-element-set-from-received Inv-loop μ-loop
+element-set-from-received c = omega (arith, admitted (c .before .before .before .before .before .before .before .before .before .before .before .before) .below)
 
 returns : tie.Need-returns Inv-loop μ-loop
 unfolding throughGate
@@ -152,11 +152,11 @@ packet-spec =
     gate-requires
     enum-known-refusal
     enum-told
-    mul-there
-    element-copy-out-there
+    mul-sender
+    element-copy-out-sender
     packet-at-requires
-    mul-after
-    element-set-from-after
+    mul-received
+    element-set-from-received
     returns
     same-length
     same-length-2

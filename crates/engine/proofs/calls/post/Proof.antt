@@ -92,20 +92,20 @@ enum-known-refusal c = search needs
 enum-told : tie.Need-enum-told Inv-loop μ-loop
 enum-told c = search needs
 
-mul-there : tie.Need-mul-there Inv-loop μ-loop
-mul-there c = omega (arith, admitted c .below)
+mul-poster : tie.Need-mul-poster Inv-loop μ-loop
+mul-poster c = omega (arith, admitted c .below)
 
-element-copy-out-there : tie.Need-element-copy-out-there Inv-loop μ-loop
-element-copy-out-there c = omega (arith, admitted c .below)
+element-copy-out-poster : tie.Need-element-copy-out-poster Inv-loop μ-loop
+element-copy-out-poster c = omega (arith, admitted c .below)
 
 post-requires : tie.Need-post-requires Inv-loop μ-loop
 post-requires c κs = search needs
 
-mul-after : tie.Need-mul-after Inv-loop μ-loop
-mul-after c = omega (arith, admitted (c .before .before .before) .below)
+mul-posted : tie.Need-mul-posted Inv-loop μ-loop
+mul-posted c = omega (arith, admitted (c .before .before .before) .below)
 
-element-set-from-after : tie.Need-element-set-from-after Inv-loop μ-loop
-element-set-from-after c = omega (arith, admitted (c .before .before .before) .below)
+element-set-from-posted : tie.Need-element-set-from-posted Inv-loop μ-loop
+element-set-from-posted c = omega (arith, admitted (c .before .before .before) .below)
 
 returns : tie.Need-returns Inv-loop μ-loop
 unfolding throughGate
@@ -144,10 +144,10 @@ post-spec =
     gate-requires
     enum-known-refusal
     enum-told
-    mul-there
-    element-copy-out-there
+    mul-poster
+    element-copy-out-poster
     post-requires
-    mul-after
-    element-set-from-after
+    mul-posted
+    element-set-from-posted
     returns
     returns-2)

@@ -92,11 +92,11 @@ enum-known-refusal c = search needs
 enum-told : tie.Need-enum-told Inv-loop μ-loop
 enum-told c = search needs
 
-mul-there : tie.Need-mul-there Inv-loop μ-loop
-mul-there c = omega (arith, admitted c .below)
+mul-asked : tie.Need-mul-asked Inv-loop μ-loop
+mul-asked c = omega (arith, admitted c .below)
 
-element-copy-out-there : tie.Need-element-copy-out-there Inv-loop μ-loop
-element-copy-out-there c = omega (arith, admitted c .below)
+element-copy-out-asked : tie.Need-element-copy-out-asked Inv-loop μ-loop
+element-copy-out-asked c = omega (arith, admitted c .below)
 
 report-at-requires : tie.Need-report-at-requires Inv-loop μ-loop
 report-at-requires c κs = admitted (c .before) .owns _ .mapped
@@ -139,8 +139,8 @@ report-spec =
     gate-requires
     enum-known-refusal
     enum-told
-    mul-there
-    element-copy-out-there
+    mul-asked
+    element-copy-out-asked
     report-at-requires
     returns
     returns-2)
