@@ -1,5 +1,5 @@
 -- Laws of `digits`: a number's last digit, how many digits there are, and digits that are set one before the other.
-use Prim.Native.Nat.{ℕ, zero, suc, _+_, _-_, _/_, _%_, _^_, _≤_, _<_}
+use Prim.Native.Nat.{ℕ, zero, suc, _+_, _-_, _/_, _^_, _≤_, _<_}
 use borrow.Author.Tests.{lt-ltb, le-ltb}
 use lib.ListN.{length, take, drop, set, length-append, length-drop, length-set}
 use lib.Seq.{take-all, append-snoc}
@@ -10,7 +10,7 @@ use native.Mathlib.Omega.{arith}
 use Rattle.laws.specs.Choose.{pick}
 use Rattle.laws.proofs.Choosing.{branch}
 use Rattle.laws.proofs.Listing.{drop-set}
-use Rattle.text.specs.Decimals.{digits}
+use Rattle.text.specs.Decimals.{digits, lastDigit}
 
 -- one digit
 pub digits-one : (k v : ℕ) → v < 10 → digits k v ≡ (48 + v) ∷ []
@@ -19,7 +19,7 @@ digits-one zero v h = refl
 digits-one (suc k) v h = rw (lt-ltb v 10 h)
 
 -- the last of more
-pub digits-more : (k v : ℕ) → 10 ≤ v → digits (suc k) v ≡ digits k (v / 10) ++ ((48 + v % 10) ∷ [])
+pub digits-more : (k v : ℕ) → 10 ≤ v → digits (suc k) v ≡ digits k (v / 10) ++ (lastDigit v ∷ [])
 unfolding digits pick
 digits-more k v h = rw (le-ltb v 10 h)
 
@@ -45,11 +45,11 @@ length-digits (suc k) v =
 
 -- the last digit of more is set
 pub set-last : (l : List ℕ) (k v : ℕ) → 0 < k → k < length l → 10 ≤ v
-    → digits k v ++ drop (suc k) l ≡ digits (k - 1) (v / 10) ++ drop (suc (k - 1)) (set l k (48 + v % 10))
+    → digits k v ++ drop (suc k) l ≡ digits (k - 1) (v / 10) ++ drop (suc (k - 1)) (set l k (lastDigit v))
 set-last l zero v p h m = absurd (omega arith)
 set-last l (suc k) v p h m =
-    rw (sub-one, digits-more k v m, drop-set l (suc k) (48 + v % 10) h)
-    (append-snoc (digits k (v / 10)) (48 + v % 10) (drop (suc (suc k)) l))
+    rw (sub-one, digits-more k v m, drop-set l (suc k) (lastDigit v) h)
+    (append-snoc (digits k (v / 10)) (lastDigit v) (drop (suc (suc k)) l))
 
 -- the one digit that is left is set
 pub set-first : (l : List ℕ) (k v : ℕ) → k < length l → v < 10 → digits k v ++ drop (suc k) l ≡ drop k (set l k (48 + v))
