@@ -1,4 +1,1 @@
-pub mod GroupCounts
-pub mod GroupsRead
 pub mod WritingLaws
-pub mod RoundTrips

@@ -10,7 +10,8 @@ use native.Mathlib.Omega.{arith}
 use Rattle.laws.specs.Choose.{pick}
 use Rattle.laws.specs.Parts.{storeAt}
 use Rattle.trace.specs.Numbers.{numberBytes}
-use Rattle.recording.specs.Writing.{numbersBytes, wrote}
+use Rattle.trace.specs.Recorded.{numbersBytes}
+use Rattle.recording.specs.Writing.{wrote}
 use Rattle.recording.specs.declared.types.Written.the-variants.{Next, Short}
 use Rattle.laws.proofs.Storing.{store-store}
 

@@ -7,7 +7,8 @@ ghost use mathlib.Core.Path.{_≡_};
 ghost use Prim.Native.Nat.{_+_, _≤_};
 ghost use lib.ListN.{length};
 ghost use Rattle.laws.specs.Parts.{storeAt};
-ghost use Rattle.recording.specs.Writing.{numbersBytes, setUpBytes, postBytes, packetBytes, cancelBytes, wrote};
+ghost use Rattle.trace.specs.Recorded.{numbersBytes, setUpBytes, postBytes, packetBytes, cancelBytes};
+ghost use Rattle.recording.specs.Writing.{wrote};
 
 // How many bytes the numbers take.
 fn numbers_size(numbers: &[u64]) -> usize

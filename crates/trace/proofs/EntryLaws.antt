@@ -1,7 +1,7 @@
 -- The bytes of a packet that is read from a trace stand within the trace.
 use Prim.Native.Nat.{ℕ, _+_}
 use borrow.Author.Tests.{leb-true}
-use lib.Dec.{eqb, leb}
+use lib.Dec.{leb}
 use lib.ListN.{length}
 use mathlib.Core.List.{List}
 use mathlib.Core.Path.{_≡_}
@@ -38,11 +38,11 @@ module _ (s : List ℕ) where
   holds at =
       let P = Holds (length s) in
       on-number (length s) (numberAt s at) _ (λ first next.
-      pick-either P (eqb first 1)
-      (on-pair (length s) (pairAt s next) _ (λ peer kind m. pick-either P (leb kind 1) (post (length s) peer (receiveAt s m kind)) tt))
-      (pick-either P (eqb first 2)
+      pick-either P _
+      (on-pair (length s) (pairAt s next) _ (λ peer kind m. pick-either P _ (post (length s) peer (receiveAt s m kind)) tt))
+      (pick-either P _
       (on-pair (length s) (pairAt s next) _ (λ peer count m. branch P (leb (m + count) (length s)) _ _ (λ t. leb-true _ _ t) (λ t. tt)))
-      (pick-either P (eqb first 3) (on-pair (length s) (pairAt s next) _ (λ peer slot m. tt)) tt)))
+      (pick-either P _ (on-pair (length s) (pairAt s next) _ (λ peer slot m. tt)) tt)))
 
   pub entry-inside : (at : ℕ) (e : Entry) (next : ℕ) → entryAt s at ≡ Found.Entry e next → Inside (length s) e
   entry-inside at e next h = rw h at (holds at)

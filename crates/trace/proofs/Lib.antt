@@ -1,4 +1,9 @@
 pub mod NumberLaws
 pub mod EntryLaws
 pub mod GroupLaws
+pub mod GroupCounts
 pub mod ShortestForm
+pub mod Standing
+pub mod OnlyAsRecorded
+pub mod GroupsRead
+pub mod ReadBack

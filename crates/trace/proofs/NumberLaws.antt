@@ -154,7 +154,7 @@ BothInside n Pair.Bad = Unit {0}
 BothInside n (Pair.Are a b next) = (next ≤ n) × (a < 2 ^ 64) × (b < 2 ^ 64)
 
 -- what holds of the result for a malformed number and for each that may be read
-on-number : {A : Type 0} (P : A → Type 0) (m : Number) (bad : A) (f : ℕ → ℕ → A) → P bad → ((v next : ℕ) → m ≡ Is v next → P (f v next))
+pub on-number : {A : Type 0} (P : A → Type 0) (m : Number) (bad : A) (f : ℕ → ℕ → A) → P bad → ((v next : ℕ) → m ≡ Is v next → P (f v next))
     → P (onNumber m bad f)
 on-number P Bad bad f p q = p
 on-number P (Is v next) bad f p q = q v next refl

@@ -1,3 +1,5 @@
 pub mod Numbers
 pub mod Entries
 pub mod ShortestForm
+pub mod Recorded
+pub mod ExactlyRecorded

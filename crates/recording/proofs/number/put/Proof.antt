@@ -7,7 +7,7 @@ use Rattle.laws.specs.Parts.{storeAt}
 use Rattle.trace.specs.Numbers.{groups}
 use Rattle.laws.proofs.Storing.{set-next, set-store}
 use Rattle.trace.proofs.GroupLaws.{groups-last}
-use Rattle.recording.proofs.GroupCounts.{In, groups-length, groups-more}
+use Rattle.trace.proofs.GroupCounts.{In, groups-length, groups-more}
 use Rattle.recording.proofs.number.put.Statement.{statement}
 use Rattle.recording.proofs.number.put.Tie as tie
 

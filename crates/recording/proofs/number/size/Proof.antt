@@ -5,7 +5,7 @@ use mathlib.Core.Path.{_≡_, ap}
 use native.Mathlib.Omega.{arith}
 use Rattle.trace.specs.Numbers.{groups}
 use Rattle.trace.proofs.GroupLaws.{groups-last}
-use Rattle.recording.proofs.GroupCounts.{In, groups-more}
+use Rattle.trace.proofs.GroupCounts.{In, groups-more}
 use Rattle.recording.proofs.number.size.Statement.{statement}
 use Rattle.recording.proofs.number.size.Tie as tie
 

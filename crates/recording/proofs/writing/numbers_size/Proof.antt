@@ -5,8 +5,8 @@ use mathlib.Core.Path.{_≡_, ap}
 use native.Mathlib.Numerals.{add-one}
 use native.Mathlib.Omega.{arith}
 use borrow.Author.Needs.{needs}
-use Rattle.recording.specs.Writing.{numbersBytes}
-use Rattle.recording.proofs.GroupCounts.{groups-length}
+use Rattle.trace.specs.Recorded.{numbersBytes}
+use Rattle.trace.proofs.GroupCounts.{groups-length}
 use Rattle.recording.proofs.WritingLaws.{numbers-end, numbers-length}
 use Rattle.recording.proofs.writing.numbers_size.Statement.{statement}
 use Rattle.recording.proofs.writing.numbers_size.Tie as tie

@@ -7,7 +7,7 @@ use native.Mathlib.Omega.{arith}
 use borrow.Author.Needs.{needs}
 use Rattle.laws.specs.Parts.{storeAt}
 use Rattle.trace.specs.Numbers.{numberBytes}
-use Rattle.recording.specs.Writing.{numbersBytes}
+use Rattle.trace.specs.Recorded.{numbersBytes}
 use Rattle.laws.proofs.Storing.{store-next, store-nothing}
 use Rattle.recording.proofs.WritingLaws.{numbers-end, numbers-length, numbers-next}
 use Rattle.recording.proofs.writing.put_numbers.Statement.{statement}

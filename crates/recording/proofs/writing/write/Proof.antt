@@ -2,7 +2,7 @@
 use borrow.Author.Needs.{needs}
 use mathlib.Core.Path.{sym}
 use native.Mathlib.Omega.{arith}
-use Rattle.recording.specs.Writing.{numbersBytes}
+use Rattle.trace.specs.Recorded.{numbersBytes}
 use Rattle.recording.proofs.WritingLaws.{wrote-both, wrote-short}
 use Rattle.recording.proofs.writing.write.Statement.{statement}
 use Rattle.recording.proofs.writing.write.Tie as tie

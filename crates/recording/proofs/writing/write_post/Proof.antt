@@ -3,7 +3,7 @@ use borrow.Author.Needs.{needs}
 use mathlib.Core.List.{append-nil}
 use mathlib.Core.Logic.{⊎-elim}
 use mathlib.Core.Path.{_≡_, sym, _∙_}
-use Rattle.recording.specs.Writing.{kindOf}
+use Rattle.trace.specs.Recorded.{kindOf}
 use Rattle.laws.proofs.Choosing.{pick-true, pick-false}
 use Rattle.recording.proofs.writing.write_post.Statement.{statement}
 use Rattle.recording.proofs.writing.write_post.Tie as tie

@@ -20,21 +20,21 @@ post-at-requires c κs = search needs
 
 returns : tie.Need-returns
 unfolding entryAt pick
-returns c = rw (← c .before .before .before .before .before .number-at .ensures, c .before .before .before .first .given .1, eq-eqb _ 1 (c .before .if1 .taken)) (c .post-at .ensures)
+returns c = rw (← c .before .before .before .before .before .number-at .ensures, c .before .before .before .first .given .1, eq-eqb _ _ (c .before .if1 .taken)) (c .post-at .ensures)
 
 packet-at-requires : tie.Need-packet-at-requires
 packet-at-requires c κs = search needs
 
 returns-2 : tie.Need-returns-2
 unfolding entryAt pick
-returns-2 c = rw (← c .before .before .before .before .before .before .number-at .ensures, c .before .before .before .before .first .given .1, ne-eqb _ 1 (c .before .before .if1 .left), eq-eqb _ 2 (c .before .if2 .taken)) (c .packet-at .ensures)
+returns-2 c = rw (← c .before .before .before .before .before .before .number-at .ensures, c .before .before .before .before .first .given .1, ne-eqb _ _ (c .before .before .if1 .left), eq-eqb _ _ (c .before .if2 .taken)) (c .packet-at .ensures)
 
 cancel-at-requires : tie.Need-cancel-at-requires
 cancel-at-requires c κs = search needs
 
 returns-3 : tie.Need-returns-3
 unfolding entryAt pick
-returns-3 c = rw (← c .before .before .before .before .before .before .before .number-at .ensures, c .before .before .before .before .before .first .given .1, ne-eqb _ 1 (c .before .before .before .if1 .left), ne-eqb _ 2 (c .before .before .if2 .left), eq-eqb _ 3 (c .before .if3 .taken)) (c .cancel-at .ensures)
+returns-3 c = rw (← c .before .before .before .before .before .before .before .number-at .ensures, c .before .before .before .before .before .first .given .1, ne-eqb _ _ (c .before .before .before .if1 .left), ne-eqb _ _ (c .before .before .if2 .left), eq-eqb _ _ (c .before .if3 .taken)) (c .cancel-at .ensures)
 
 returns-4 : tie.Need-returns-4
 unfolding entryAt
@@ -42,7 +42,7 @@ returns-4 c = rw (← c .before .before .number-at .ensures, c .enum-told .given
 
 returns-5 : tie.Need-returns-5
 unfolding entryAt pick
-returns-5 c = rw (← c .before .before .before .before .before .before .number-at .ensures, c .before .before .before .before .first .given .1, ne-eqb _ 1 (c .before .before .if1 .left), ne-eqb _ 2 (c .before .if2 .left), ne-eqb _ 3 (c .if3 .left))
+returns-5 c = rw (← c .before .before .before .before .before .before .number-at .ensures, c .before .before .before .before .first .given .1, ne-eqb _ _ (c .before .before .if1 .left), ne-eqb _ _ (c .before .if2 .left), ne-eqb _ _ (c .if3 .left))
 
 pub entry-at-spec : {M : Type 1} → statement M
 entry-at-spec =

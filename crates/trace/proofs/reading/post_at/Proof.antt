@@ -17,7 +17,7 @@ enum-known-peer c = search needs
 
 returns : tie.Need-returns
 unfolding postAt pick
-returns c = rw (← c .before .before .before .before .pair-at .ensures, c .before .before .peer .given .1, lt-leb _ 1 (c .if1 .taken))
+returns c = rw (← c .before .before .before .before .pair-at .ensures, c .before .before .peer .given .1, lt-leb _ _ (c .if1 .taken))
 
 receive-at-requires : tie.Need-receive-at-requires
 receive-at-requires c κs = search needs
@@ -34,11 +34,11 @@ returns-2 c = rw (← c .before .before .pair-at .ensures, c .enum-told .given .
 
 returns-3 : tie.Need-returns-3
 unfolding postAt pick
-returns-3 c = rw (← c .before .before .before .before .before .before .before .pair-at .ensures, c .before .before .before .before .before .peer .given .1, le-leb _ 1 (c .before .before .before .if1 .left), ← c .before .before .receive-at .ensures, c .enum-told2 .given .1)
+returns-3 c = rw (← c .before .before .before .before .before .before .before .pair-at .ensures, c .before .before .before .before .before .peer .given .1, le-leb _ _ (c .before .before .before .if1 .left), ← c .before .before .receive-at .ensures, c .enum-told2 .given .1)
 
 returns-4 : tie.Need-returns-4
 unfolding postAt pick
-returns-4 c = rw (← c .before .before .before .before .before .before .before .before .pair-at .ensures, c .before .before .before .before .before .before .peer .given .1, le-leb _ 1 (c .before .before .before .before .if1 .left), ← c .before .before .before .receive-at .ensures, c .before .receive .given .1)
+returns-4 c = rw (← c .before .before .before .before .before .before .before .before .pair-at .ensures, c .before .before .before .before .before .before .peer .given .1, le-leb _ _ (c .before .before .before .before .if1 .left), ← c .before .before .before .receive-at .ensures, c .before .receive .given .1)
 
 pub post-at-spec : {M : Type 1} → statement M
 post-at-spec =

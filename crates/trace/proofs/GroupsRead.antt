@@ -10,12 +10,12 @@ use mathlib.Core.Path.{_≡_, ap, _∙_}
 use native.Mathlib.Nat.{add-suc, suc-add}
 use native.Mathlib.Numerals.{add-one}
 use native.Mathlib.Omega.{arith}
 use Rattle.trace.specs.Numbers.{groups, lastGroup, numberFrom, numberAt, numberBytes}
 use Rattle.trace.specs.declared.types.Number.the-variants.{Is}
 use Rattle.laws.proofs.Choosing.{tested}
 use Rattle.trace.proofs.GroupLaws.{groups-last, groups-suc, rest-sum}
 use Rattle.trace.proofs.NumberLaws.{last-is, number-last, number-more}
-use Rattle.recording.proofs.GroupCounts.{In, in-suc}
+use Rattle.trace.proofs.GroupCounts.{In, in-suc}
 
 -- what stands first in the rest of a list
 head-at : (s : List ℕ) (at b : ℕ) (r : List ℕ) → drop at s ≡ b ∷ r → (at < length s) × (getD s at 0 ≡ b) × (drop (suc at) s ≡ r)
