@@ -5,7 +5,7 @@ use lib.Dec.{leb}
 use lib.ListN.{length}
 use mathlib.Core.List.{List}
 use mathlib.Core.Logic.{_⊎_, ⊎-elim}
-use mathlib.Core.Path.{_≡_, refl, _∙_}
+use mathlib.Core.Path.{_≡_, refl, sym, ap, _∙_}
 use native.Mathlib.Omega.{arith}
 use Rattle.laws.proofs.Choosing.{pick-either, pick-false, pick-true}
 use Rattle.trace.specs.Entries.{entryAt}
@@ -30,7 +30,7 @@ unfolding decode
 decode-end zero s buffer at h = refl
 decode-end (suc k) s buffer at h =
     let l : length s ≤ at = ⊎-elim (λ e. absurd (omega arith)) (λ e. e) h in
-    pick-true _ _ (le-leb (length s) at l) ∙ rw (pick-true Ending.End Ending.Stopped (le-leb (length s) at l))
+    pick-true _ _ (le-leb (length s) at l) ∙ ap noMore (sym (pick-true _ _ (le-leb (length s) at l)))
 
 -- "Replay takes at most a given number of entries"
 pub calls-few : (k : ℕ) (s buffer : List ℕ) (at : ℕ) → length (decode k s buffer at .calls) ≤ k

@@ -1,3 +1,4 @@
+pub mod Endings
 pub mod TurnLaws
 pub mod RoomLaws
 pub mod DecodeLaws

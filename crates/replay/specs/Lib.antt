@@ -1,3 +1,4 @@
 pub mod Lines
 pub mod Decoding
 pub mod Replaying
+pub mod Endings

@@ -1,0 +1,111 @@
+-- How a replay ends: `DecodesWhatStands` and `ReplayEndsAsSaid` of specs/Endings.antt. By induction over the entries that may still be
+-- taken, each of which is read only where it stands.
+use Prim.Native.Nat.{ℕ, zero, suc, _+_, _*_, _≤_, _<_}
+use borrow.Author.Tests.{leb-false, leb-true, le-leb}
+use lib.Dec.{leb}
+use lib.ListN.{length, getD, length-map}
+use mathlib.Core.List.{List, [], _∷_, map}
+use mathlib.Core.Path.{_≡_, refl, ap, _∙_}
+use native.Mathlib.Omega.{arith}
+use Rattle.laws.proofs.Choosing.{branch, pick-true}
+use Rattle.engine.specs.declared.types.Ready.{Ready}
+use Rattle.trace.specs.Entries.{entryAt, setUpAt}
+use Rattle.trace.specs.ExactlyRecorded.{EntryStands, SetUpStands}
+use Rattle.trace.specs.declared.types.Entry.{Entry}
+use Rattle.trace.specs.declared.types.Found.{Found}
+use Rattle.trace.specs.declared.types.SetUp.{SetUp}
+use Rattle.trace.proofs.OnlyAsRecorded.{entry-only-as-recorded, set-up-only-as-recorded}
+use Rattle.trace.proofs.ReadBack.{bad-if-nothing-recorded, set-up-read-back}
+use Rattle.engine.specs.Steps.{World}
+use Rattle.guarantees.specs.Runs.{Request}
+use Rattle.replay.specs.Decoding.{Decoded, before, decode, endingAt, noMore, onFound, requestOf}
+use Rattle.replay.specs.Endings.{DecodesWhatStands, EndsAfter, EndsAs, ReplayEndsAsSaid, Taken, setUpAnswer}
+use Rattle.replay.specs.Replaying.{begun, hasRoom, onReady, replayOf, reported, started, told}
+use Rattle.replay.specs.declared.types.Ending.{Ending}
+
+-- ---- entries
+
+entry-inside : (s : List ℕ) (at : ℕ) (e : Entry) (next : ℕ) → EntryStands s at e next → next ≤ length s
+entry-inside s at (Entry.Post peer r) next h = h .5 .inside
+entry-inside s at (Entry.Packet peer place count) next h = h .3 .inside
+entry-inside s at (Entry.Cancel peer slot) next h = h .2 .inside
+
+-- one entry more was taken, of one more
+ends-suc : (s : List ℕ) (k n place : ℕ) (e : Ending) → EndsAs s k n place e → EndsAs s (suc k) (suc n) place e
+ends-suc s k n place Ending.End h = h
+ends-suc s k n place Ending.Stopped h = (ap suc (h .0), h .1)
+ends-suc s k n place (Ending.Bad b) h = (h .0, h .1, omega (arith, h .2), h .3)
+ends-suc s k n place (Ending.NotSetUp r) h = h
+ends-suc s k n place Ending.NoRoom h = h
+
+module _ (s buffer : List ℕ) (bytes : (i : ℕ) → getD s i 0 < 256) where
+  abbrev Decodes : ℕ → ℕ → Decoded → Type 0
+  Decodes k at d = (entries : List Entry) × (d .calls ≡ map (requestOf s buffer) entries) × Taken s k at entries (d .ending)
+
+  -- bytes remain, and no entry may be taken
+  remaining : (at : ℕ) → at < length s → EndsAs s 0 0 at Ending.Stopped
+  remaining at h = (refl, h)
+
+  none : (k at : ℕ) (e : Ending) → EndsAs s k 0 at e → Decodes k at (noMore e)
+  none k at e h = ([], refl, record { place = at; stand = refl; few = omega arith; ends = h })
+
+  found : (k at : ℕ) → at < length s → ((next : ℕ) → next ≤ length s → Decodes k next (decode k s buffer next)) → (f : Found) → entryAt s at ≡ f
+      → Decodes (suc k) at (onFound f (noMore (Ending.Bad at)) (λ e next. before (requestOf s buffer e) (decode k s buffer next)))
+  found k at l ih Found.Bad p = none (suc k) at (Ending.Bad at) (refl, l, omega arith, bad-if-nothing-recorded s at p)
+  found k at l ih (Found.Entry e next) p =
+      let h = entry-only-as-recorded s at e next bytes p in
+      let (es, calls, t) = ih next (entry-inside s at e next h) in (
+        e ∷ es,
+        ap (λ (qs : List Request). requestOf s buffer e ∷ qs) calls,
+        record {
+          place = t .place;
+          stand = (next, h, t .stand);
+          few = omega (arith, t .few);
+          ends = ends-suc s k (length es) (t .place) (decode k s buffer next .ending) (t .ends);
+        },
+      )
+
+  decodes : (k at : ℕ) → at ≤ length s → Decodes k at (decode k s buffer at)
+  unfolding decode
+  decodes zero at h =
+      none 0 at (endingAt at (length s))
+      (branch (EndsAs s 0 0 at) (leb (length s) at) _ _ (λ t. omega (arith, leb-true (length s) at t)) (λ t. remaining at (leb-false (length s) at t)))
+  decodes (suc k) at h =
+      branch (Decodes (suc k) at) (leb (length s) at) _ _ (λ t. none (suc k) at Ending.End (omega (arith, leb-true (length s) at t)))
+      (λ t. found k at (leb-false (length s) at t) (decodes k) (entryAt s at) refl)
+
+pub decodes-what-stands : DecodesWhatStands
+decodes-what-stands k s buffer at bytes h = decodes s buffer bytes k at h
+
+-- ---- the whole
+
+module _ (s : List ℕ) (budget : ℕ) (arena words reply text : List ℕ) (bytes : (i : ℕ) → getD s i 0 < 256) where
+  replay-started : 64 + 80 * budget ≤ length text → replayOf s budget arena words reply text ≡ started s budget arena words reply text (setUpAt s 0)
+  unfolding replayOf hasRoom
+  replay-started room = pick-true _ _ (le-leb _ _ room)
+
+  no-set-up : ((n area limit next : ℕ) → SetUpStands s 0 n area limit next → ⊥) → (u : SetUp) → setUpAt s 0 ≡ u
+      → let r = started s budget arena words reply text u .replayed in (r .taken ≡ 0) × (r .ending ≡ Ending.Bad 0)
+  unfolding started
+  no-set-up missing SetUp.Bad e = (refl, refl)
+  no-set-up missing (SetUp.Are n area limit next) e = absurd (missing n area limit next (set-up-only-as-recorded s 0 n area limit next bytes e))
+
+  module _ (n area limit next : ℕ) (h : SetUpStands s 0 n area limit next) where
+    answered : (w : World) (a m : List ℕ) (r : Ready)
+        → EndsAfter s budget next r (onReady r (reported w reply text (decode budget s reply next)) (told a m reply text) .replayed)
+    unfolding reported
+    answered w a m (Ready.Refused k) = (refl, refl)
+    answered w a m Ready.Ready =
+        let (es, calls, t) = decodes-what-stands budget s reply next bytes (h .3 .inside) in
+        (es, ap length calls ∙ length-map es (requestOf s reply), t)
+
+    set-up-stands : EndsAfter s budget next (setUpAnswer n area limit arena words) (started s budget arena words reply text (SetUp.Are n area limit next) .replayed)
+    unfolding started begun
+    set-up-stands = answered _ _ _ (setUpAnswer n area limit arena words)
+
+pub replay-ends-as-said : ReplayEndsAsSaid
+replay-ends-as-said s budget arena words reply text bytes room =
+    rw (replay-started s budget arena words reply text bytes room) (
+      λ missing. no-set-up s budget arena words reply text bytes missing (setUpAt s 0) refl,
+      λ n area limit next h. rw (set-up-read-back s 0 n area limit next h) (set-up-stands s budget arena words reply text bytes n area limit next h),
+    )
