@@ -1,4 +1,4 @@
--- How a replay ends: `DecodesWhatStands` and `ReplayEndsAsSaid` of specs/Endings.antt. By induction over the entries that may still be
+-- How a replay ends: `DecodesWhatStands`, `ReplayEndsAsSaid` and `ReplayTakesAtMost` of specs/Endings.antt. By induction over the entries that may still be
 -- taken, each of which is read only where it stands.
 use Prim.Native.Nat.{ℕ, zero, suc, _+_, _*_, _≤_, _<_}
 use borrow.Author.Tests.{leb-false, leb-true, le-leb}
@@ -7,7 +7,7 @@ use lib.ListN.{length, getD, length-map}
 use mathlib.Core.List.{List, [], _∷_, map}
 use mathlib.Core.Path.{_≡_, refl, ap, _∙_}
 use native.Mathlib.Omega.{arith}
-use Rattle.laws.proofs.Choosing.{branch, pick-true}
+use Rattle.laws.proofs.Choosing.{branch, pick-either, pick-true}
 use Rattle.engine.specs.declared.types.Ready.{Ready}
 use Rattle.trace.specs.Entries.{entryAt, setUpAt}
 use Rattle.trace.specs.ExactlyRecorded.{EntryStands, SetUpStands}
@@ -19,8 +19,8 @@ use Rattle.trace.proofs.ReadBack.{bad-if-nothing-recorded, set-up-read-back}
 use Rattle.engine.specs.Steps.{World}
 use Rattle.guarantees.specs.Runs.{Request}
 use Rattle.replay.specs.Decoding.{Decoded, before, decode, endingAt, noMore, onFound, requestOf}
-use Rattle.replay.specs.Endings.{DecodesWhatStands, EndsAfter, EndsAs, ReplayEndsAsSaid, Taken, setUpAnswer}
-use Rattle.replay.specs.Replaying.{begun, hasRoom, onReady, replayOf, reported, started, told}
+use Rattle.replay.specs.Endings.{DecodesWhatStands, EndsAfter, EndsAs, ReplayEndsAsSaid, ReplayTakesAtMost, Taken, TakesAtMost, setUpAnswer}
+use Rattle.replay.specs.Replaying.{Left, begun, hasRoom, onReady, replayOf, reported, started, told}
 use Rattle.replay.specs.declared.types.Ending.{Ending}
 
 -- ---- entries
@@ -99,9 +99,29 @@ module _ (s : List ℕ) (budget : ℕ) (arena words reply text : List ℕ) (byte
         let (es, calls, t) = decodes-what-stands budget s reply next bytes (h .3 .inside) in
         (es, ap length calls ∙ length-map es (requestOf s reply), t)
 
+    at-most : (w : World) (a m : List ℕ) (r : Ready)
+        → TakesAtMost budget (onReady r (reported w reply text (decode budget s reply next)) (told a m reply text) .replayed)
+    unfolding reported
+    at-most w a m (Ready.Refused k) = (omega arith, λ e. let z : _≡_ {A = ℕ} 0 1 = cc in omega arith)
+    at-most w a m Ready.Ready =
+        let (es, calls, t) = decodes-what-stands budget s reply next bytes (h .3 .inside) in
+        let n = ap length calls ∙ length-map es (requestOf s reply) in
+        rw n (t .few, λ e. rw e at (t .ends) .0)
+
     set-up-stands : EndsAfter s budget next (setUpAnswer n area limit arena words) (started s budget arena words reply text (SetUp.Are n area limit next) .replayed)
     unfolding started begun
     set-up-stands = answered _ _ _ (setUpAnswer n area limit arena words)
+
+  at-most-of : (u : SetUp) → setUpAt s 0 ≡ u → TakesAtMost budget (started s budget arena words reply text u .replayed)
+  unfolding started begun
+  at-most-of SetUp.Bad e = (omega arith, λ e. let z : _≡_ {A = ℕ} 0 1 = cc in omega arith)
+  at-most-of (SetUp.Are n area limit next) e = at-most n area limit next (set-up-only-as-recorded s 0 n area limit next bytes e) _ _ _ (setUpAnswer n area limit arena words)
+
+pub replay-takes-at-most : ReplayTakesAtMost
+unfolding replayOf
+replay-takes-at-most s budget arena words reply text bytes =
+    pick-either (λ (l : Left). TakesAtMost budget (l .replayed)) (hasRoom budget (length text)) (at-most-of s budget arena words reply text bytes (setUpAt s 0) refl)
+    (omega arith, λ e. let z : _≡_ {A = ℕ} 0 1 = cc in omega arith)
 
 pub replay-ends-as-said : ReplayEndsAsSaid
 replay-ends-as-said s budget arena words reply text bytes room =

@@ -64,3 +64,12 @@ ReplayEndsAsSaid =
     → let r = replayOf s budget arena words reply text .replayed in
     (((n area limit next : ℕ) → SetUpStands s 0 n area limit next → ⊥) → (r .taken ≡ 0) × (r .ending ≡ Ending.Bad 0))
     × ((n area limit next : ℕ) → SetUpStands s 0 n area limit next → EndsAfter s budget next (setUpAnswer n area limit arena words) r)
+
+-- "Replay takes at most a given number of entries"; that number where bytes remain
+abbrev pub TakesAtMost : ℕ → Replayed → Type 0
+TakesAtMost budget r = (r .taken ≤ budget) × (r .ending ≡ Ending.Stopped → r .taken ≡ budget)
+
+abbrev pub ReplayTakesAtMost : Type 0
+ReplayTakesAtMost =
+    (s : List ℕ) (budget : ℕ) (arena words reply text : List ℕ) → ((i : ℕ) → getD s i 0 < 256)
+    → TakesAtMost budget (replayOf s budget arena words reply text .replayed)
