@@ -6,9 +6,13 @@ use lib.ListN.{replicate}
 use Rattle.trace.specs.Entries.{setUpAt}
 use Rattle.replay.specs.Replaying.{Left, started}
 
+-- the most entries that are taken
+abbrev pub mostEntries : ℕ
+mostEntries = 4096
+
 -- the bytes of the text's buffer: 64, and 80 for each of 4,096 entries
 abbrev pub textLength : ℕ
 textLength = 327744
 
 unfoldable pub programOf : List ℕ → List ℕ → Left
-programOf trace text = started trace 4096 (replicate 65536 0) (replicate 1024 0) (replicate 24 0) text (setUpAt trace 0)
+programOf trace text = started trace mostEntries (replicate 65536 0) (replicate 1024 0) (replicate 24 0) text (setUpAt trace 0)
