@@ -38,19 +38,20 @@ ends-suc s k n place (Ending.Bad b) h = (h .0, h .1, omega (arith, h .2), h .3)
 ends-suc s k n place (Ending.NotSetUp r) h = h
 ends-suc s k n place Ending.NoRoom h = h
 
-module _ (s buffer : List ℕ) (bytes : (i : ℕ) → getD s i 0 < 256) where
-  abbrev Decodes : ℕ → ℕ → Decoded → Type 0
-  Decodes k at d = (entries : List Entry) × (d .calls ≡ map (requestOf s buffer) entries) × Taken s k at entries (d .ending)
+-- of at most k entries from `at` on: the calls and the ending of those that stand there
+abbrev Decodes : List ℕ → List ℕ → ℕ → ℕ → Decoded → Type 0
+Decodes s buffer k at d = (entries : List Entry) × (d .calls ≡ map (requestOf s buffer) entries) × Taken s k at entries (d .ending)
 
+module _ (s buffer : List ℕ) (bytes : (i : ℕ) → getD s i 0 < 256) where
   -- bytes remain, and no entry may be taken
   remaining : (at : ℕ) → at < length s → EndsAs s 0 0 at Ending.Stopped
   remaining at h = (refl, h)
 
-  none : (k at : ℕ) (e : Ending) → EndsAs s k 0 at e → Decodes k at (noMore e)
+  none : (k at : ℕ) (e : Ending) → EndsAs s k 0 at e → Decodes s buffer k at (noMore e)
   none k at e h = ([], refl, record { place = at; stand = refl; few = omega arith; ends = h })
 
-  found : (k at : ℕ) → at < length s → ((next : ℕ) → next ≤ length s → Decodes k next (decode k s buffer next)) → (f : Found) → entryAt s at ≡ f
-      → Decodes (suc k) at (onFound f (noMore (Ending.Bad at)) (λ e next. before (requestOf s buffer e) (decode k s buffer next)))
+  found : (k at : ℕ) → at < length s → ((next : ℕ) → next ≤ length s → Decodes s buffer k next (decode k s buffer next)) → (f : Found) → entryAt s at ≡ f
+      → Decodes s buffer (suc k) at (onFound f (noMore (Ending.Bad at)) (λ e next. before (requestOf s buffer e) (decode k s buffer next)))
   found k at l ih Found.Bad p = none (suc k) at (Ending.Bad at) (refl, l, omega arith, bad-if-nothing-recorded s at p)
   found k at l ih (Found.Entry e next) p =
       let h = entry-only-as-recorded s at e next bytes p in
@@ -65,19 +66,34 @@ module _ (s buffer : List ℕ) (bytes : (i : ℕ) → getD s i 0 < 256) where
         },
       )
 
-  decodes : (k at : ℕ) → at ≤ length s → Decodes k at (decode k s buffer at)
+  decodes : (k at : ℕ) → at ≤ length s → Decodes s buffer k at (decode k s buffer at)
   unfolding decode
   decodes zero at h =
       none 0 at (endingAt at (length s))
       (branch (EndsAs s 0 0 at) (leb (length s) at) _ _ (λ t. omega (arith, leb-true (length s) at t)) (λ t. remaining at (leb-false (length s) at t)))
   decodes (suc k) at h =
-      branch (Decodes (suc k) at) (leb (length s) at) _ _ (λ t. none (suc k) at Ending.End (omega (arith, leb-true (length s) at t)))
+      branch (Decodes s buffer (suc k) at) (leb (length s) at) _ _ (λ t. none (suc k) at Ending.End (omega (arith, leb-true (length s) at t)))
       (λ t. found k at (leb-false (length s) at t) (decodes k) (entryAt s at) refl)
 
 pub decodes-what-stands : DecodesWhatStands
 decodes-what-stands k s buffer at bytes h = decodes s buffer bytes k at h
 
 -- ---- the whole
+
+-- a run, by what set-up answers
+module _ (s : List ℕ) (k next : ℕ) (reply text : List ℕ) (w : World) (a m : List ℕ) (d : Decoded) where
+  number : (t : Decodes s reply k next d) → length (d .calls) ≡ length (t .0)
+  number t = ap length (t .1) ∙ length-map (t .0) (requestOf s reply)
+
+  answered : (r : Ready) → Decodes s reply k next d → EndsAfter s k next r (onReady r (reported w reply text d) (told a m reply text) .replayed)
+  unfolding reported
+  answered (Ready.Refused e) t = (refl, refl)
+  answered Ready.Ready t = (t .0, number t, t .2)
+
+  at-most : (r : Ready) → Decodes s reply k next d → TakesAtMost k (onReady r (reported w reply text d) (told a m reply text) .replayed)
+  unfolding reported
+  at-most (Ready.Refused e) t = (omega arith, λ p. let z : _≡_ {A = ℕ} 0 1 = cc in omega arith)
+  at-most Ready.Ready t = rw (number t) (t .2 .few, λ p. rw p at (t .2 .ends) .0)
 
 module _ (s : List ℕ) (budget : ℕ) (arena words reply text : List ℕ) (bytes : (i : ℕ) → getD s i 0 < 256) where
   replay-started : 64 + 80 * budget ≤ length text → replayOf s budget arena words reply text ≡ started s budget arena words reply text (setUpAt s 0)
@@ -90,38 +106,18 @@ module _ (s : List ℕ) (budget : ℕ) (arena words reply text : List ℕ) (byte
   no-set-up missing SetUp.Bad e = (refl, refl)
   no-set-up missing (SetUp.Are n area limit next) e = absurd (missing n area limit next (set-up-only-as-recorded s 0 n area limit next bytes e))
 
-  module _ (n area limit next : ℕ) (h : SetUpStands s 0 n area limit next) where
-    answered : (w : World) (a m : List ℕ) (r : Ready)
-        → EndsAfter s budget next r (onReady r (reported w reply text (decode budget s reply next)) (told a m reply text) .replayed)
-    unfolding reported
-    answered w a m (Ready.Refused k) = (refl, refl)
-    answered w a m Ready.Ready =
-        let (es, calls, t) = decodes-what-stands budget s reply next bytes (h .3 .inside) in
-        (es, ap length calls ∙ length-map es (requestOf s reply), t)
-
-    at-most : (w : World) (a m : List ℕ) (r : Ready)
-        → TakesAtMost budget (onReady r (reported w reply text (decode budget s reply next)) (told a m reply text) .replayed)
-    unfolding reported
-    at-most w a m (Ready.Refused k) = (omega arith, λ e. let z : _≡_ {A = ℕ} 0 1 = cc in omega arith)
-    at-most w a m Ready.Ready =
-        let (es, calls, t) = decodes-what-stands budget s reply next bytes (h .3 .inside) in
-        let n = ap length calls ∙ length-map es (requestOf s reply) in
-        rw n (t .few, λ e. rw e at (t .ends) .0)
-
-    set-up-stands : EndsAfter s budget next (setUpAnswer n area limit arena words) (started s budget arena words reply text (SetUp.Are n area limit next) .replayed)
-    unfolding started begun
-    set-up-stands = answered _ _ _ (setUpAnswer n area limit arena words)
-
-  at-most-of : (u : SetUp) → setUpAt s 0 ≡ u → TakesAtMost budget (started s budget arena words reply text u .replayed)
+  set-up-stands : (n area limit next : ℕ) → SetUpStands s 0 n area limit next
+      → EndsAfter s budget next (setUpAnswer n area limit arena words) (started s budget arena words reply text (SetUp.Are n area limit next) .replayed)
   unfolding started begun
-  at-most-of SetUp.Bad e = (omega arith, λ e. let z : _≡_ {A = ℕ} 0 1 = cc in omega arith)
-  at-most-of (SetUp.Are n area limit next) e = at-most n area limit next (set-up-only-as-recorded s 0 n area limit next bytes e) _ _ _ (setUpAnswer n area limit arena words)
+  set-up-stands n area limit next h =
+      answered s budget next reply text _ _ _ _ (setUpAnswer n area limit arena words) (decodes-what-stands budget s reply next bytes (h .3 .inside))
 
-pub replay-takes-at-most : ReplayTakesAtMost
-unfolding replayOf
-replay-takes-at-most s budget arena words reply text bytes =
-    pick-either (λ (l : Left). TakesAtMost budget (l .replayed)) (hasRoom budget (length text)) (at-most-of s budget arena words reply text bytes (setUpAt s 0) refl)
-    (omega arith, λ e. let z : _≡_ {A = ℕ} 0 1 = cc in omega arith)
+  started-at-most : (u : SetUp) → setUpAt s 0 ≡ u → TakesAtMost budget (started s budget arena words reply text u .replayed)
+  unfolding started begun
+  started-at-most SetUp.Bad e = (omega arith, λ p. let z : _≡_ {A = ℕ} 0 1 = cc in omega arith)
+  started-at-most (SetUp.Are n area limit next) e =
+      let h = set-up-only-as-recorded s 0 n area limit next bytes e in
+      at-most s budget next reply text _ _ _ _ (setUpAnswer n area limit arena words) (decodes-what-stands budget s reply next bytes (h .3 .inside))
 
 pub replay-ends-as-said : ReplayEndsAsSaid
 replay-ends-as-said s budget arena words reply text bytes room =
@@ -129,3 +125,9 @@ replay-ends-as-said s budget arena words reply text bytes room =
       λ missing. no-set-up s budget arena words reply text bytes missing (setUpAt s 0) refl,
       λ n area limit next h. rw (set-up-read-back s 0 n area limit next h) (set-up-stands s budget arena words reply text bytes n area limit next h),
     )
+
+pub replay-takes-at-most : ReplayTakesAtMost
+unfolding replayOf
+replay-takes-at-most s budget arena words reply text bytes =
+    pick-either (λ (l : Left). TakesAtMost budget (l .replayed)) (hasRoom budget (length text))
+    (started-at-most s budget arena words reply text bytes (setUpAt s 0) refl) (omega arith, λ p. let z : _≡_ {A = ℕ} 0 1 = cc in omega arith)
