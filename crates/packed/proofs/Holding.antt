@@ -110,7 +110,6 @@ placed-held p ws r (Vacancy.Slot i) h =
 
 -- what a packet says of its message
 pub record IncomingHeld (h : Incoming) : Type 0 where
-  pub kind : h .kind < 256
   pub id : h .id < 2 ^ 32
   pub sendId : h .«send_id» < 2 ^ 32
   pub creditRequest : h .«credit_request» < 2 ^ 32
@@ -120,11 +119,7 @@ unfolding incomingOf
 read-held limit bs q b e =
     let there = served-read limit bs q e in
     let numbers = read-numbers bs b limit q there in
-    let (r, a, same) = as-read limit bs q there in
-    let kind : q .header .kind ≡ r .kind = unfold packetIn headerIn in ap (λ (x : Packet). x .header .kind) same in
-    let small = leb-true (r .kind) 255 (row-passes (λ x. leb (x .kind) 255) refl (getD bs 0 0) r (a .row)) in
     record {
-      kind = omega arith;
       id = pick-either (λ (n : ℕ). n < 2 ^ 32) _ (numbers .fields Field.msg-id) (numbers .fields Field.recv-id);
       sendId = numbers .fields Field.send-id;
       creditRequest = numbers .fields Field.credit-request;
@@ -136,7 +131,7 @@ settled-held limit p i o Progress.Whole h m = with-held p i Phase.Free h free-he
 settled-held limit p i o Progress.Due h m =
     let wider = extended (grantOf limit (o .message)) o in
     with-held p i (Phase.Open wider) h
-    (open-held wider (record { kind = m .kind; id = m .id; sendId = m .sendId; creditRequest = m .creditRequest }))
+    (open-held wider (record { id = m .id; sendId = m .sendId; creditRequest = m .creditRequest }))
 settled-held limit p i o Progress.Partial h m = with-held p i (Phase.Open o) h (open-held o m)
 
 carry-held : (limit : ℕ) (p : Peer) (ws : List ℕ) (h : Incoming) (bytes : List ℕ) (d : Verdict) → PeerHeld p → IncomingHeld h → Judged p ws h d
@@ -146,7 +141,7 @@ carry-held limit p ws h bytes (Verdict.Refuse k) x y j = x
 carry-held limit p ws h bytes (Verdict.Truncate i) x y j = advance-held (withPhase p i Phase.Free) (with-held p i Phase.Free x free-held)
 carry-held limit p ws h bytes (Verdict.Begin i r) x y j =
     settled-held limit (advance p) i (opened r h) _ (advance-held p x)
-    (record { kind = y .kind; id = y .id; sendId = y .sendId; creditRequest = y .creditRequest })
+    (record { id = y .id; sendId = y .sendId; creditRequest = y .creditRequest })
 carry-held limit p ws h bytes (Verdict.More i o) x y j =
     settled-held limit p i o _ x (x .messages i o (continued-at p ws h i o j .1))
 

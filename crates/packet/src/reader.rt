@@ -74,6 +74,8 @@ fn whole(row: TypeRow, flags: u16, bytes: &[u8], at: Sections) -> Read
     let raw_address = at.raw;
     Read::Packet(Packet {
         header,
+        shape,
+        tagged: row.tagged,
         raw_address,
         data: Span { at: data_at, size },
     })

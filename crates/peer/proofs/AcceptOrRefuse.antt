@@ -26,6 +26,7 @@ use Rattle.peer.specs.Claims.{AreBytes}
 use Rattle.peer.specs.Checks.{CallsAreChecked, Check, Fails, checksOf, judgedChecks, numberOf, unread}
 use Rattle.peer.specs.Effects.{Effect, accept, advance, begun, carry, opened, settledAs, truncatedAt}
 use Rattle.peer.specs.Incomings.{incomingOf, isLong, isRtm}
+use Rattle.peer.specs.InWords.{RtmIs64To69}
 use Rattle.peer.specs.Judging.{judge, judgeAgain, judgeData, judgeFit, judgeFound, judgeMore, judgeNew}
 use Rattle.peer.specs.Matching.{ahead, findOpen, oldest, sameMessage, vacancy}
 use Rattle.peer.specs.Numbers.{badSlot, beyondGrant, differs, early, late, noReceive, refused, repeated, said, say}
@@ -45,7 +46,7 @@ use Rattle.peer.specs.declared.types.Receive.{Receive}
 use Rattle.peer.specs.declared.types.Vacancy.{Vacancy}
 use Rattle.peer.specs.declared.types.Verdict.{Verdict}
 use Rattle.bitmap.proofs.CoverLaws.{touched-cover}
-use Rattle.laws.proofs.Choosing.{branch}
+use Rattle.laws.proofs.Choosing.{branch, clashing}
 use Rattle.protocol.proofs.OrderHolds.{read-if-none-fails, refused-by-first-to-fail}
 use Rattle.peer.proofs.BytesHold.{Says, read-says}
 use Rattle.peer.proofs.CannotBeLaws.{can-be-if-no-clause-is-broken}
@@ -54,6 +55,7 @@ use Rattle.peer.proofs.PacketChecked.{Sole, data-beyond, data-more, dat
 use Rattle.peer.proofs.PostChecked.{GoneFor, Unrefused, cancel-free, cancel-used, post-gone, postAnswer, report-open, report-shut, slot-beyond}
 use Rattle.peer.proofs.Roles.{open-same, overlap-same, role-of-entry, role-of-slot, vacancy-same}
 use Rattle.peer.proofs.ViewSearch.{entries-oldest, entries-roles, entriesOf, fit-none, fit-some, found-none, found-sole}
+use Rattle.peer.proofs.WordsHold.{rtm-is-64-to-69}
 
 -- ---- the reader's checks
 
@@ -72,11 +74,16 @@ read-gone area limit v bs a (Read.Packet q) e f g =
 
 -- ---- the type
 
-pub rtm-of : {bs : List ℕ} {h : Incoming} → Says bs h → isRtm (h .kind) ≡ true → Rtm bs
-rtm-of {h = h} s x = ⊎-elim (λ t. absurd (omega (arith, s .kind, leb-true 64 (h .kind) x))) (λ w. w) (s .served)
+pub rtm-of : {bs : List ℕ} {h : Incoming} → Says bs h → isRtm (h .shape) ≡ true → Rtm bs
+unfolding RtmIs64To69
+rtm-of {h = h} s x = let w = rtm-is-64-to-69 (h .shape) (h .tagged) .0 x in (omega (arith, s .kind, w .0), omega (arith, s .kind, w .1))
 
-pub data-of : {bs : List ℕ} {h : Incoming} → Says bs h → isRtm (h .kind) ≡ false → typeIn bs ≡ 4
-data-of {h = h} s x = ⊎-elim (λ t. t) (λ w. absurd (omega (arith, s .kind, w .0, leb-false 64 (h .kind) x))) (s .served)
+pub data-of : {bs : List ℕ} {h : Incoming} → Says bs h → isRtm (h .shape) ≡ false → typeIn bs ≡ 4
+unfolding RtmIs64To69
+data-of {h = h} s x =
+    ⊎-elim (λ t. t)
+    (λ w. clashing (isRtm (h .shape)) (rtm-is-64-to-69 (h .shape) (h .tagged) .1 (omega (arith, s .kind, w .0), omega (arith, s .kind, w .1))) x)
+    (s .served)
 
 -- ---- answers that are no refusal
 
@@ -238,7 +245,7 @@ module _ (area limit : ℕ) (p : Peer) (ws : List ℕ) where
     dataVerdict i o true true true = Verdict.Refuse repeated
     dataVerdict i o true true false = Verdict.More i o
 
-    data-verdict : (i : ℕ) (o : Inbound) (long inGrant hit : Bool) → isLong (o .message .kind) ≡ long
+    data-verdict : (i : ℕ) (o : Inbound) (long inGrant hit : Bool) → isLong (o .message .shape) ≡ long
         → leb (h .offset + h .size) (o .message .granted) ≡ inGrant → touched ws (o .receive .start + h .offset) (h .size) ≡ hit
         → judgeData ws i o h ≡ dataVerdict i o long inGrant hit
     unfolding judgeData judgeMore pick
@@ -251,9 +258,9 @@ module _ (area limit : ℕ) (p : Peer) (ws : List ℕ) where
     data-judged : (i : ℕ) (o : Inbound) → typeIn bs ≡ 4 → Sole v (idIn bs) i o → J (judgeData ws i o h)
     unfolding carry
     data-judged i o t s =
-        go (isLong (o .message .kind)) (leb (h .offset + h .size) (o .message .granted)) (touched ws (o .receive .start + h .offset) (h .size)) refl refl refl
+        go (isLong (o .message .shape)) (leb (h .offset + h .size) (o .message .granted)) (touched ws (o .receive .start + h .offset) (h .size)) refl refl refl
       where
-        go : (long inGrant hit : Bool) → isLong (o .message .kind) ≡ long → leb (h .offset + h .size) (o .message .granted) ≡ inGrant
+        go : (long inGrant hit : Bool) → isLong (o .message .shape) ≡ long → leb (h .offset + h .size) (o .message .granted) ≡ inGrant
             → touched ws (o .receive .start + h .offset) (h .size) ≡ hit → J (judgeData ws i o h)
         go false inGrant hit x y z = subst J (sym (data-verdict i o _ _ _ x y z)) (data-short area limit v bs h says (Answer.Refused late) t i o s x refl)
         go true false hit x y z =

@@ -41,7 +41,7 @@ pub record Taken (area : ℕ) (p : Peer) (ws′ : List ℕ) (mem′ : ℕ → �
   pub standing : Standing area (p .slots) i o
   pub role : e .role ≡ receiving o
   pub own : Bits ws′ (o .receive .start) (o .message .length) (e .segments)
-  pub below : isLong (o .message .kind) ≡ true → (k : ℕ) → covers (e .segments) k ≡ true → k < o .message .granted
+  pub below : isLong (o .message .shape) ≡ true → (k : ℕ) → covers (e .segments) k ≡ true → k < o .message .granted
   pub others : (k : ℕ) (q : Inbound) → (k ≡ i → ⊥) → phaseAt (p .slots) k ≡ Phase.Open q
       → Bits ws′ (q .receive .start) (q .message .length) (entryAt (l .entries) k .segments)
   pub content : Content mem′ (o .receive .start) (o .message .length) (e .segments)
@@ -50,7 +50,7 @@ pub record Taken (area : ℕ) (p : Peer) (ws′ : List ℕ) (mem′ : ℕ → �
 
 -- the message is still open, perhaps granted more
 still-open : (area : ℕ) (p : Peer) (ws′ : List ℕ) (mem′ : ℕ → ℕ) (l : Plain) (i : ℕ) (o q : Inbound) (e e′ : Entry) → Taken area p ws′ mem′ l i o e
-    → q .receive ≡ o .receive → q .message .length ≡ o .message .length → q .message .kind ≡ o .message .kind → o .message .granted ≤ q .message .granted
+    → q .receive ≡ o .receive → q .message .length ≡ o .message .length → q .message .shape ≡ o .message .shape → o .message .granted ≤ q .message .granted
     → e′ .role ≡ receiving q → e′ .segments ≡ e .segments → Change p ws′ mem′ l i (Phase.Open q) e′
 still-open area p ws′ mem′ l i o q e e′ t er el ek g x y =
     record {
@@ -64,7 +64,7 @@ still-open area p ws′ mem′ l i o q e e′ t er el ek g x y =
           (subst₂ (λ (r : Receive) (n : ℕ). Bits ws′ (r .start) n (e .segments)) (sym er) (sym el) (t .own)));
       below = λ m z long k c.
           let is : q ≡ m = cc in
-          let kind : isLong (o .message .kind) ≡ true = ap isLong (sym ek ∙ ap (λ (n : Inbound). n .message .kind) is) ∙ long in
+          let kind : isLong (o .message .shape) ≡ true = ap isLong (sym ek ∙ ap (λ (n : Inbound). n .message .shape) is) ∙ long in
           let under : k < o .message .granted = t .below kind k (ap (λ (gs : List Segment). covers gs k) (sym y) ∙ c) in
           subst (λ (n : Inbound). k < n .message .granted) is (omega arith);
       others = t .others;

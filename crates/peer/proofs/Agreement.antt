@@ -56,7 +56,7 @@ pub record Agrees (p : Peer) (ws : List ℕ) (mem : ℕ → ℕ) (l : Plain) : T
   -- the bits of an open message are what its accepted segments cover
   pub bits : (i : ℕ) (o : Inbound) → phaseAt (p .slots) i ≡ Phase.Open o → Bits ws (o .receive .start) (o .message .length) (entryAt (l .entries) i .segments)
   -- what is covered of a long message lies below its granted end
-  pub below : (i : ℕ) (o : Inbound) → phaseAt (p .slots) i ≡ Phase.Open o → isLong (o .message .kind) ≡ true
+  pub below : (i : ℕ) (o : Inbound) → phaseAt (p .slots) i ≡ Phase.Open o → isLong (o .message .shape) ≡ true
       → (k : ℕ) → covers (entryAt (l .entries) i .segments) k ≡ true → k < o .message .granted
   -- what is covered holds the byte of the segment that covers it
   pub content : (i : ℕ) (o : Inbound) → phaseAt (p .slots) i ≡ Phase.Open o → Content mem (o .receive .start) (o .message .length) (entryAt (l .entries) i .segments)
@@ -68,7 +68,7 @@ pub taken-answer : (limit : ℕ) (p : Peer) (i : ℕ) (o : Inbound) (ws : List �
     → Bits ws (o .receive .start) (o .message .length) gs → settledAs limit p i o (progressOf ws o) .answer ≡ expectTaken limit i o gs
 unfolding progressOf expectTaken settledAs
 taken-answer limit p i o ws gs g b =
-    in-step A Progress.Whole _ _ _ whole (λ x. refl) (λ x. rest (isLong (o .message .kind)) (ltb-short x))
+    in-step A Progress.Whole _ _ _ whole (λ x. refl) (λ x. rest (isLong (o .message .shape)) (ltb-short x))
   where
     A : Progress → Answer
     A d = settledAs limit p i o d .answer
@@ -142,7 +142,7 @@ module _ (area limit : ℕ) (p : Peer) (ws : List ℕ) (mem : ℕ → ℕ) (l : 
       within : Within area o
       within = found-within area p ws h (length bytes) v form i o e
 
-  again-answer : (i : ℕ) (o : Inbound) → findOpen (h .id) 0 (p .slots) ≡ Found.At i o → isRtm (h .kind) ≡ true
+  again-answer : (i : ℕ) (o : Inbound) → findOpen (h .id) 0 (p .slots) ≡ Found.At i o → isRtm (h .shape) ≡ true
       → answer (judgeAgain ws i o h) ≡ expectAgain limit l h bytes i o
   unfolding answer judgeAgain expectAgain
   again-answer i o e rtm =
@@ -168,7 +168,7 @@ module _ (area limit : ℕ) (p : Peer) (ws : List ℕ) (mem : ℕ → ℕ) (l : 
           more-answer i o e (omega (arith, within .inLength)) ∙ sym (pick-false _ _ (le-ltb (o .message .granted) (h .offset + h .size) g))
       inner false x = unfold pick carry in sym (pick-true _ _ (lt-ltb (o .message .granted) (h .offset + h .size) (leb-false _ _ x)))
 
-  fit-answer : (f f′ : Fit) → SameFit (p .slots) (l .entries) f f′ → oldest h 0 Fit.Unfit (p .slots) ≡ f → isRtm (h .kind) ≡ true
+  fit-answer : (f f′ : Fit) → SameFit (p .slots) (l .entries) f f′ → oldest h 0 Fit.Unfit (p .slots) ≡ f → isRtm (h .shape) ≡ true
       → answer (judgeFit h f) ≡ expectFit limit h bytes f′
   unfolding answer judgeFit expectFit
   fit-answer _ _ unfit e rtm = unfold carry in refl
@@ -185,7 +185,7 @@ module _ (area limit : ℕ) (p : Peer) (ws : List ℕ) (mem : ℕ → ℕ) (l : 
       inArea : r .start + r .capacity ≤ area
       inArea = posted-within area r a (ap (phaseFits area) (sym at) ∙ v .each i)
 
-  new-answer : isRtm (h .kind) ≡ true → answer (judgeNew p h) ≡ expectNew limit l h bytes
+  new-answer : isRtm (h .shape) ≡ true → answer (judgeNew p h) ≡ expectNew limit l h bytes
   unfolding answer judgeNew expectNew
   new-answer rtm =
       in-step (λ (d : Verdict). carry limit p ws h bytes d .answer) _ _ _ _ (late-same (ahead (h .id) (p .next)) (ahead (h .id) (l .next)) same)

@@ -103,9 +103,9 @@ reached now o =
     let gap : SomeMissing now o (o .message .length) = (first, short, low .2 short) in
     branch (Reached now o) _ _ _
     (λ long. branch (Reached now o) _ _ _
-    (λ d. (long-is-68-and-69 (o .message .kind) .0 long, λ x l. low .1 x (omega (arith, leb-true (o .message .granted) first d)), gap))
+    (λ d. (long-is-68-and-69 (o .message .shape) (o .message .tagged) .0 long, λ x l. low .1 x (omega (arith, leb-true (o .message .granted) first d)), gap))
     (λ d. (gap, λ w. (first, omega (arith, leb-false (o .message .granted) first d), low .2 short))))
-    (λ long. (gap, λ w. clashing (isLong (o .message .kind)) (long-is-68-and-69 (o .message .kind) .1 w) long)))
+    (λ long. (gap, λ w. clashing (isLong (o .message .shape)) (long-is-68-and-69 (o .message .shape) (o .message .tagged) .1 w) long)))
   where
     first : ℕ
     first = firstClear now (o .receive .start) (o .message .length)

@@ -9,6 +9,7 @@ use mathlib.Core.Logic.{_⊎_, inl, inr, ⊎-elim, ⊎-map}
 use mathlib.Core.Path.{_≡_, refl, sym, ap, _∙_}
 use native.Mathlib.Omega.{arith}
 use Rattle.laws.specs.Choose.{pick}
+use Rattle.protocol.specs.ByType.{taggedTold}
 use Rattle.protocol.specs.InWords as words
 use Rattle.protocol.specs.InWords.{ReadTellsItsBytes, flagsIn, headIn}
 use Rattle.protocol.specs.Reading.{readOf, readTyped}
@@ -22,7 +23,7 @@ use Rattle.protocol.specs.declared.types.Read.{Read}
 use Rattle.protocol.specs.declared.types.Refusal.{Refusal}
 use Rattle.peer.specs.InWords.{ReadAsTheTableSays, Told}
 use Rattle.peer.specs.Incomings.{incomingOf}
-use Rattle.peer.specs.PacketBytes.{Rtm, idIn, lengthAs, lengthIn, offsetAs, offsetIn, sizeIn, tagAs, tagIn, typeIn}
+use Rattle.peer.specs.PacketBytes.{Rtm, idIn, lengthAs, lengthIn, offsetAs, offsetIn, sizeIn, tagAs, tagIn, typeIn, typeSaid}
 use Rattle.peer.specs.declared.types.Incoming.{Incoming}
 use Rattle.laws.proofs.Choosing.{and-left, and-right, clashing, or-cases, pick-first, pick-second}
 use Rattle.laws.proofs.Comparing.{le-or-lt}
@@ -33,7 +34,8 @@ use Rattle.peer.proofs.PacketsRead.{read-formed}
 
 pub record Says (bs : List ℕ) (h : Incoming) : Type 0 where
   pub served : (typeIn bs ≡ 4) ⊎ Rtm bs
-  pub kind : h .kind ≡ typeIn bs
+  pub kind : typeSaid h ≡ typeIn bs
+  pub tagged : h .tagged ≡ taggedTold (typeIn bs)
   pub id : h .id ≡ idIn bs
   pub size : h .size ≡ sizeIn bs
   pub offset : h .offset ≡ offsetIn bs
@@ -142,15 +144,15 @@ module _ (limit : ℕ) (bs : List ℕ) (q : Packet) (e : readOf false limit bs �
 
   tag-said : (typeIn bs ≡ 4) ⊎ Rtm bs → incomingOf q .tag ≡ tagIn bs
   unfolding Three tagIn pick
-  tag-said (inl x) = told .noTag (omega arith) ∙ sym (ap (λ (k : ℕ). tagAs k bs) x)
+  tag-said (inl x) = told .noTag (ap taggedTold x) ∙ sym (ap (λ (k : ℕ). tagAs k bs) x)
   tag-said (inr w) = go (three w)
     where
       go : Three → incomingOf q .tag ≡ tagAs (typeIn bs) bs
-      go (inl (inl x)) = told .noTag (omega arith) ∙ sym (ap (λ (k : ℕ). tagAs k bs) x)
+      go (inl (inl x)) = told .noTag (ap taggedTold x) ∙ sym (ap (λ (k : ℕ). tagAs k bs) x)
       go (inl (inr x)) = told .eagerTag x ∙ sym (ap (λ (k : ℕ). tagAs k bs) x)
-      go (inr (inl (inl x))) = told .noTag (omega arith) ∙ sym (ap (λ (k : ℕ). tagAs k bs) x)
+      go (inr (inl (inl x))) = told .noTag (ap taggedTold x) ∙ sym (ap (λ (k : ℕ). tagAs k bs) x)
       go (inr (inl (inr x))) = told .tag (inl x) ∙ sym (ap (λ (k : ℕ). tagAs k bs) x)
-      go (inr (inr (inl x))) = told .noTag (omega arith) ∙ sym (ap (λ (k : ℕ). tagAs k bs) x)
+      go (inr (inr (inl x))) = told .noTag (ap taggedTold x) ∙ sym (ap (λ (k : ℕ). tagAs k bs) x)
       go (inr (inr (inr x))) = told .tag (inr x) ∙ sym (ap (λ (k : ℕ). tagAs k bs) x)
 
   pub read-says : Says bs (incomingOf q)
@@ -158,6 +160,7 @@ module _ (limit : ℕ) (bs : List ℕ) (q : Packet) (e : readOf false limit bs �
       record {
         served = is-served;
         kind = told .kind;
+        tagged = told .tagged;
         id = id-said is-served;
         size = size-said;
         offset = offset-said is-served;

@@ -44,7 +44,7 @@ pub record Change (p : Peer) (ws′ : List ℕ) (mem′ : ℕ → ℕ) (l : Plai
   pub role : roleOf f ≡ e .role
   pub unposted : (r : Receive) (a : ℕ) → f ≡ Phase.Posted r a → ⊥
   pub own : (o : Inbound) → f ≡ Phase.Open o → Bits ws′ (o .receive .start) (o .message .length) (e .segments)
-  pub below : (o : Inbound) → f ≡ Phase.Open o → isLong (o .message .kind) ≡ true → (k : ℕ) → covers (e .segments) k ≡ true → k < o .message .granted
+  pub below : (o : Inbound) → f ≡ Phase.Open o → isLong (o .message .shape) ≡ true → (k : ℕ) → covers (e .segments) k ≡ true → k < o .message .granted
   pub others : (k : ℕ) (o : Inbound) → (k ≡ i → ⊥) → phaseAt (p .slots) k ≡ Phase.Open o
       → Bits ws′ (o .receive .start) (o .message .length) (entryAt (l .entries) k .segments)
   pub content : (o : Inbound) → f ≡ Phase.Open o → Content mem′ (o .receive .start) (o .message .length) (e .segments)
@@ -114,13 +114,13 @@ module _ (p : Peer) (ws ws′ : List ℕ) (mem mem′ : ℕ → ℕ) (l : Plain)
       bits j o x (no y) =
           subst (λ (v : Entry). Bits ws′ (o .receive .start) (o .message .length) (v .segments)) (sym (there j y .1)) (c .others j o y (sym (there j y .0) ∙ x))
 
-      below : (j : ℕ) (o : Inbound) → phaseAt ss j ≡ Phase.Open o → Dec (j ≡ i) → isLong (o .message .kind) ≡ true
+      below : (j : ℕ) (o : Inbound) → phaseAt ss j ≡ Phase.Open o → Dec (j ≡ i) → isLong (o .message .shape) ≡ true
           → (k : ℕ) → covers (entryAt es j .segments) k ≡ true → k < o .message .granted
       below j o x (yes y) =
-          subst (λ (v : Entry). isLong (o .message .kind) ≡ true → (k : ℕ) → covers (v .segments) k ≡ true → k < o .message .granted) (sym (here j y .1))
+          subst (λ (v : Entry). isLong (o .message .shape) ≡ true → (k : ℕ) → covers (v .segments) k ≡ true → k < o .message .granted) (sym (here j y .1))
           (c .below o (sym (here j y .0) ∙ x))
       below j o x (no y) =
-          subst (λ (v : Entry). isLong (o .message .kind) ≡ true → (k : ℕ) → covers (v .segments) k ≡ true → k < o .message .granted) (sym (there j y .1))
+          subst (λ (v : Entry). isLong (o .message .shape) ≡ true → (k : ℕ) → covers (v .segments) k ≡ true → k < o .message .granted) (sym (there j y .1))
           (a .below j o (sym (there j y .0) ∙ x))
 
 -- a slot is freed: nothing of the map changes

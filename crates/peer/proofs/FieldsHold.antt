@@ -1,14 +1,15 @@
 -- What a packet that was read says stands where 01's table puts it: the statement of specs/InWords.antt on a packet's fields.
-use Prim.Native.Nat.{ℕ, _-_, _%_}
-use borrow.Author.Tests.{eqb-true, not-true}
+use Prim.Native.Nat.{ℕ, _-_}
+use borrow.Author.Tests.{eqb-true}
 use lib.Dec.{leb, eqb}
 use lib.ListN.{length, getD}
-use mathlib.Core.Bool.{Bool, false, not, _||_}
+use mathlib.Core.Bool.{Bool, false}
 use mathlib.Core.List.{List, [], _∷_, _++_}
 use mathlib.Core.Logic.{⊎-elim}
 use mathlib.Core.Path.{_≡_, refl, sym, ap, _∙_, subst}
 use native.Mathlib.Omega.{arith}
 use Rattle.laws.specs.Choose.{pick}
+use Rattle.protocol.specs.ByType.{taggedTold}
 use Rattle.protocol.specs.Layout.{fieldsAt, fieldsIn, layout, numberAt, tag, untagged}
 use Rattle.protocol.specs.Lengths.{lengthsFit}
 use Rattle.protocol.specs.Reading.{headerIn, packetIn, readOf}
@@ -21,19 +22,16 @@ use Rattle.protocol.specs.declared.types.Packet.{Packet}
 use Rattle.protocol.specs.declared.types.Read.{Read}
 use Rattle.peer.specs.InWords.{ReadAsTheTableSays, Told}
 use Rattle.peer.specs.Incomings.{incomingOf}
+use Rattle.peer.specs.PacketBytes.{typeNumber, typeSaid}
 use Rattle.peer.specs.declared.types.Incoming.{Incoming}
 use Rattle.wire.specs.LittleEndian.{leAt}
-use Rattle.laws.proofs.Choosing.{and-right, or-cases}
+use Rattle.laws.proofs.Choosing.{and-right}
 use Rattle.protocol.proofs.Accepted.{ReadAs, as-read, dataFrom, packetOf}
 use Rattle.protocol.proofs.Served.{served-read}
-use Rattle.protocol.proofs.TableRule.{row-kind, row-passes}
+use Rattle.protocol.proofs.TableRule.{by-row}
+use Rattle.protocol.proofs.TypeWords.{tagged-in-words}
 
--- an even type is not tagged, and is read with tag 0
-even-plain : (k : ℕ) (r : TypeRow) → rowOf k ≡ Row r → k % 2 ≡ 0 → r .tagged ≡ false
-even-plain k r e x =
-    ⊎-elim (λ y. absurd (omega (arith, eqb-true (r .kind % 2) 1 y, row-kind k r e))) (not-true (r .tagged))
-    (or-cases (eqb (r .kind % 2) 1) (not (r .tagged)) (row-passes (λ q. eqb (q .kind % 2) 1 || not (q .tagged)) refl k r e))
-
+-- a type that is not tagged is read with tag 0
 no-tag : (s : Shape) (at : ℕ) (bs : List ℕ) → numberAt (untagged s ++ pick false (tag ∷ []) []) at bs tag ≡ 0
 unfolding numberAt pick
 no-tag Cts at bs = refl
@@ -41,6 +39,11 @@ no-tag CtsData at bs = refl
 no-tag Eager at bs = refl
 no-tag Medium at bs = refl
 no-tag LongCts at bs = refl
+
+-- a row's shape and tagged give its type's number
+numbered : (k : ℕ) (r : TypeRow) → rowOf k ≡ Row r → typeNumber (r .shape) (r .tagged) ≡ k
+unfolding pick
+numbered = by-row (λ k r. typeNumber (r .shape) (r .tagged) ≡ k) refl refl refl refl refl refl refl refl
 
 module _ {g h : Incoming} (p : g ≡ h) where
   id-of : g .id ≡ h .id
@@ -80,11 +83,17 @@ module _ (limit : ℕ) (bs : List ℕ) (q : Packet) (e : readOf false limit bs �
   as-row : (k i : ℕ) → rowOf k ≡ Row (rowAt i) → getD bs 0 0 ≡ k → incomingOf q ≡ incomingOf (packetOf (rowAt i) (leAt 2 bs 2) bs)
   as-row k i x y = read-by-row k (rowAt i) x y .1
 
-  kind-read : incomingOf q .kind ≡ getD bs 0 0
-  unfolding incomingOf packetIn headerIn
+  kind-read : typeSaid (incomingOf q) ≡ getD bs 0 0
+  unfolding incomingOf packetIn
   kind-read =
       let (r, a, p) = as-read limit bs q (served-read limit bs q e) in
-      ap (λ (x : Packet). x .header .kind) p ∙ row-kind (getD bs 0 0) r (a .row)
+      ap (λ (x : Packet). typeNumber (x .shape) (x .tagged)) p ∙ numbered (getD bs 0 0) r (a .row)
+
+  tagged-read : incomingOf q .tagged ≡ taggedTold (getD bs 0 0)
+  unfolding incomingOf packetIn
+  tagged-read =
+      let (r, a, p) = as-read limit bs q (served-read limit bs q e) in
+      ap (λ (x : Packet). x .tagged) p ∙ tagged-in-words (getD bs 0 0) r (a .row)
 
   size-read : getD bs 0 0 ≡ 4 → incomingOf q .size ≡ leAt 8 bs 8
   unfolding rowOf rowIn pick incomingOf packetIn headerIn fieldsIn numberAt layout lengthsFit
@@ -93,12 +102,12 @@ module _ (limit : ℕ) (bs : List ℕ) (q : Packet) (e : readOf false limit bs �
       let n : ℕ = length bs - dataFrom (rowAt 1) (leAt 2 bs 2) bs in
       size-of p ∙ eqb-true n (leAt 8 bs 8) (and-right (leb 1 n) (eqb n (leAt 8 bs 8)) (a .lengths))
 
-  tag-read : getD bs 0 0 % 2 ≡ 0 → incomingOf q .tag ≡ 0
+  tag-read : taggedTold (getD bs 0 0) ≡ false → incomingOf q .tag ≡ 0
   unfolding incomingOf packetIn headerIn fieldsIn layout
   tag-read x =
       let (r, a, p) = as-read limit bs q (served-read limit bs q e) in
       ap (λ (y : Packet). y .header .fields .tag) p
-      ∙ ap (λ (t : Bool). numberAt (untagged (r .shape) ++ pick t (tag ∷ []) []) (fieldsAt r) bs tag) (even-plain (getD bs 0 0) r (a .row) x)
+      ∙ ap (λ (t : Bool). numberAt (untagged (r .shape) ++ pick t (tag ∷ []) []) (fieldsAt r) bs tag) (tagged-in-words (getD bs 0 0) r (a .row) ∙ x)
       ∙ no-tag (r .shape) (fieldsAt r) bs
 
   told : Told bs (incomingOf q)
@@ -106,6 +115,7 @@ module _ (limit : ℕ) (bs : List ℕ) (q : Packet) (e : readOf false limit bs �
   told =
       record {
         kind = kind-read;
+        tagged = tagged-read;
         ctsdata = λ x. let p = as-row 4 1 refl x in (id-of p, size-read x, offset-of p);
         eager = ⊎-elim (λ x. let p = as-row 64 2 refl x in (id-of p, length-of p ∙ sym (size-of p), offset-of p))
             (λ x. let p = as-row 65 3 refl x in (id-of p, length-of p ∙ sym (size-of p), offset-of p));

@@ -1,5 +1,5 @@
 -- An answer taken apart: which packet a call brings, where its segment goes, and what was tested on the way.
-use Prim.Native.Nat.{ℕ, _+_, _/_, _≤_, _<_}
+use Prim.Native.Nat.{ℕ, _+_, _≤_, _<_}
 use borrow.Author.Tests.{ltb-true, ltb-false, eqb-true}
 use lib.Dec.{leb, ltb}
 use mathlib.Core.Bool.{Bool, true, false, false≢true}
@@ -17,7 +17,7 @@ use Rattle.peer.specs.Claims.{takes}
 use Rattle.peer.specs.Coverage.{Segment, allOf, covers}
 use Rattle.peer.specs.Effects.{grantOf, opened}
 use Rattle.peer.specs.Expected.{anyOverlap, expectAgain, expectCancel, expectData, expectFit, expectFound, expectMore, expectNew, expectPlace, expectPost, expectRead, expectReport, expectTaken, expected, lowestIdle, targetOfCall, targetOfRead}
-use Rattle.peer.specs.Incomings.{incomingOf, isLong, isMedium, isRtm}
+use Rattle.peer.specs.Incomings.{incomingOf, isLong, isRtm}
 use Rattle.peer.specs.Matching.{ahead, sameMessage}
 use Rattle.peer.specs.Numbers.{badSlot, beyondGrant, differs, early, late, outsideArea, overlaps, repeated, shortReply}
 use Rattle.peer.specs.Plain.{Plain, Role, Target, begunEntry, entryAt, firstPosted, grown, idle, matchTarget, nowhere, openIn, receiving, roles, segmentOf, targetIn, targetOf, waiting}
@@ -32,6 +32,7 @@ use Rattle.peer.specs.declared.types.Receive.{Receive}
 use Rattle.peer.specs.declared.types.Vacancy.{Vacancy}
 use Rattle.laws.proofs.Choosing.{and-left, and-right, branch}
 use Rattle.peer.proofs.EntrySearch.{Foremost, foremost, open-at}
+use Rattle.peer.proofs.Verdicts.{medium-only}
 
 -- the call brings a packet that is read
 pub record Brings (limit : ℕ) (c : Call) : Type 0 where
@@ -53,11 +54,11 @@ bytesOf b = bytesAt (b .text) (b .read .«data»)
 pub record Goes (l : Plain) (h : Incoming) (i : ℕ) (o : Inbound) : Type 0 where
   pub role : entryAt (l .entries) i .role ≡ receiving o
   pub new : someOf (covers (entryAt (l .entries) i .segments)) (h .offset) (h .size) ≡ false
-  pub inGrant : isLong (o .message .kind) ≡ true → h .offset + h .size ≤ o .message .granted
+  pub inGrant : isLong (o .message .shape) ≡ true → h .offset + h .size ≤ o .message .granted
 
 -- to the receive r that waits in entry i
 pub record Matches (l : Plain) (h : Incoming) (i : ℕ) (r : Receive) (serial : ℕ) : Type 0 where
-  pub rtm : isRtm (h .kind) ≡ true
+  pub rtm : isRtm (h .shape) ≡ true
   pub next : ahead (h .id) (l .next) ≡ 0
   pub chosen : Foremost h (l .entries) i r serial
 
@@ -103,7 +104,7 @@ pub record Cut (limit : ℕ) (l : Plain) (c : Call) (t : Target) (slot id n : �
 
 pub record Granting (limit : ℕ) (l : Plain) (c : Call) (t : Target) (n : ℕ) : Type 0 where
   pub partly : Partly limit l c t
-  pub long : isLong (partly .taken .message .message .kind) ≡ true
+  pub long : isLong (partly .taken .message .message .shape) ≡ true
   pub amount : n ≡ grantOf limit (partly .taken .message .message)
   pub short : partly .taken .message .message .granted < partly .taken .message .message .length
 
@@ -139,13 +140,6 @@ taken-by (Answer.Missing c o) w e = absurd (false≢true e)
 
 -- ---- the tests, one after the other
 
--- a further RTM belongs to no long message
-medium-only : (m : Message) (h : Incoming) → sameMessage m h ≡ true → isLong (m .kind) ≡ true → ⊥
-unfolding sameMessage
-medium-only m h x long =
-    let kind : h .kind ≡ m .kind = eqb-true _ _ (and-left _ _ (and-right (isMedium (h .kind)) _ x)) in
-    omega (arith, eqb-true (h .kind / 2) 33 (and-left (isMedium (h .kind)) _ x), eqb-true (m .kind / 2) 34 long, ap (λ (k : ℕ). k / 2) kind)
-
 module _ (limit : ℕ) (l : Plain) (c : Call) (b : Brings limit c) where
   O : Target → Answer → Type 0
   O = Outcome limit l c
@@ -163,14 +157,14 @@ module _ (limit : ℕ) (l : Plain) (c : Call) (b : Brings limit c) where
       (λ x. branch (Outcome limit l c t) _ (Answer.Granted (grantOf limit (o .message))) Answer.Stored
       (λ y. record {
         partly = record { taken = w; covered = x; fits = f };
-        long = and-left (isLong (o .message .kind)) _ y;
+        long = and-left (isLong (o .message .shape)) _ y;
         amount = refl;
-        short = ltb-true _ _ (and-right (allOf (covers (t .entry .segments)) 0 (o .message .granted)) _ (and-right (isLong (o .message .kind)) _ y));
+        short = ltb-true _ _ (and-right (allOf (covers (t .entry .segments)) 0 (o .message .granted)) _ (and-right (isLong (o .message .shape)) _ y));
       })
       (λ y. record { taken = w; covered = x; fits = f }))
 
   more : (i : ℕ) (o : Inbound) → entryAt (l .entries) i .role ≡ receiving o
-      → (isLong (o .message .kind) ≡ true → headOf b .offset + headOf b .size ≤ o .message .granted)
+      → (isLong (o .message .shape) ≡ true → headOf b .offset + headOf b .size ≤ o .message .granted)
       → O (targetIn l (headOf b) segment (Found.At i o)) (expectMore limit l (headOf b) (bytesOf b) i o)
   unfolding O segment targetIn expectMore
   more i o e g =
@@ -193,7 +187,7 @@ module _ (limit : ℕ) (l : Plain) (c : Call) (b : Brings limit c) where
       (λ x. tt) (λ x. more i o e (λ y. ltb-false _ _ x)))
       (λ x. tt)
 
-  fitted : (f : Fit) → firstPosted (headOf b) 0 Fit.Unfit (l .entries) ≡ f → isRtm (headOf b .kind) ≡ true → ahead (headOf b .id) (l .next) ≡ 0
+  fitted : (f : Fit) → firstPosted (headOf b) 0 Fit.Unfit (l .entries) ≡ f → isRtm (headOf b .shape) ≡ true → ahead (headOf b .id) (l .next) ≡ 0
       → O (matchTarget (headOf b) segment f) (expectFit limit (headOf b) (bytesOf b) f)
   unfolding O segment matchTarget expectFit
   fitted Fit.Unfit e rtm next = tt
@@ -210,7 +204,7 @@ module _ (limit : ℕ) (l : Plain) (c : Call) (b : Brings limit c) where
       })
       (λ x. accepted _ _ (begins i r serial m) (λ y. ltb-false (r .capacity) (headOf b .length) x))
 
-  fresh : isRtm (headOf b .kind) ≡ true → O (targetIn l (headOf b) segment Found.Nothing) (expectNew limit l (headOf b) (bytesOf b))
+  fresh : isRtm (headOf b .shape) ≡ true → O (targetIn l (headOf b) segment Found.Nothing) (expectNew limit l (headOf b) (bytesOf b))
   unfolding O targetIn expectNew
   fresh rtm =
       branch (Outcome limit l c _) (ltb 2147483647 (ahead (headOf b .id) (l .next))) (Answer.Refused late) _ (λ x. tt) (λ x.

@@ -32,7 +32,7 @@ use Rattle.peer.proofs.PacketsRead.{read-formed}
 record Paid (limit : ℕ) (e : Entry) (o : Inbound) : Type 0 where
   sums : o .message .granted ≡ e .rtm + total (e .grants)
   inLength : o .message .granted ≤ o .message .length
-  below : isLong (o .message .kind) ≡ true → (k : ℕ) → covers (e .segments) k ≡ true → k < o .message .granted
+  below : isLong (o .message .shape) ≡ true → (k : ℕ) → covers (e .segments) k ≡ true → k < o .message .granted
   reach : o .message .granted < o .message .length → length (e .grants) * (limit - 32) + e .rtm ≤ o .message .granted
 
 abbrev Pays : ℕ → Entry → Type 0
@@ -41,7 +41,7 @@ Pays limit e = (o : Inbound) → e .role ≡ receiving o → Paid limit e o
 -- ---- a segment more
 
 paid-on : (limit : ℕ) (e : Entry) (o : Inbound) (h : Incoming) (bytes : List ℕ) → h .size ≡ length bytes
-    → (isLong (o .message .kind) ≡ true → h .offset + h .size ≤ o .message .granted) → Paid limit e o → Paid limit (grown e (segmentOf h bytes)) o
+    → (isLong (o .message .shape) ≡ true → h .offset + h .size ≤ o .message .granted) → Paid limit e o → Paid limit (grown e (segmentOf h bytes)) o
 unfolding covers
 paid-on limit e o h bytes size g p =
     record {
@@ -54,7 +54,7 @@ paid-on limit e o h bytes size g p =
       reach = p .reach;
     }
 
-paid-first : (limit : ℕ) (h : Incoming) (bytes : List ℕ) (r : Receive) (serial : ℕ) → Formed h (length bytes) → isRtm (h .kind) ≡ true
+paid-first : (limit : ℕ) (h : Incoming) (bytes : List ℕ) (r : Receive) (serial : ℕ) → Formed h (length bytes) → isRtm (h .shape) ≡ true
     → Paid limit (begunEntry r serial h (segmentOf h bytes)) (opened r h)
 unfolding covers
 paid-first limit h bytes r serial f rtm =
@@ -115,7 +115,7 @@ pays-last limit =
 -- ---- the claim
 
 all-granted : (limit : ℕ) (e : Entry) (o : Inbound) → Paid limit e o → allOf (covers (e .segments)) 0 (o .message .length) ≡ true
-    → isLong (o .message .kind) ≡ true → e .rtm + total (e .grants) ≡ o .message .length
+    → isLong (o .message .shape) ≡ true → e .rtm + total (e .grants) ≡ o .message .length
 all-granted limit e o p x long = go (decLt (o .message .granted) (o .message .length))
   where
     go : Dec (o .message .granted < o .message .length) → e .rtm + total (e .grants) ≡ o .message .length
@@ -148,7 +148,7 @@ grant-claim limit l c t (Answer.Done slot id n cq) big f w =
     record {
       adds = λ o role long.
           let same : o ≡ q = cc in
-          all-granted limit (t .entry) q (paid-taken limit l c t f (w .taken)) (w .covered) (ap (λ (x : Inbound). isLong (x .message .kind)) (sym same) ∙ long)
+          all-granted limit (t .entry) q (paid-taken limit l c t f (w .taken)) (w .covered) (ap (λ (x : Inbound). isLong (x .message .shape)) (sym same) ∙ long)
           ∙ sym (w .lengthIs);
     }
 grant-claim limit l c t (Answer.Truncated slot id n) big f w = tt

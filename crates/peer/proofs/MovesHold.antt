@@ -139,7 +139,8 @@ module _ (limit : ℕ) (p : Peer) (ws : List ℕ) (eight : length (p .slots) ≡
         now = set-now p eight i inside (Phase.Open (extended (grantOf limit (o .message)) o));
         more = record {
           receive = refl;
-          kind = refl;
+          shape = refl;
+          tagged = refl;
           id = refl;
           tag = refl;
           size = refl;

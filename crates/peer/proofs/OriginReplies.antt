@@ -81,7 +81,7 @@ module _ (limit : ℕ) (low : 64 ≤ limit) (l : Plain) (c : Call) (t : Target) 
       long =
           unfold LongIs68And69 in
           subst (λ (n : ℕ). (n ≡ 68) ⊎ (n ≡ 69)) (k .begun .kind)
-          (long-is-68-and-69 (m .kind) .0 (ap (λ (o : Inbound). isLong (o .message .kind)) (sym is) ∙ w .long))
+          (long-is-68-and-69 (m .shape) (m .tagged) .0 (ap (λ (o : Inbound). isLong (o .message .shape)) (sym is) ∙ w .long))
 
       amount : n ≡ grantOf limit m
       amount = w .amount ∙ ap (λ (o : Inbound). grantOf limit (o .message)) is

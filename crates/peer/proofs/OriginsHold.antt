@@ -34,7 +34,7 @@ use Rattle.peer.proofs.HistorySteps.{refused-brings, untaken, untaken-c
 -- ---- a packet that begins a message
 
 -- the message that it begins has its numbers
-pub begun-by : (limit : ℕ) (bs : List ℕ) (q : Packet) → readOf false limit bs ≡ Read.Packet q → isRtm (incomingOf q .kind) ≡ true → (r : Receive)
+pub begun-by : (limit : ℕ) (bs : List ℕ) (q : Packet) → readOf false limit bs ≡ Read.Packet q → isRtm (incomingOf q .shape) ≡ true → (r : Receive)
     → BegunBy bs (opened r (incomingOf q) .message)
 begun-by limit bs q e rtm r =
     let says = read-says limit bs q e in
@@ -98,7 +98,7 @@ module _ (limit : ℕ) (l : Plain) (gs : List Origin) (from : Trace l gs) where
       (sym (getD-set-same gs i (record { posted = originAt gs i .posted; rtm = bs }) noOrigin there)) (
         subst (FromOrigin (originAt gs i)) (m .chosen .waits) (from .1 i),
         subst (λ (x : Incoming). BegunBy bs (opened r x .message)) head
-            (begun-by limit bs q e (ap (λ (x : Incoming). isRtm (x .kind)) head ∙ m .rtm) r),
+            (begun-by limit bs q e (ap (λ (x : Incoming). isRtm (x .shape)) head ∙ m .rtm) r),
       )
 
   -- the entry is replaced by e, whose role is the target's or idle

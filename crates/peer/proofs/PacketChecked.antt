@@ -1,19 +1,20 @@
 -- A packet that was read is refused by the first of the judgement's checks that fails: each way through its tests, over any view of the peer.
 use Prim.Native.Nat.{ℕ, _+_, _%_, _^_, _≤_, _<_}
 use lib.ListN.{getD}
-use mathlib.Core.Bool.{true, false, true≢false}
+use mathlib.Core.Bool.{Bool, false, true, true≢false}
 use mathlib.Core.List.{List, [], _∷_}
 use mathlib.Core.Logic.{_⊎_, _↔_, inl, inr, ⊎-elim}
-use mathlib.Core.Path.{_≡_, sym, ap, _∙_, subst}
+use mathlib.Core.Path.{_∙_, _≡_, ap, refl, subst, sym}
 use native.Mathlib.Omega.{arith}
 use Rattle.bitmap.specs.Offsets.{someOf}
+use Rattle.protocol.specs.ByType.{taggedTold}
 use Rattle.protocol.specs.InWords.{bitOf}
 use Rattle.peer.specs.Checks.{Ahead, Check, Differs, Fails, FitsIn, Long, NotOpen, Repeats, dataBeyond, dataLate, dataRepeats, judgedChecks, rtmDiffers, rtmEarly, rtmLate, rtmRepeats, rtmUnmatched}
 use Rattle.peer.specs.InWords.{AheadIsTheDistance, LongIs68And69, OtherMessageDiffers, PlainFitsPlain, SameMessageIsAllEqual, SomeOfIsSomeOffset, TaggedFitsOutsideIgnore}
 use Rattle.peer.specs.Incomings.{isLong}
 use Rattle.peer.specs.Matching.{ahead, fits, sameMessage}
 use Rattle.peer.specs.Numbers.{refused, said, say}
-use Rattle.peer.specs.PacketBytes.{Rtm, idIn, typeIn}
+use Rattle.peer.specs.PacketBytes.{Rtm, idIn, typeIn, typeOf, typeSaid}
 use Rattle.peer.specs.Plain.{waiting}
 use Rattle.peer.specs.View.{OpenIn, View}
 use Rattle.peer.specs.declared.types.Answer.{Answer}
@@ -21,7 +22,6 @@ use Rattle.peer.specs.declared.types.Inbound.{Inbound}
 use Rattle.peer.specs.declared.types.Incoming.{Incoming}
 use Rattle.peer.specs.declared.types.Message.{Message}
 use Rattle.peer.specs.declared.types.Receive.{Receive}
-use Rattle.laws.proofs.Comparing.{eq-or-ne}
 use Rattle.peer.proofs.BytesHold.{Says}
 use Rattle.peer.proofs.OffsetsHold.{some-of-is-some-offset}
 use Rattle.peer.proofs.PostChecked.{GoneFor, Unrefused}
@@ -35,16 +35,16 @@ pub record Sole (v : View) (id i : ℕ) (o : Inbound) : Type 0 where
 
 -- ---- the tests in words
 
-long-words : (k : ℕ) → (isLong k ≡ true) ↔ ((k ≡ 68) ⊎ (k ≡ 69))
+long-words : (m : Message) → (isLong (m .shape) ≡ true) ↔ Long m
 unfolding LongIs68And69
-long-words = long-is-68-and-69
+long-words m = long-is-68-and-69 (m .shape) (m .tagged)
 
 module _ (v : View) (bs : List ℕ) (h : Incoming) (s : Says bs h) where
   differs-words : Rtm bs → (m : Message) → sameMessage m h ≡ false → Differs bs m
   unfolding OtherMessageDiffers
   differs-words w m x = go (other-message-differs m h .0 x)
     where
-      go : (h .kind ≡ m .kind → ⊥) ⊎ ((h .length ≡ m .length → ⊥) ⊎ ((h .tag ≡ m .tag → ⊥) ⊎ ((h .kind ≡ 66 → ⊥) × (h .kind ≡ 67 → ⊥)))) → Differs bs m
+      go : (typeSaid h ≡ typeOf m → ⊥) ⊎ ((h .length ≡ m .length → ⊥) ⊎ ((h .tag ≡ m .tag → ⊥) ⊎ ((typeSaid h ≡ 66 → ⊥) × (typeSaid h ≡ 67 → ⊥)))) → Differs bs m
       go (inl n) = inl (λ y. n (s .kind ∙ y))
       go (inr (inl n)) = inr (inl (λ y. n (s .length w ∙ y)))
       go (inr (inr (inl n))) = inr (inr (inl (λ y. n (s .tag ∙ y))))
@@ -54,7 +54,7 @@ module _ (v : View) (bs : List ℕ) (h : Incoming) (s : Says bs h) where
   unfolding SameMessageIsAllEqual
   same-words w m x d = go (same-message-is-all-equal m h .0 x) d
     where
-      go : ((h .kind ≡ 66) ⊎ (h .kind ≡ 67)) × (h .kind ≡ m .kind) × (h .length ≡ m .length) × (h .tag ≡ m .tag) → Differs bs m → ⊥
+      go : ((typeSaid h ≡ 66) ⊎ (typeSaid h ≡ 67)) × (typeSaid h ≡ typeOf m) × (h .length ≡ m .length) × (h .tag ≡ m .tag) → Differs bs m → ⊥
       go e (inl n) = n (sym (s .kind) ∙ e .1)
       go e (inr (inl n)) = n (sym (s .length w) ∙ e .2)
       go e (inr (inr (inl n))) = n (sym (s .tag) ∙ e .3)
@@ -70,27 +70,21 @@ module _ (v : View) (bs : List ℕ) (h : Incoming) (s : Says bs h) where
 
   pub fits-words : (r : Receive) → (fits h r ≡ true) ↔ FitsIn bs r
   unfolding PlainFitsPlain TaggedFitsOutsideIgnore
-  fits-words r = (given (parity (typeIn bs)), asked)
+  fits-words r = (given (taggedTold (typeIn bs)) refl, asked)
     where
-      parity : (k : ℕ) → (k % 2 ≡ 0) ⊎ (k % 2 ≡ 1)
-      parity k = ⊎-elim (λ x. inl x) (λ x. inr (omega (arith, x))) (eq-or-ne (k % 2) 0)
-
       Outside : ℕ → Type 0
       Outside n = (k : ℕ) → bitOf (r .ignore) k ≡ 0 → bitOf n k ≡ bitOf (r .tag) k
 
-      kind : (n : ℕ) → typeIn bs % 2 ≡ n → h .kind % 2 ≡ n
-      kind n e = ap (λ (k : ℕ). k % 2) (s .kind) ∙ e
-
-      given : (typeIn bs % 2 ≡ 0) ⊎ (typeIn bs % 2 ≡ 1) → fits h r ≡ true → FitsIn bs r
-      given (inl e) x = inl (e, plain-fits-plain h r (kind 0 e) .0 x)
-      given (inr e) x =
-          let (t, w) = tagged-fits-outside-ignore h r (kind 1 e) .0 x in
+      given : (t : Bool) → taggedTold (typeIn bs) ≡ t → fits h r ≡ true → FitsIn bs r
+      given false e x = inl (e, plain-fits-plain h r (s .tagged ∙ e) .0 x)
+      given true e x =
+          let (t, w) = tagged-fits-outside-ignore h r (s .tagged ∙ e) .0 x in
           inr (e, t, subst Outside (s .tag) w)
 
       asked : FitsIn bs r → fits h r ≡ true
-      asked (inl (e, x)) = plain-fits-plain h r (kind 0 e) .1 x
+      asked (inl (e, x)) = plain-fits-plain h r (s .tagged ∙ e) .1 x
       asked (inr (e, t, w)) =
-          tagged-fits-outside-ignore h r (kind 1 e) .1 (t, subst Outside (sym (s .tag)) w)
+          tagged-fits-outside-ignore h r (s .tagged ∙ e) .1 (t, subst Outside (sym (s .tag)) w)
 
 -- ---- each way through the tests
 
@@ -180,20 +174,20 @@ module _ (area limit : ℕ) (v : View) (bs : List ℕ) (h : Incoming) (s : Says 
     data-shut n e = past-rtm t (inl ((t, λ i o x y. n i o x), e))
 
     module _ (i : ℕ) (o : Inbound) (sole : Sole v (idIn bs) i o) where
-      pub data-short : isLong (o .message .kind) ≡ false → Refuses 15 → G (judgedChecks bs)
+      pub data-short : isLong (o .message .shape) ≡ false → Refuses 15 → G (judgedChecks bs)
       data-short x e =
           past-rtm t (inl (
             (
               t,
               λ j m y z.
-                  true≢false (sym (long-words (o .message .kind) .1 (subst (λ (q : Inbound). Long (q .message)) (sole .only j m y .1) z)) ∙ x),
+                  true≢false (sym (long-words (o .message) .1 (subst (λ (q : Inbound). Long (q .message)) (sole .only j m y .1) z)) ∙ x),
             ),
             e,
           ))
 
-      module _ (long : isLong (o .message .kind) ≡ true) where
+      module _ (long : isLong (o .message .shape) ≡ true) where
         is-long : Long (o .message)
-        is-long = long-words (o .message .kind) .0 long
+        is-long = long-words (o .message) .0 long
 
         found : Fails area limit v (dataLate bs) → ⊥
         found x = x .1 i o (sole .here) is-long

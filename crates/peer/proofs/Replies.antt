@@ -86,7 +86,7 @@ taken-done limit i o gs j id n cq e = go (pick-cases (allOf (covers gs) 0 (o .me
     done = Answer.Done i (o .message .id) (o .message .length) (o .message .«cq_data»)
 
     other : Answer
-    other = pick (isLong (o .message .kind) && (allOf (covers gs) 0 (o .message .granted) && ltb (o .message .granted) (o .message .length)))
+    other = pick (isLong (o .message .shape) && (allOf (covers gs) 0 (o .message .granted) && ltb (o .message .granted) (o .message .length)))
         (Answer.Granted (grantOf limit (o .message))) Answer.Stored
 
     no-done : (t : Bool) → pick t (Answer.Granted (grantOf limit (o .message))) Answer.Stored ≡ Answer.Done j id n cq → ⊥

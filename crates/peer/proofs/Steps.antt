@@ -147,7 +147,7 @@ module _ (p : Peer) (ws : List ℕ) (mem : ℕ → ℕ) (l : Plain) (r : Receive
             subst (λ (y : Entry). Bits ws (o .receive .start) (o .message .length) (y .segments)) (sym (w .1)) (a .bits j o (w .0));
         below = λ j o x.
             let w = open-there j o x in
-            subst (λ (y : Entry). isLong (o .message .kind) ≡ true → (k : ℕ) → covers (y .segments) k ≡ true → k < o .message .granted) (sym (w .1))
+            subst (λ (y : Entry). isLong (o .message .shape) ≡ true → (k : ℕ) → covers (y .segments) k ≡ true → k < o .message .granted) (sym (w .1))
             (a .below j o (w .0));
         content = λ j o x.
             let w = open-there j o x in

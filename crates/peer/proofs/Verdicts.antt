@@ -1,23 +1,26 @@
 -- What each verdict on a packet says of the peer and of the map: one walk through the tests.
-use Prim.Native.Nat.{ℕ, _+_, _/_, _≤_, _<_}
+use Prim.Native.Nat.{ℕ, _+_, _≤_, _<_}
 use borrow.Author.Tests.{ltb-true, ltb-false, leb-true, leb-false, eqb-true}
 use lib.Dec.{eqb}
 use lib.ListN.{length}
-use mathlib.Core.Bool.{true, false, _&&_}
+use mathlib.Core.Bool.{_&&_, false, false≢true, true}
 use mathlib.Core.List.{List}
 use mathlib.Core.Logic.{_⊎_, inl, inr}
 use mathlib.Core.Path.{_≡_, refl, sym, ap, _∙_}
 use native.Mathlib.Omega.{arith}
 use Rattle.bitmap.specs.Map.{touched}
+use Rattle.protocol.specs.declared.table.Shape.{Shape}
+use Rattle.protocol.specs.declared.table.Shape.the-variants.{Cts, CtsData, Eager, LongCts, Medium}
 use Rattle.peer.specs.Formed.{Formed}
 use Rattle.peer.specs.Incomings.{isLong, isMedium, isRtm}
 use Rattle.peer.specs.Judging.{judge, judgeAgain, judgeData, judgeFit, judgeFound, judgeMore, judgeNew}
-use Rattle.peer.specs.Matching.{ahead, findOpen, oldest, sameMessage}
+use Rattle.peer.specs.Matching.{ahead, findOpen, oldest, sameMedium, sameMessage}
 use Rattle.peer.specs.State.{phaseAt, phaseFits}
 use Rattle.peer.specs.declared.types.Fit.{Fit}
 use Rattle.peer.specs.declared.types.Found.{Found}
 use Rattle.peer.specs.declared.types.Inbound.{Inbound}
 use Rattle.peer.specs.declared.types.Incoming.{Incoming}
+use Rattle.peer.specs.declared.types.Message.{Message}
 use Rattle.peer.specs.declared.types.Peer.{Peer}
 use Rattle.peer.specs.declared.types.Phase.{Phase}
 use Rattle.peer.specs.declared.types.Receive.{Receive}
@@ -30,7 +33,7 @@ use Rattle.peer.proofs.Valid.{Valid, Within, open-within}
 
 pub record Matched (p : Peer) (h : Incoming) (i : ℕ) (r : Receive) : Type 0 where
   pub age : ℕ
-  pub rtm : isRtm (h .kind) ≡ true
+  pub rtm : isRtm (h .shape) ≡ true
   pub unopened : findOpen (h .id) 0 (p .slots) ≡ Found.Nothing
   pub inOrder : ahead (h .id) (p .next) ≡ 0
   pub chosen : oldest h 0 Fit.Unfit (p .slots) ≡ Fit.To i r age
@@ -48,7 +51,7 @@ pub record CutOff (p : Peer) (h : Incoming) (i : ℕ) : Type 0 where
 pub record Continues (p : Peer) (ws : List ℕ) (h : Incoming) (i : ℕ) (o : Inbound) : Type 0 where
   pub found : findOpen (h .id) 0 (p .slots) ≡ Found.At i o
   pub inLength : h .offset + h .size ≤ o .message .length
-  pub inGrant : isLong (o .message .kind) ≡ true → h .offset + h .size ≤ o .message .granted
+  pub inGrant : isLong (o .message .shape) ≡ true → h .offset + h .size ≤ o .message .granted
   pub unmarked : touched ws (o .receive .start + h .offset) (h .size) ≡ false
 
 abbrev pub Judged : Peer → List ℕ → Incoming → Verdict → Type 0
@@ -57,20 +60,27 @@ Judged p ws h (Verdict.Truncate i) = CutOff p h i
 Judged p ws h (Verdict.Begin i r) = Begins p h i r
 Judged p ws h (Verdict.More i o) = Continues p ws h i o
 
+-- a further RTM belongs to no long message
+pub medium-only : (m : Message) (h : Incoming) → sameMessage m h ≡ true → isLong (m .shape) ≡ true → ⊥
+unfolding sameMessage sameMedium
+medium-only m h x long = go (m .shape) (and-left (isMedium (m .shape)) _ (and-right (isMedium (h .shape)) _ (and-left (sameMedium m h) _ x))) long
+  where
+    go : (s : Shape) → isMedium s ≡ true → isLong s ≡ true → ⊥
+    go Cts a b = false≢true a
+    go CtsData a b = false≢true a
+    go Eager a b = false≢true a
+    go Medium a b = false≢true b
+    go LongCts a b = false≢true a
+
 module _ (area : ℕ) (p : Peer) (ws : List ℕ) (h : Incoming) (n : ℕ) (v : Valid area (p .slots)) (form : Formed h n) where
   -- a segment of an open message lies in it
-  pub again-inside : (o : Inbound) → isRtm (h .kind) ≡ true → sameMessage (o .message) h ≡ true
-      → (h .offset + h .size ≤ o .message .length) × (isLong (o .message .kind) ≡ true → ⊥)
+  pub again-inside : (o : Inbound) → isRtm (h .shape) ≡ true → sameMessage (o .message) h ≡ true
+      → (h .offset + h .size ≤ o .message .length) × (isLong (o .message .shape) ≡ true → ⊥)
   unfolding sameMessage
   again-inside o rtm x =
-      let med : isMedium (h .kind) ≡ true = and-left _ (eqb (h .kind) (o .message .kind) && (eqb (h .length) (o .message .length) && eqb (h .tag) (o .message .tag))) x in
-      let y = and-right (isMedium (h .kind)) _ x in
-      let kind : h .kind ≡ o .message .kind = eqb-true _ _ (and-left _ (eqb (h .length) (o .message .length) && eqb (h .tag) (o .message .tag)) y) in
-      let z = and-right (eqb (h .kind) (o .message .kind)) _ y in
-      let len : h .length ≡ o .message .length = eqb-true _ _ (and-left _ (eqb (h .tag) (o .message .tag)) z) in (
-        omega (arith, form .inside rtm),
-        λ long. omega (arith, eqb-true (h .kind / 2) 33 med, eqb-true (o .message .kind / 2) 34 long, ap (λ (k : ℕ). k / 2) kind),
-      )
+      let z = and-right (sameMedium (o .message) h) _ x in
+      let len : h .length ≡ o .message .length = eqb-true _ _ (and-left _ (eqb (h .tag) (o .message .tag)) z) in
+      (omega (arith, form .inside rtm), medium-only (o .message) h x)
 
   pub found-within : (i : ℕ) (o : Inbound) → findOpen (h .id) 0 (p .slots) ≡ Found.At i o → Within area o
   found-within i o e =
@@ -81,13 +91,13 @@ module _ (area : ℕ) (p : Peer) (ws : List ℕ) (h : Incoming) (n : ℕ) (v : V
   J = Judged p ws h
 
   judged-more : (i : ℕ) (o : Inbound) → findOpen (h .id) 0 (p .slots) ≡ Found.At i o → h .offset + h .size ≤ o .message .length
-      → (isLong (o .message .kind) ≡ true → h .offset + h .size ≤ o .message .granted) → J (judgeMore ws i o h)
+      → (isLong (o .message .shape) ≡ true → h .offset + h .size ≤ o .message .granted) → J (judgeMore ws i o h)
   unfolding J judgeMore
   judged-more i o e l g =
       branch (Judged p ws h) _ _ _ (λ x. tt)
       (λ x. record { found = e; inLength = l; inGrant = g; unmarked = x })
 
-  judged-again : (i : ℕ) (o : Inbound) → findOpen (h .id) 0 (p .slots) ≡ Found.At i o → isRtm (h .kind) ≡ true → J (judgeAgain ws i o h)
+  judged-again : (i : ℕ) (o : Inbound) → findOpen (h .id) 0 (p .slots) ≡ Found.At i o → isRtm (h .shape) ≡ true → J (judgeAgain ws i o h)
   unfolding J judgeAgain
   judged-again i o e rtm =
       branch (Judged p ws h) _ _ _
@@ -105,7 +115,7 @@ module _ (area : ℕ) (p : Peer) (ws : List ℕ) (h : Incoming) (n : ℕ) (v : V
       (λ x. tt))
       (λ x. tt)
 
-  judged-fit : (f : Fit) → oldest h 0 Fit.Unfit (p .slots) ≡ f → isRtm (h .kind) ≡ true → findOpen (h .id) 0 (p .slots) ≡ Found.Nothing
+  judged-fit : (f : Fit) → oldest h 0 Fit.Unfit (p .slots) ≡ f → isRtm (h .shape) ≡ true → findOpen (h .id) 0 (p .slots) ≡ Found.Nothing
       → ahead (h .id) (p .next) ≡ 0 → J (judgeFit h f)
   unfolding J judgeFit
   judged-fit Fit.Unfit e rtm unopen next = tt
@@ -115,7 +125,7 @@ module _ (area : ℕ) (p : Peer) (ws : List ℕ) (h : Incoming) (n : ℕ) (v : V
       (λ x. record { receive = r; matched = m; tooLong = ltb-true _ _ x })
       (λ x. record { matched = m; inCapacity = ltb-false _ _ x })
 
-  judged-new : isRtm (h .kind) ≡ true → findOpen (h .id) 0 (p .slots) ≡ Found.Nothing → J (judgeNew p h)
+  judged-new : isRtm (h .shape) ≡ true → findOpen (h .id) 0 (p .slots) ≡ Found.Nothing → J (judgeNew p h)
   unfolding J judgeNew
   judged-new rtm unopen =
       branch (Judged p ws h) _ _ _ (λ x. tt) (λ x.

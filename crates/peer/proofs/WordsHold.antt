@@ -4,15 +4,20 @@ use borrow.Author.Tests.{ltb-true, leb-true, eqb-true, eqb-false, not-true, lt-l
 use lib.Bits.{bitOr, or-step, or-shr}
 use lib.Dec.{leb, ltb, eqb}
 use lib.ListN.{getD}
-use mathlib.Core.Bool.{Bool, true, false, not, _&&_, true≢false}
+use mathlib.Core.Bool.{Bool, true, false, not, _&&_, _||_, true≢false, false≢true, or-true}
 use mathlib.Core.List.{List, [], _∷_}
-use mathlib.Core.Logic.{_⊎_, _↔_, _≢_, inl, inr, ⊎-elim}
+use mathlib.Core.Logic.{_⊎_, _↔_, _≢_, inl, inr, ⊎-elim, ⊎-map}
 use mathlib.Core.Path.{_≡_, refl, sym, ap, ap₂, _∙_, subst}
 use native.Mathlib.Decide.{decLt, ℕ-discrete}
 use native.Mathlib.Omega.{arith}
+use Rattle.laws.specs.Choose.{pick}
 use Rattle.protocol.specs.InWords.{bitOf}
+use Rattle.protocol.specs.declared.table.Shape.{Shape}
+use Rattle.protocol.specs.declared.table.Shape.the-variants.{Cts, CtsData, Eager, LongCts, Medium}
 use Rattle.peer.specs.InWords.{AheadIsTheDistance, EagerIs64And65, EmptyOverlapsNothing, FoundIsTheLowestOpen, LongIs68And69, MediumIs66And67, NothingFoundIsNoneOpen, OpenUnder, OtherMessageDiffers, OverlapIsASharedByte, PlainFitsPlain, RtmIs64To69, SameMessageIsAllEqual, TaggedFitsOutsideIgnore, UnfitIsNoneWaiting}
-use Rattle.peer.specs.Matching.{ahead, fits, older, sameMessage, sameOutside}
+use Rattle.peer.specs.Incomings.{isEager, isLong, isMedium, isRtm}
+use Rattle.peer.specs.Matching.{ahead, bothOrNeither, fits, older, sameMedium, sameMessage, sameOutside}
+use Rattle.peer.specs.PacketBytes.{typeNumber, typeOf, typeSaid}
 use Rattle.peer.specs.Plain.{Entry, Role, entryAt, firstHere, firstPosted, idle, openIn, receiving, waiting}
 use Rattle.peer.specs.State.{overlap}
 use Rattle.peer.specs.declared.types.Fit.{Fit}
@@ -20,10 +25,9 @@ use Rattle.peer.specs.declared.types.Found.{Found}
 use Rattle.peer.specs.declared.types.Inbound.{Inbound}
 use Rattle.peer.specs.declared.types.Incoming.{Incoming}
 use Rattle.peer.specs.declared.types.Receive.{Receive}
-use Rattle.laws.proofs.Choosing.{branch, clashing, pick-either, pick-false, pick-true, tested}
-use Rattle.laws.proofs.Comparing.{both-tests, eq-words}
+use Rattle.laws.proofs.Choosing.{and-left, and-right, branch, clashing, or-cases, pick-either, pick-false, pick-true, tested}
+use Rattle.laws.proofs.Comparing.{both-tests, eq-words, le-words}
 use Rattle.protocol.proofs.BitWords.{same-bits}
-use Rattle.protocol.proofs.TableRule.{row-kind, row-passes}
 use Rattle.peer.proofs.EntrySearch.{foremost}
 
 -- ---- ranges
@@ -46,39 +50,83 @@ empty-overlaps-nothing r s e = (
 
 -- ---- types
 
--- a type by its half
-by-half : (k n : ℕ) → (eqb (k / 2) n ≡ true) ↔ ((k ≡ n * 2) ⊎ (k ≡ n * 2 + 1))
-by-half k n = (λ e. go (eqb-true (k / 2) n e) (ℕ-discrete (k % 2) 0), λ w. eq-eqb (k / 2) n (⊎-elim (λ x. omega arith) (λ x. omega arith) w))
-  where
-    go : k / 2 ≡ n → Dec (k % 2 ≡ 0) → (k ≡ n * 2) ⊎ (k ≡ n * 2 + 1)
-    go x (yes y) = inl (omega arith)
-    go x (no y) = inr (omega (arith, y))
+-- one of two type numbers
+either : (n a b : ℕ) → ((eqb n a || eqb n b) ≡ true) ↔ ((n ≡ a) ⊎ (n ≡ b))
+either n a b = (
+  λ e. ⊎-map (eqb-true n a) (eqb-true n b) (or-cases (eqb n a) (eqb n b) e),
+  ⊎-elim (λ x. ap (λ (t : Bool). t || eqb n b) (eq-eqb n a x)) (λ x. ap (λ (t : Bool). eqb n a || t) (eq-eqb n b x) ∙ or-true (eqb n a)),
+)
+
+eager-test : (s : Shape) (t : Bool) → isEager s ≡ (eqb (typeNumber s t) 64 || eqb (typeNumber s t) 65)
+unfolding pick
+eager-test Cts t = refl
+eager-test CtsData t = refl
+eager-test Eager true = refl
+eager-test Eager false = refl
+eager-test Medium true = refl
+eager-test Medium false = refl
+eager-test LongCts true = refl
+eager-test LongCts false = refl
+
+medium-test : (s : Shape) (t : Bool) → isMedium s ≡ (eqb (typeNumber s t) 66 || eqb (typeNumber s t) 67)
+unfolding pick
+medium-test Cts t = refl
+medium-test CtsData t = refl
+medium-test Eager true = refl
+medium-test Eager false = refl
+medium-test Medium true = refl
+medium-test Medium false = refl
+medium-test LongCts true = refl
+medium-test LongCts false = refl
+
+long-test : (s : Shape) (t : Bool) → isLong s ≡ (eqb (typeNumber s t) 68 || eqb (typeNumber s t) 69)
+unfolding pick
+long-test Cts t = refl
+long-test CtsData t = refl
+long-test Eager true = refl
+long-test Eager false = refl
+long-test Medium true = refl
+long-test Medium false = refl
+long-test LongCts true = refl
+long-test LongCts false = refl
+
+rtm-test : (s : Shape) (t : Bool) → isRtm s ≡ (leb 64 (typeNumber s t) && leb (typeNumber s t) 69)
+unfolding pick
+rtm-test Cts t = refl
+rtm-test CtsData t = refl
+rtm-test Eager true = refl
+rtm-test Eager false = refl
+rtm-test Medium true = refl
+rtm-test Medium false = refl
+rtm-test LongCts true = refl
+rtm-test LongCts false = refl
+
+-- a test that is the same as another
+as-test : {a b : Bool} {P : Type 0} → a ≡ b → (b ≡ true) ↔ P → (a ≡ true) ↔ P
+as-test e w = (λ x. w .0 (sym e ∙ x), λ p. e ∙ w .1 p)
 
 pub eager-is-64-and-65 : EagerIs64And65
 unfolding EagerIs64And65
-eager-is-64-and-65 k = by-half k 32
+eager-is-64-and-65 s t = as-test (eager-test s t) (either (typeNumber s t) 64 65)
 
 pub medium-is-66-and-67 : MediumIs66And67
 unfolding MediumIs66And67
-medium-is-66-and-67 k = by-half k 33
+medium-is-66-and-67 s t = as-test (medium-test s t) (either (typeNumber s t) 66 67)
 
 pub long-is-68-and-69 : LongIs68And69
 unfolding LongIs68And69
-long-is-68-and-69 k = by-half k 34
+long-is-68-and-69 s t = as-test (long-test s t) (either (typeNumber s t) 68 69)
 
 pub rtm-is-64-to-69 : RtmIs64To69
 unfolding RtmIs64To69
-rtm-is-64-to-69 k r e = (
-  λ t. (leb-true 64 k t, omega (arith, row-kind k r e, leb-true (r .kind) 69 (row-passes (λ q. leb (q .kind) 69) refl k r e))),
-  λ w. le-leb 64 k (w .0),
-)
+rtm-is-64-to-69 s t = as-test (rtm-test s t) (both-tests (le-words 64 (typeNumber s t)) (le-words (typeNumber s t) 69))
 
 -- ---- matching
 
 pub plain-fits-plain : PlainFitsPlain
 unfolding PlainFitsPlain fits
 plain-fits-plain h r e =
-    let p : fits h r ≡ not (r .tagged) = pick-false _ _ (ne-eqb (h .kind % 2) 1 (λ x. omega arith)) in
+    let p : fits h r ≡ not (r .tagged) = pick-false _ _ e in
     (λ t. not-true (r .tagged) (sym p ∙ t), λ x. p ∙ rw x)
 
 -- bit k of two numbers, each with the bits of a third
@@ -102,7 +150,7 @@ same-outside ignore a b = (
 pub tagged-fits-outside-ignore : TaggedFitsOutsideIgnore
 unfolding TaggedFitsOutsideIgnore fits
 tagged-fits-outside-ignore h r e =
-    let p : fits h r ≡ (r .tagged && sameOutside (r .ignore) (h .tag) (r .tag)) = pick-true _ _ (eq-eqb (h .kind % 2) 1 e) in
+    let p : fits h r ≡ (r .tagged && sameOutside (r .ignore) (h .tag) (r .tag)) = pick-true _ _ e in
     let own : (r .tagged ≡ true) ↔ (r .tagged ≡ true) = (λ t. t, λ t. t) in
     let w = both-tests own (same-outside (r .ignore) (h .tag) (r .tag)) in
     (λ t. w .0 (sym p ∙ t), λ x. p ∙ w .1 x)
@@ -113,28 +161,59 @@ ahead-is-the-distance id next a b = (omega arith, omega arith, λ d l e. omega a
 
 -- 14
 
+-- the number of a medium type
+medium-number : (s : Shape) (t : Bool) → isMedium s ≡ true → typeNumber s t ≡ pick t 67 66
+medium-number Cts t e = absurd (false≢true e)
+medium-number CtsData t e = absurd (false≢true e)
+medium-number Eager t e = absurd (false≢true e)
+medium-number Medium t e = refl
+medium-number LongCts t e = absurd (false≢true e)
+
+tagged-number : (t u : Bool) → bothOrNeither t u ≡ eqb (pick t 67 66) (pick u 67 66)
+unfolding pick
+tagged-number true true = refl
+tagged-number true false = refl
+tagged-number false true = refl
+tagged-number false false = refl
+
+same-type : (s : Shape) (t : Bool) (s′ : Shape) (t′ : Bool)
+    → ((isMedium s && (isMedium s′ && bothOrNeither t t′)) ≡ true) ↔ (((typeNumber s t ≡ 66) ⊎ (typeNumber s t ≡ 67)) × (typeNumber s t ≡ typeNumber s′ t′))
+unfolding MediumIs66And67
+same-type s t s′ t′ = (
+  λ e.
+      let a = and-left (isMedium s) _ e in
+      let b = and-left (isMedium s′) _ (and-right (isMedium s) _ e) in
+      let c = and-right (isMedium s′) _ (and-right (isMedium s) _ e) in
+      (medium-is-66-and-67 s t .0 a, medium-number s t a ∙ eqb-true _ _ (sym (tagged-number t t′) ∙ c) ∙ sym (medium-number s′ t′ b)),
+  λ w.
+      let a = medium-is-66-and-67 s t .1 (w .0) in
+      let b = medium-is-66-and-67 s′ t′ .1 (⊎-map (λ x. sym (w .1) ∙ x) (λ x. sym (w .1) ∙ x) (w .0)) in
+      let c : _≡_ {A = ℕ} (pick t 67 66) (pick t′ 67 66) = sym (medium-number s t a) ∙ w .1 ∙ medium-number s′ t′ b in
+      ap₂ _&&_ a (ap₂ _&&_ b (tagged-number t t′ ∙ eq-eqb _ _ c)),
+)
+
 pub same-message-is-all-equal : SameMessageIsAllEqual
-unfolding SameMessageIsAllEqual sameMessage
+unfolding SameMessageIsAllEqual sameMessage sameMedium
 same-message-is-all-equal m h =
     let rest = both-tests (eq-words (h .length) (m .length)) (eq-words (h .tag) (m .tag)) in
-    let w = both-tests (by-half (h .kind) 33) (both-tests (eq-words (h .kind) (m .kind)) rest) in
-    (λ e. let x = w .0 e in (x .0, x .1 .0, x .1 .1 .0, x .1 .1 .1), λ x. w .1 (x .0, (x .1, (x .2, x .3))))
+    let w = both-tests (same-type (h .shape) (h .tagged) (m .shape) (m .tagged)) rest in
+    (λ e. let x = w .0 e in (x .0 .0, x .0 .1, x .1 .0, x .1 .1), λ x. w .1 ((x .0, x .1), (x .2, x .3)))
 
 pub other-message-differs : OtherMessageDiffers
 unfolding OtherMessageDiffers SameMessageIsAllEqual
 other-message-differs m h = (
-  given (ℕ-discrete (h .kind) (m .kind)) (ℕ-discrete (h .length) (m .length)) (ℕ-discrete (h .tag) (m .tag)) (ℕ-discrete (h .kind) 66)
-      (ℕ-discrete (h .kind) 67),
+  given (ℕ-discrete (typeSaid h) (typeOf m)) (ℕ-discrete (h .length) (m .length)) (ℕ-discrete (h .tag) (m .tag)) (ℕ-discrete (typeSaid h) 66)
+      (ℕ-discrete (typeSaid h) 67),
   λ w. ⊎-elim (λ x. absurd (asked w (same-message-is-all-equal m h .0 x))) (λ x. x) (tested (sameMessage m h)),
 )
   where
     R : Type 0
-    R = (h .kind ≢ m .kind) ⊎ ((h .length ≢ m .length) ⊎ ((h .tag ≢ m .tag) ⊎ ((h .kind ≢ 66) × (h .kind ≢ 67))))
+    R = (typeSaid h ≢ typeOf m) ⊎ ((h .length ≢ m .length) ⊎ ((h .tag ≢ m .tag) ⊎ ((typeSaid h ≢ 66) × (typeSaid h ≢ 67))))
 
     S : Type 0
-    S = ((h .kind ≡ 66) ⊎ (h .kind ≡ 67)) × (h .kind ≡ m .kind) × (h .length ≡ m .length) × (h .tag ≡ m .tag)
+    S = ((typeSaid h ≡ 66) ⊎ (typeSaid h ≡ 67)) × (typeSaid h ≡ typeOf m) × (h .length ≡ m .length) × (h .tag ≡ m .tag)
 
-    given : Dec (h .kind ≡ m .kind) → Dec (h .length ≡ m .length) → Dec (h .tag ≡ m .tag) → Dec (h .kind ≡ 66) → Dec (h .kind ≡ 67)
+    given : Dec (typeSaid h ≡ typeOf m) → Dec (h .length ≡ m .length) → Dec (h .tag ≡ m .tag) → Dec (typeSaid h ≡ 66) → Dec (typeSaid h ≡ 67)
         → sameMessage m h ≡ false → R
     given (no a) b c d e f = inl a
     given (yes a) (no b) c d e f = inr (inl b)

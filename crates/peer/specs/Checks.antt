@@ -6,6 +6,7 @@ use mathlib.Core.Bool.{true, false}
 use mathlib.Core.List.{List, [], _∷_, _++_, map}
 use mathlib.Core.Logic.{_⊎_, _≢_}
 use mathlib.Core.Path.{_≡_}
+use Rattle.protocol.specs.ByType.{taggedTold}
 use Rattle.protocol.specs.InWords.{bitOf, readerChecks, refusedAs}
 use Rattle.peer.specs.Calls.{Call, cancel, packet, peerStep, post, report}
 use Rattle.peer.specs.Claims.{AreBytes, history}
@@ -13,7 +14,7 @@ use Rattle.peer.specs.Expected.{expected}
 use Rattle.peer.specs.Firsts.{RefusedByFirst}
 use Rattle.peer.specs.InWords.{HasByte}
 use Rattle.peer.specs.Numbers.{said}
-use Rattle.peer.specs.PacketBytes.{Rtm, idIn, lengthIn, offsetIn, sizeIn, tagIn, typeIn}
+use Rattle.peer.specs.PacketBytes.{Rtm, idIn, lengthIn, offsetIn, sizeIn, tagIn, typeIn, typeOf}
 use Rattle.peer.specs.Plain.{Plain, idle, receiving, waiting}
 use Rattle.peer.specs.State.{peerFits}
 use Rattle.peer.specs.View.{OneEach, OpenIn, UsesRange, View, viewIn, viewOf}
@@ -27,7 +28,7 @@ use Rattle.peer.specs.declared.types.Receive.{Receive}
 
 -- "type, length or tag differs, or the type isn't medium"
 abbrev pub Differs : List ℕ → Message → Type 0
-Differs bs m = (typeIn bs ≢ m .kind) ⊎ ((lengthIn bs ≢ m .length) ⊎ ((tagIn bs ≢ m .tag) ⊎ ((typeIn bs ≢ 66) × (typeIn bs ≢ 67))))
+Differs bs m = (typeIn bs ≢ typeOf m) ⊎ ((lengthIn bs ≢ m .length) ⊎ ((tagIn bs ≢ m .tag) ⊎ ((typeIn bs ≢ 66) × (typeIn bs ≢ 67))))
 
 -- "segment shares a byte with one already accepted": some offset of the segment was accepted of the message in slot i
 abbrev pub Repeats : View → List ℕ → ℕ → Type 0
@@ -41,15 +42,15 @@ NotOpen v bs = (i : ℕ) (o : Inbound) → OpenIn v (idIn bs) i o → ⊥
 abbrev pub Ahead : View → List ℕ → ℕ → Type 0
 Ahead v bs d = (d < 2 ^ 32) × ((v .next + d) % 2 ^ 32 ≡ idIn bs)
 
--- "A receive fits an RTM of its kind; a tagged one if every tag bit outside ignore is equal": 64, 66 and 68 are plain, 65, 67 and 69 tagged
+-- "A receive fits an RTM of its kind; a tagged one if every tag bit outside ignore is equal"
 abbrev pub FitsIn : List ℕ → Receive → Type 0
 FitsIn bs r =
-    ((typeIn bs % 2 ≡ 0) × (r .tagged ≡ false))
-    ⊎ ((typeIn bs % 2 ≡ 1) × (r .tagged ≡ true) × ((k : ℕ) → bitOf (r .ignore) k ≡ 0 → bitOf (tagIn bs) k ≡ bitOf (r .tag) k))
+    ((taggedTold (typeIn bs) ≡ false) × (r .tagged ≡ false))
+    ⊎ ((taggedTold (typeIn bs) ≡ true) × (r .tagged ≡ true) × ((k : ℕ) → bitOf (r .ignore) k ≡ 0 → bitOf (tagIn bs) k ≡ bitOf (r .tag) k))
 
--- "68/69 LONGCTS MSG/TAG RTM"
+-- a message that "68/69 LONGCTS MSG/TAG RTM" began
 abbrev pub Long : Message → Type 0
-Long m = (m .kind ≡ 68) ⊎ (m .kind ≡ 69)
+Long m = (typeOf m ≡ 68) ⊎ (typeOf m ≡ 69)
 
 -- ---- the checks
 

@@ -288,7 +288,7 @@ roundUp x d = (x + d - 1) / d
 
 -- "When a long message is done, its RTM data plus the recv_length of every CTS written for it equals the length"
 pub record GrantsAdd (t : Target) (n : ℕ) : Type 0 where
-  pub adds : (o : Inbound) → t .entry .role ≡ receiving o → isLong (o .message .kind) ≡ true → t .entry .rtm + total (t .entry .grants) ≡ n
+  pub adds : (o : Inbound) → t .entry .role ≡ receiving o → isLong (o .message .shape) ≡ true → t .entry .rtm + total (t .entry .grants) ≡ n
 
 -- "CTS count is at most (length − RTM data)/(L − 32), rounded up", the CTS of this answer for n bytes included
 pub record FewGrants (limit : ℕ) (t : Target) (n : ℕ) : Type 0 where

@@ -49,7 +49,8 @@ opened r h =
     record {
       receive = r;
       message = record {
-        kind = h .kind;
+        shape = h .shape;
+        tagged = h .tagged;
         id = h .id;
         tag = h .tag;
         length = h .length;
@@ -66,7 +67,7 @@ opened r h =
 unfoldable pub progressOf : List ℕ → Inbound → Progress
 progressOf ws o =
     pick (eqb (firstClear ws (o .receive .start) (o .message .length)) (o .message .length)) Progress.Whole
-    (pick (isLong (o .message .kind))
+    (pick (isLong (o .message .shape))
     (pick (leb (o .message .granted) (firstClear ws (o .receive .start) (o .message .length))) Progress.Due Progress.Partial)
     Progress.Partial)
 
@@ -80,7 +81,8 @@ extended n o =
     record {
       receive = o .receive;
       message = record {
-        kind = o .message .kind;
+        shape = o .message .shape;
+        tagged = o .message .tagged;
         id = o .message .id;
         tag = o .message .tag;
         length = o .message .length;

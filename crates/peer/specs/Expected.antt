@@ -6,6 +6,7 @@ use lib.Dec.{leb, ltb}
 use Rattle.laws.specs.Choose.{pick}
 use Rattle.bitmap.specs.Offsets.{someOf, countOf, firstNot}
 use Rattle.protocol.specs.Cts.{ctsBytes}
+use Rattle.protocol.specs.declared.table.Shape.the-variants.{Eager}
 use Rattle.protocol.specs.declared.types.CqData.{CqData}
 use Rattle.protocol.specs.declared.types.Read.{Read}
 use Rattle.protocol.specs.Reading.{readOf}
@@ -61,7 +62,7 @@ expectPost area l r =
 unfoldable pub expectTaken : ℕ → ℕ → Inbound → List Segment → Answer
 expectTaken limit i o gs =
     pick (allOf (covers gs) 0 (o .message .length)) (Answer.Done i (o .message .id) (o .message .length) (o .message .«cq_data»))
-    (pick (isLong (o .message .kind) && (allOf (covers gs) 0 (o .message .granted) && ltb (o .message .granted) (o .message .length)))
+    (pick (isLong (o .message .shape) && (allOf (covers gs) 0 (o .message .granted) && ltb (o .message .granted) (o .message .length)))
     (Answer.Granted (grantOf limit (o .message)))
     Answer.Stored)
 
@@ -78,7 +79,7 @@ expectAgain limit l h bytes i o = pick (sameMessage (o .message) h) (expectMore 
 -- "CTSDATA: 15, 17, 16"
 unfoldable pub expectData : ℕ → Plain → Incoming → List ℕ → ℕ → Inbound → Answer
 expectData limit l h bytes i o =
-    pick (isLong (o .message .kind))
+    pick (isLong (o .message .shape))
     (pick (ltb (o .message .granted) (h .offset + h .size)) (Answer.Refused beyondGrant) (expectMore limit l h bytes i o))
     (Answer.Refused late)
 
@@ -97,8 +98,8 @@ expectNew limit l h bytes =
     (expectFit limit h bytes (firstPosted h 0 Fit.Unfit (l .entries))))
 
 unfoldable pub expectFound : ℕ → Plain → Incoming → List ℕ → Found → Answer
-expectFound limit l h bytes (Found.At i o) = pick (isRtm (h .kind)) (expectAgain limit l h bytes i o) (expectData limit l h bytes i o)
-expectFound limit l h bytes Found.Nothing = pick (isRtm (h .kind)) (expectNew limit l h bytes) (Answer.Refused late)
+expectFound limit l h bytes (Found.At i o) = pick (isRtm (h .shape)) (expectAgain limit l h bytes i o) (expectData limit l h bytes i o)
+expectFound limit l h bytes Found.Nothing = pick (isRtm (h .shape)) (expectNew limit l h bytes) (Answer.Refused late)
 
 -- the reader's refusals come first
 unfoldable pub expectRead : ℕ → Plain → List ℕ → Read → Answer
@@ -145,7 +146,8 @@ targetOfCall limit l (report i) = Rattle.peer.specs.Plain.nowhere
 abbrev pub noMessage : Message
 noMessage =
     record {
-      kind = 0;
+      shape = Eager;
+      tagged = false;
       id = 0;
       tag = 0;
       length = 0;

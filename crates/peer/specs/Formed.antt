@@ -8,5 +8,5 @@ use Rattle.peer.specs.Incomings.{isRtm, isLong}
 -- a packet with n bytes of data: an RTM's segment lies in its message, and a long message begins at its start
 pub record Formed (h : Incoming) (n : ℕ) : Type 0 where
   pub size : h .size ≡ n
-  pub inside : isRtm (h .kind) ≡ true → h .offset + h .size ≤ h .length
-  pub start : isLong (h .kind) ≡ true → h .offset ≡ 0
+  pub inside : isRtm (h .shape) ≡ true → h .offset + h .size ≤ h .length
+  pub start : isLong (h .shape) ≡ true → h .offset ≡ 0

@@ -7,16 +7,16 @@ use mathlib.Core.List.{List, [], _∷_, List·Memᴰ}
 use mathlib.Core.Logic.{_⊎_, _↔_, _≢_}
 use mathlib.Core.Path.{_≡_}
 use Rattle.bitmap.specs.Offsets.{countOf, firstNot, someOf}
+use Rattle.protocol.specs.ByType.{taggedTold}
 use Rattle.protocol.specs.InWords.{bitOf}
 use Rattle.protocol.specs.Reading.{readOf}
-use Rattle.protocol.specs.Types.{rowOf}
-use Rattle.protocol.specs.declared.table.Found.the-variants.{Row}
-use Rattle.protocol.specs.declared.table.TypeRow.{TypeRow}
+use Rattle.protocol.specs.declared.table.Shape.{Shape}
 use Rattle.protocol.specs.declared.types.Packet.{Packet}
 use Rattle.protocol.specs.declared.types.Read.{Read}
 use Rattle.peer.specs.Coverage.{Segment, allOf, covers}
 use Rattle.peer.specs.Incomings.{incomingOf, isEager, isLong, isMedium, isRtm}
 use Rattle.peer.specs.Matching.{ahead, fits, sameMessage}
+use Rattle.peer.specs.PacketBytes.{typeNumber, typeOf, typeSaid}
 use Rattle.peer.specs.Plain.{Entry, Role, entryAt, firstPosted, idle, openIn, receiving, waiting}
 use Rattle.peer.specs.State.{overlap}
 use Rattle.peer.specs.declared.types.Fit.{Fit}
@@ -41,34 +41,34 @@ OverlapIsASharedByte = (r s : Receive) → (overlap r s ≡ true) ↔ ((x : ℕ)
 unfoldable pub EmptyOverlapsNothing : Type 0
 EmptyOverlapsNothing = (r s : Receive) → r .capacity ≡ 0 → (overlap r s ≡ false) × (overlap s r ≡ false)
 
--- ---- types (4 and 64 to 69 are served)
+-- ---- types
 
 -- "64/65 EAGER MSG/TAG RTM"
 unfoldable pub EagerIs64And65 : Type 0
-EagerIs64And65 = (k : ℕ) → (isEager k ≡ true) ↔ ((k ≡ 64) ⊎ (k ≡ 65))
+EagerIs64And65 = (s : Shape) (t : Bool) → (isEager s ≡ true) ↔ ((typeNumber s t ≡ 64) ⊎ (typeNumber s t ≡ 65))
 
 -- "66/67 MEDIUM MSG/TAG RTM"
 unfoldable pub MediumIs66And67 : Type 0
-MediumIs66And67 = (k : ℕ) → (isMedium k ≡ true) ↔ ((k ≡ 66) ⊎ (k ≡ 67))
+MediumIs66And67 = (s : Shape) (t : Bool) → (isMedium s ≡ true) ↔ ((typeNumber s t ≡ 66) ⊎ (typeNumber s t ≡ 67))
 
 -- "68/69 LONGCTS MSG/TAG RTM"
 unfoldable pub LongIs68And69 : Type 0
-LongIs68And69 = (k : ℕ) → (isLong k ≡ true) ↔ ((k ≡ 68) ⊎ (k ≡ 69))
+LongIs68And69 = (s : Shape) (t : Bool) → (isLong s ≡ true) ↔ ((typeNumber s t ≡ 68) ⊎ (typeNumber s t ≡ 69))
 
--- of the table's types those from 64 to 69 are RTMs
+-- RTMs are those from 64 to 69
 unfoldable pub RtmIs64To69 : Type 0
-RtmIs64To69 = (k : ℕ) (r : TypeRow) → rowOf k ≡ Row r → (isRtm k ≡ true) ↔ ((64 ≤ k) × (k ≤ 69))
+RtmIs64To69 = (s : Shape) (t : Bool) → (isRtm s ≡ true) ↔ ((64 ≤ typeNumber s t) × (typeNumber s t ≤ 69))
 
 -- ---- matching
 
--- "A receive fits an RTM of its kind": one without a tag (an even type)
+-- "A receive fits an RTM of its kind": one without a tag
 unfoldable pub PlainFitsPlain : Type 0
-PlainFitsPlain = (h : Incoming) (r : Receive) → h .kind % 2 ≡ 0 → (fits h r ≡ true) ↔ (r .tagged ≡ false)
+PlainFitsPlain = (h : Incoming) (r : Receive) → h .tagged ≡ false → (fits h r ≡ true) ↔ (r .tagged ≡ false)
 
--- "a tagged one if every tag bit outside ignore is equal" (an odd type)
+-- "a tagged one if every tag bit outside ignore is equal"
 unfoldable pub TaggedFitsOutsideIgnore : Type 0
 TaggedFitsOutsideIgnore =
-    (h : Incoming) (r : Receive) → h .kind % 2 ≡ 1
+    (h : Incoming) (r : Receive) → h .tagged ≡ true
     → (fits h r ≡ true) ↔ ((r .tagged ≡ true) × ((k : ℕ) → bitOf (r .ignore) k ≡ 0 → bitOf (h .tag) k ≡ bitOf (r .tag) k))
 
 -- "d = (id − next) mod 2^32": the one number below 2^32 that leads from next to id
@@ -84,14 +84,14 @@ unfoldable pub SameMessageIsAllEqual : Type 0
 SameMessageIsAllEqual =
     (m : Message) (h : Incoming)
     → (sameMessage m h ≡ true)
-    ↔ (((h .kind ≡ 66) ⊎ (h .kind ≡ 67)) × (h .kind ≡ m .kind) × (h .length ≡ m .length) × (h .tag ≡ m .tag))
+    ↔ (((typeSaid h ≡ 66) ⊎ (typeSaid h ≡ 67)) × (typeSaid h ≡ typeOf m) × (h .length ≡ m .length) × (h .tag ≡ m .tag))
 
 -- 14: "type, length or tag differs, or the type isn't medium"
 unfoldable pub OtherMessageDiffers : Type 0
 OtherMessageDiffers =
     (m : Message) (h : Incoming)
     → (sameMessage m h ≡ false)
-    ↔ ((h .kind ≢ m .kind) ⊎ ((h .length ≢ m .length) ⊎ ((h .tag ≢ m .tag) ⊎ ((h .kind ≢ 66) × (h .kind ≢ 67)))))
+    ↔ ((typeSaid h ≢ typeOf m) ⊎ ((h .length ≢ m .length) ⊎ ((h .tag ≢ m .tag) ⊎ ((typeSaid h ≢ 66) × (typeSaid h ≢ 67)))))
 
 -- ---- the open message under an id
 
@@ -157,7 +157,9 @@ CountIsFullIfEvery = (f : ℕ → Bool) (n : ℕ) → (countOf f 0 n ≡ n) ↔ 
 -- ---- what a packet says, by the bytes where 01's table puts its fields ("Fields after type 1, version 1, flags 2")
 
 pub record Told (bs : List ℕ) (h : Incoming) : Type 0 where
-  pub kind : h .kind ≡ getD bs 0 0
+  pub kind : typeSaid h ≡ getD bs 0 0
+  -- tagged are exactly 65, 67 and 69
+  pub tagged : h .tagged ≡ taggedTold (getD bs 0 0)
   -- 4: "recv_id 4, seg_length 8, seg_offset 8"; "recv_id is the message's id"; "CTSDATA data equals seg_length"
   pub ctsdata : getD bs 0 0 ≡ 4 → (h .id ≡ leAt 4 bs 4) × (h .size ≡ leAt 8 bs 8) × (h .offset ≡ leAt 8 bs 16)
   -- 64, 65: "msg_id 4"; "Eager data may be empty; its length is the message length"; "its offset .. (0 where the packet has none)"
@@ -171,7 +173,7 @@ pub record Told (bs : List ℕ) (h : Incoming) : Type 0 where
   pub eagerTag : getD bs 0 0 ≡ 65 → h .tag ≡ leAt 8 bs 8
   pub tag : (getD bs 0 0 ≡ 67) ⊎ (getD bs 0 0 ≡ 69) → h .tag ≡ leAt 8 bs 24
   -- the other types have no tag
-  pub noTag : getD bs 0 0 % 2 ≡ 0 → h .tag ≡ 0
+  pub noTag : taggedTold (getD bs 0 0) ≡ false → h .tag ≡ 0
 
 unfoldable pub ReadAsTheTableSays : Type 0
 ReadAsTheTableSays = (limit : ℕ) (bs : List ℕ) (q : Packet) → readOf false limit bs ≡ Read.Packet q → Told bs (incomingOf q)

@@ -25,7 +25,7 @@ judgeAgain ws i o h = pick (sameMessage (o .message) h) (judgeMore ws i o h) (Ve
 -- "CTSDATA: 15, 17, 16"
 unfoldable pub judgeData : List ℕ → ℕ → Inbound → Incoming → Verdict
 judgeData ws i o h =
-    pick (isLong (o .message .kind))
+    pick (isLong (o .message .shape))
     (pick (leb (h .offset + h .size) (o .message .granted)) (judgeMore ws i o h) (Verdict.Refuse beyondGrant))
     (Verdict.Refuse late)
 
@@ -43,8 +43,8 @@ judgeNew p h =
 
 -- "An RTM whose id is open belongs to that message"
 unfoldable pub judgeFound : Peer → List ℕ → Incoming → Found → Verdict
-judgeFound p ws h (Found.At i o) = pick (isRtm (h .kind)) (judgeAgain ws i o h) (judgeData ws i o h)
-judgeFound p ws h Found.Nothing = pick (isRtm (h .kind)) (judgeNew p h) (Verdict.Refuse late)
+judgeFound p ws h (Found.At i o) = pick (isRtm (h .shape)) (judgeAgain ws i o h) (judgeData ws i o h)
+judgeFound p ws h Found.Nothing = pick (isRtm (h .shape)) (judgeNew p h) (Verdict.Refuse late)
 
 unfoldable pub judge : Peer → List ℕ → Incoming → Verdict
 judge p ws h = judgeFound p ws h (findOpen (h .id) 0 (p .slots))

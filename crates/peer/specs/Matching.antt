@@ -1,7 +1,7 @@
 -- Which message a packet belongs to, and which receive it fits (01, "Matching").
 use Prim.Native.Nat.{ℕ, suc, _+_, _-_, _%_}
 use mathlib.Core.List.{List, [], _∷_}
-use mathlib.Core.Bool.{Bool, not, _&&_}
+use mathlib.Core.Bool.{Bool, true, false, not, _&&_}
 use lib.Dec.{ltb, eqb}
 use lib.Bits.{bitOr}
 use Rattle.laws.specs.Choose.{pick}
@@ -38,9 +38,9 @@ findOpen id i (s ∷ ss) = orElse (openHere id i (s .phase)) (findOpen id (suc i
 unfoldable pub sameOutside : ℕ → ℕ → ℕ → Bool
 sameOutside ignore a b = eqb (bitOr a ignore) (bitOr b ignore)
 
--- "A receive fits an RTM of its kind; a tagged one if every tag bit outside ignore is equal." Tagged types have odd numbers
+-- "A receive fits an RTM of its kind; a tagged one if every tag bit outside ignore is equal."
 unfoldable pub fits : Incoming → Receive → Bool
-fits h r = pick (eqb (h .kind % 2) 1) (r .tagged && sameOutside (r .ignore) (h .tag) (r .tag)) (not (r .tagged))
+fits h r = pick (h .tagged) (r .tagged && sameOutside (r .ignore) (h .tag) (r .tag)) (not (r .tagged))
 
 -- the older of the best so far and a receive in slot i
 unfoldable pub older : Fit → ℕ → Receive → ℕ → Fit
@@ -69,6 +69,14 @@ vacancy i (s ∷ ss) = pick (isFree (s .phase)) (Vacancy.Slot i) (vacancy (suc i
 unfoldable pub ahead : ℕ → ℕ → ℕ
 ahead id next = (id + 4294967296 - next) % 4294967296
 
+abbrev pub bothOrNeither : Bool → Bool → Bool
+bothOrNeither true t = t
+bothOrNeither false t = not t
+
+-- the types are medium and the same: both are tagged, or neither is
+unfoldable pub sameMedium : Message → Incoming → Bool
+sameMedium m h = isMedium (h .shape) && (isMedium (m .shape) && bothOrNeither (h .tagged) (m .tagged))
+
 -- not "type, length or tag differs, or the type isn't medium"
 unfoldable pub sameMessage : Message → Incoming → Bool
-sameMessage m h = isMedium (h .kind) && (eqb (h .kind) (m .kind) && (eqb (h .length) (m .length) && eqb (h .tag) (m .tag)))
+sameMessage m h = sameMedium m h && (eqb (h .length) (m .length) && eqb (h .tag) (m .tag))

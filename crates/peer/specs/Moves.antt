@@ -91,7 +91,8 @@ pub record Storing (p : Peer) (ws : List ℕ) (c : Call) (i : ℕ) (o : Inbound)
 -- "The granted end is the RTM's data plus all grants": n more, and all else as it was
 pub record GrantedOn (n : ℕ) (o q : Inbound) : Type 0 where
   pub receive : q .receive ≡ o .receive
-  pub kind : q .message .kind ≡ o .message .kind
+  pub shape : q .message .shape ≡ o .message .shape
+  pub tagged : q .message .tagged ≡ o .message .tagged
   pub id : q .message .id ≡ o .message .id
   pub tag : q .message .tag ≡ o .message .tag
   pub size : q .message .length ≡ o .message .length

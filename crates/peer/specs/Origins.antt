@@ -14,7 +14,7 @@ use Rattle.peer.specs.Calls.{Call, cancel, packet, post, report}
 use Rattle.peer.specs.Checks.{Differs}
 use Rattle.peer.specs.Claims.{history, isMatch}
 use Rattle.peer.specs.Expected.{expected, expectedReply, targetOfCall}
-use Rattle.peer.specs.PacketBytes.{idIn, lengthIn, offsetIn, tagIn, typeIn}
+use Rattle.peer.specs.PacketBytes.{idIn, lengthIn, offsetIn, tagIn, typeIn, typeOf}
 use Rattle.peer.specs.Plain.{Plain, Role, Target, enter, entryAt, freshPlain, idle, receiving, waiting}
 use Rattle.peer.specs.State.{slotCount}
 use Rattle.peer.specs.declared.types.Answer.{Answer}
@@ -71,7 +71,7 @@ originsOf area limit calls = originsFrom area limit freshPlain noOrigins calls
 -- the message m is the one that the packet bs begins: its type, id, length and tag, of a LONGCTS RTM send_id and credit_request, and the CQ data
 -- are those that stand in these bytes where 01's table puts them
 pub record BegunBy (bs : List ℕ) (m : Message) : Type 0 where
-  pub kind : m .kind ≡ typeIn bs
+  pub kind : typeOf m ≡ typeIn bs
   pub id : m .id ≡ idIn bs
   pub size : m .length ≡ lengthIn bs
   pub tag : m .tag ≡ tagIn bs

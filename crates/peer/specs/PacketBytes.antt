@@ -2,12 +2,31 @@
 use Prim.Native.Nat.{ℕ, _-_, _≤_}
 use lib.Dec.{eqb, ltb}
 use lib.ListN.{length}
-use mathlib.Core.Bool.{_||_}
+use mathlib.Core.Bool.{Bool, _||_}
 use mathlib.Core.List.{List}
 use Rattle.laws.specs.Choose.{pick}
 pub use Rattle.protocol.specs.InWords.{typeIn}
 use Rattle.protocol.specs.InWords.{headIn}
+use Rattle.protocol.specs.declared.table.Shape.{Shape}
+use Rattle.protocol.specs.declared.table.Shape.the-variants.{Cts, CtsData, Eager, Medium, LongCts}
+use Rattle.peer.specs.declared.types.Incoming.{Incoming}
+use Rattle.peer.specs.declared.types.Message.{Message}
 use Rattle.wire.specs.LittleEndian.{leAt}
+
+-- the number of a type: "3 CTS", "4 CTSDATA", "64/65 EAGER MSG/TAG RTM", "66/67 MEDIUM MSG/TAG RTM", "68/69 LONGCTS MSG/TAG RTM"
+abbrev pub typeNumber : Shape → Bool → ℕ
+typeNumber Cts tagged = 3
+typeNumber CtsData tagged = 4
+typeNumber Eager tagged = pick tagged 65 64
+typeNumber Medium tagged = pick tagged 67 66
+typeNumber LongCts tagged = pick tagged 69 68
+
+-- of a packet that was read, and of the packet that began a message
+abbrev pub typeSaid : Incoming → ℕ
+typeSaid h = typeNumber (h .shape) (h .tagged)
+
+abbrev pub typeOf : Message → ℕ
+typeOf m = typeNumber (m .shape) (m .tagged)
 
 -- 64 to 69
 abbrev pub Rtm : List ℕ → Type 0

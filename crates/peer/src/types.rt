@@ -1,6 +1,7 @@
 // The state of one peer, what a packet says, and what a call answers.
 use protocol::CqData;
 use protocol::Refusal;
+use protocol::Shape;
 
 // What a post asks for: a range of the peer's area, for messages of a kind and a tag.
 pub struct Receive {
@@ -11,9 +12,11 @@ pub struct Receive {
     pub capacity: usize,
 }
 
-// What a packet says of its message, and of the segment that it carries.
+// What a packet says of its message, and of the segment that it carries: shape and tagged as the
+// table has them for its type.
 pub struct Incoming {
-    pub kind: u8,
+    pub shape: Shape,
+    pub tagged: bool,
     pub id: u32,
     pub tag: u64,
     pub length: usize,
@@ -24,9 +27,11 @@ pub struct Incoming {
     pub cq_data: CqData,
 }
 
-// An open message, as the matching packet began it. CTSDATA may reach up to `granted`.
+// An open message, as the matching packet began it: shape and tagged are the type's. CTSDATA may
+// reach up to `granted`.
 pub struct Message {
-    pub kind: u8,
+    pub shape: Shape,
+    pub tagged: bool,
     pub id: u32,
     pub tag: u64,
     pub length: usize,

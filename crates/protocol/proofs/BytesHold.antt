@@ -35,7 +35,7 @@ use Rattle.protocol.proofs.OrderHolds.{row-head}
 use Rattle.protocol.proofs.Sayings.{read-gives}
 use Rattle.protocol.proofs.Served.{any-read}
 use Rattle.protocol.proofs.TableRule.{by-row, row-kind}
-use Rattle.protocol.proofs.TypeWords.{fields-in-words, header-in-words, own-in-words}
+use Rattle.protocol.proofs.TypeWords.{fields-in-words, header-in-words, own-in-words, shape-in-words, tagged-in-words}
 
 -- a flag that is set, and one that is not
 set : (f i : ℕ) {A : Type 0} (a b : A) → bitOf f i ≡ 1 → pick (eqb (bitOf f i) 1) a b ≡ a
@@ -104,6 +104,8 @@ module _ (limit : ℕ) (bs : List ℕ) (p : Packet) (r : TypeRow) (a : ReadAs li
   told =
       record {
         kind = ap (λ (y : Packet). y .header .kind) q ∙ row-kind k r (a .row);
+        shape = ap (λ (y : Packet). y .shape) q ∙ shape-in-words k r (a .row);
+        tagged = ap (λ (y : Packet). y .tagged) q ∙ tagged-in-words k r (a .row);
         fields = ap (λ (y : Packet). y .header .fields) q ∙ fields-in-words bs k r (a .row);
         rawAddress = λ b. (ap (λ (y : Packet). y .header .«raw_address») q ∙ eq-eqb (bitOf f 0) 1 b, raw-bytes b, raw-length b);
         noRawAddress = λ b. (

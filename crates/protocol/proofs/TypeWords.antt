@@ -9,7 +9,7 @@ use mathlib.Core.Logic.{_⊎_, _↔_, inl, inr, ⊎-elim}
 use mathlib.Core.Path.{_≡_, refl, sym, ap, _∙_}
 use native.Mathlib.Omega.{arith}
 use Rattle.laws.specs.Choose.{pick}
-use Rattle.protocol.specs.ByType.{FlagRule, Known, LengthRule, connidHeader, fieldsTold, headerLength, ownTold}
+use Rattle.protocol.specs.ByType.{FlagRule, Known, LengthRule, connidHeader, fieldsTold, headerLength, ownTold, shapeTold, taggedTold}
 use Rattle.protocol.specs.InWords.{TypesAreTheTables}
 use Rattle.protocol.specs.Layout.{fieldsAt, fieldsIn, layout, numberAt, numberIn}
 use Rattle.protocol.specs.Lengths.{lengthsFit}
@@ -27,6 +27,14 @@ use Rattle.protocol.proofs.WordsHold.{types-are-the-tables}
 pub header-in-words : (k : ℕ) (r : TypeRow) → rowOf k ≡ Row r → r .header ≡ headerLength k
 unfolding pick
 header-in-words = by-row (λ k r. r .header ≡ headerLength k) refl refl refl refl refl refl refl refl
+
+pub shape-in-words : (k : ℕ) (r : TypeRow) → rowOf k ≡ Row r → r .shape ≡ shapeTold k
+unfolding pick
+shape-in-words = by-row (λ k r. r .shape ≡ shapeTold k) refl refl refl refl refl refl refl refl
+
+pub tagged-in-words : (k : ℕ) (r : TypeRow) → rowOf k ≡ Row r → r .tagged ≡ taggedTold k
+unfolding pick
+tagged-in-words = by-row (λ k r. r .tagged ≡ taggedTold k) refl refl refl refl refl refl refl refl
 
 pub connid-in-words : (k : ℕ) (r : TypeRow) → rowOf k ≡ Row r → r .connid ≡ connidHeader k
 unfolding pick

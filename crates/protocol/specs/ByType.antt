@@ -2,11 +2,13 @@
 -- rules on flags and lengths ask of each type. The reader's and the writer's checks in words are over these.
 use Prim.Native.Nat.{ℕ, _+_, _/_, _%_, _^_, _≤_}
 use lib.Dec.{eqb}
-use mathlib.Core.Bool.{Bool, true}
+use mathlib.Core.Bool.{Bool, true, false}
 use mathlib.Core.List.{List, [], _∷_}
 use mathlib.Core.Logic.{_⊎_, _↔_}
 use mathlib.Core.Path.{_≡_}
 use Rattle.laws.specs.Choose.{pick}
+use Rattle.protocol.specs.declared.table.Shape.{Shape}
+use Rattle.protocol.specs.declared.table.Shape.the-variants.{Cts, CtsData, Eager, Medium, LongCts}
 use Rattle.protocol.specs.declared.types.Fields.{Fields}
 use Rattle.wire.specs.LittleEndian.{leAt}
 
@@ -38,6 +40,15 @@ Known all k = ((k ≡ 3) × (all ≡ true)) ⊎ ((k ≡ 4) ⊎ Rtm k)
 abbrev pub column : {A : Type 0} → A → List (ℕ × A) → ℕ → A
 column other [] k = other
 column other (e ∷ es) k = pick (eqb (e .0) k) (e .1) (column other es k)
+
+-- column "Name": "CTS", "CTSDATA", "EAGER MSG/TAG RTM", "MEDIUM MSG/TAG RTM", "LONGCTS MSG/TAG RTM"
+abbrev pub shapeTold : ℕ → Shape
+shapeTold =
+    column Cts ((3, Cts) ∷ (4, CtsData) ∷ (64, Eager) ∷ (65, Eager) ∷ (66, Medium) ∷ (67, Medium) ∷ (68, LongCts) ∷ (69, LongCts) ∷ [])
+
+-- tagged are exactly 65, 67 and 69
+abbrev pub taggedTold : ℕ → Bool
+taggedTold = column false ((65, true) ∷ (67, true) ∷ (69, true) ∷ [])
 
 -- column "Header"
 abbrev pub headerLength : ℕ → ℕ

@@ -11,7 +11,7 @@ use mathlib.Core.Path.{_≡_}
 use Rattle.laws.specs.Choose.{pick}
 use Rattle.laws.specs.Parts.{part}
 pub use Rattle.protocol.specs.ByType.{Known, bitOf}
-use Rattle.protocol.specs.ByType.{FlagRule, LengthRule, column, connidHeader, fieldsTold, headerLength, ownTold}
+use Rattle.protocol.specs.ByType.{FlagRule, LengthRule, column, connidHeader, fieldsTold, headerLength, ownTold, shapeTold, taggedTold}
 use Rattle.protocol.specs.Checks.{First, gives, refused}
 use Rattle.protocol.specs.Reading.{readOf}
 use Rattle.protocol.specs.Says.{readSays}
@@ -119,6 +119,8 @@ connidPlace k f bs = column (cqEnd k f bs) ((3, 4) ∷ (4, 24) ∷ []) k
 
 pub record Told (bs : List ℕ) (k f : ℕ) (p : Packet) : Type 0 where
   pub kind : p .header .kind ≡ k
+  pub shape : p .shape ≡ shapeTold k
+  pub tagged : p .tagged ≡ taggedTold k
   pub fields : p .header .fields ≡ fieldsTold bs k
   -- "raw address (size 4, then size bytes)": so many bytes, all of them there
   pub rawAddress : bitOf f 0 ≡ 1

@@ -38,6 +38,8 @@ unfoldable pub packetIn : TypeRow → ℕ → List ℕ → Sections → Packet
 packetIn r f bs s =
     record {
       header = headerIn r f bs s;
+      shape = r .shape;
+      tagged = r .tagged;
       «raw_address» = s .raw;
       «data» = span (s .«data_at») (length bs - s .«data_at»);
     }

@@ -1,4 +1,5 @@
 // What a packet holds, and what the reader and the writer answer.
+use crate::table::Shape;
 
 // The numbers of a type's own fields; 0 in a field that the type has not.
 pub struct Fields {
@@ -39,10 +40,12 @@ pub struct Span {
     pub size: usize,
 }
 
-// A packet that was read: its numbers, and where its raw address and its data lie. The raw
-// address is empty where there is none.
+// A packet that was read: its numbers, what the table says of its type, and where its raw address
+// and its data lie. The raw address is empty where there is none.
 pub struct Packet {
     pub header: Header,
+    pub shape: Shape,
+    pub tagged: bool,
     pub raw_address: Span,
     pub data: Span,
 }

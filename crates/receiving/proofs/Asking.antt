@@ -72,7 +72,7 @@ module _ (words : ℕ) (p : Peer) (h : Incoming) (j : Judging words p h) (i : �
   inside : Within (64 * words) o
   inside = found-within (64 * words) p [] h (h .size) valid (j .form) i o e
 
-  pub again-placed : isRtm (h .kind) ≡ true → sameMessage (o .message) h ≡ true → Placed words o h
+  pub again-placed : isRtm (h .shape) ≡ true → sameMessage (o .message) h ≡ true → Placed words o h
   again-placed rtm same =
       let x = again-inside (64 * words) p [] h (h .size) valid (j .form) o rtm same .0 in
       record { inMap = omega (arith, inside .inArea, inside .inRange); small = j .mapped .small }

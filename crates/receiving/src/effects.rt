@@ -1,8 +1,8 @@
 // A verdict is carried out: bytes and bits of a segment, and what it makes of its message.
 use crate::grants;
 use crate::judging;
-use crate::kinds;
 use crate::segment;
+use crate::shapes;
 use peer::Answer;
 use peer::Inbound;
 use peer::Incoming;
@@ -26,9 +26,11 @@ ghost use Rattle.peer.specs.State.{slotCount};
 fn opened(receive: Receive, h: Incoming) -> Inbound
     ensures { λ r. ⌜ r ≡ opened receive h ⌝ }
 {
+    let shape = h.shape;
     let cq_data = h.cq_data;
     let message = Message {
-        kind: h.kind,
+        shape,
+        tagged: h.tagged,
         id: h.id,
         tag: h.tag,
         length: h.length,
@@ -52,7 +54,8 @@ fn progress(inbound: Inbound, words: &[u64]) -> Progress
     if first == length {
         return Progress::Whole;
     }
-    if kinds::is_long(message.kind) {
+    let shape = message.shape;
+    if shapes::is_long(shape) {
         if message.granted <= first {
             return Progress::Due;
         }

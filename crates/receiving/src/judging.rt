@@ -1,5 +1,4 @@
 // What is to be done with a packet: all its tests after the reader's. The area is not read.
-use crate::kinds;
 use crate::matching;
 use crate::refusals::BEYOND_GRANT;
 use crate::refusals::DIFFERS;
@@ -7,6 +6,7 @@ use crate::refusals::EARLY;
 use crate::refusals::LATE;
 use crate::refusals::NO_RECEIVE;
 use crate::refusals::REPEATED;
+use crate::shapes;
 use peer::Fit;
 use peer::Found;
 use peer::Inbound;
@@ -56,7 +56,8 @@ fn judge_data(inbound: Inbound, i: usize, h: Incoming, words: &[u64]) -> Verdict
     ensures { λ r. ⌜ r ≡ judgeData (now (words .entry)) i inbound h ⌝ }
 {
     let message = inbound.message;
-    if !kinds::is_long(message.kind) {
+    let shape = message.shape;
+    if !shapes::is_long(shape) {
         return Verdict::Refuse(LATE);
     }
     if wire::ends_by(h.offset, h.size, message.granted) {
@@ -101,7 +102,8 @@ pub(crate) fn judge(peer: Peer, h: Incoming, words: &[u64]) -> Verdict
     requires { ⌜ Judging (length (now words)) peer h ⌝ }
     ensures { λ r. ⌜ r ≡ judge peer (now (words .entry)) h ⌝ }
 {
-    let rtm = kinds::is_rtm(h.kind);
+    let shape = h.shape;
+    let rtm = shapes::is_rtm(shape);
     match matching::find_open(peer, h.id) {
         Found::At(i, inbound) => {
             if rtm {

@@ -4,10 +4,10 @@ mod effects;
 mod grants;
 mod incoming;
 mod judging;
-mod kinds;
 mod matching;
 mod packets;
 mod refusals;
 mod segment;
+mod shapes;
 
 pub use packets::packet;

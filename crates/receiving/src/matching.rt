@@ -1,5 +1,5 @@
 // Which message a packet belongs to, and which receive it fits.
-use crate::kinds;
+use crate::shapes;
 use peer::Fit;
 use peer::Found;
 use peer::Incoming;
@@ -9,7 +9,7 @@ use peer::Phase;
 use peer::Receive;
 use peer::Slot;
 ghost use mathlib.Core.Path.{_≡_};
-ghost use Rattle.peer.specs.Matching.{openHere, findOpen, fits, older, olderHere, oldest, ahead, sameMessage};
+ghost use Rattle.peer.specs.Matching.{openHere, findOpen, fits, older, olderHere, oldest, ahead, sameMedium, sameMessage};
 
 // How far an id is ahead of the next one, round at 2^32.
 pub(crate) fn ahead_of(id: u32, next: u32) -> u32
@@ -18,14 +18,30 @@ pub(crate) fn ahead_of(id: u32, next: u32) -> u32
     std::num::wrapping_sub_u32(id, next)
 }
 
+// Whether a packet is of this message's type, and that a medium one.
+fn same_medium(message: Message, h: Incoming) -> bool
+    ensures { λ r. ⌜ r ≡ sameMedium message h ⌝ }
+{
+    let shape = h.shape;
+    if !shapes::is_medium(shape) {
+        return false;
+    }
+    let begun = message.shape;
+    if !shapes::is_medium(begun) {
+        return false;
+    }
+    if h.tagged {
+        message.tagged
+    } else {
+        !message.tagged
+    }
+}
+
 // Whether a packet is a further segment of this message.
 pub(crate) fn goes_on(message: Message, h: Incoming) -> bool
     ensures { λ r. ⌜ r ≡ sameMessage message h ⌝ }
 {
-    if !kinds::is_medium(h.kind) {
-        return false;
-    }
-    if h.kind != message.kind {
+    if !same_medium(message, h) {
         return false;
     }
     if h.length != message.length {
@@ -38,7 +54,7 @@ pub(crate) fn goes_on(message: Message, h: Incoming) -> bool
 fn takes(receive: Receive, h: Incoming) -> bool
     ensures { λ r. ⌜ r ≡ fits h receive ⌝ }
 {
-    if h.kind % 2 == 1 {
+    if h.tagged {
         receive.tagged && (h.tag | receive.ignore) == (receive.tag | receive.ignore)
     } else {
         !receive.tagged

@@ -1,5 +1,6 @@
 -- Saving and loading undo each other: what specs/RoundTrip.antt states.
-use Prim.Native.Nat.{ℕ, zero, suc, _+_, _*_, _≤_, _<_, _%_, _^_}
+use Prim.Native.Nat.{ℕ, zero, suc, _+_, _*_, _/_, _≤_, _<_, _%_, _^_}
+use borrow.Author.Tests.{eq-eqb, ne-eqb}
 use lib.Dec.{eqb}
 use lib.ListN.{length, getD, List·getD-append}
 use lib.Seq.{getD-append-add}
@@ -9,6 +10,8 @@ use mathlib.Core.Path.{_≡_, refl, sym, ap, ap₂, _∙_}
 use native.Mathlib.Nat.{add-assoc, add-zero, mul-zero, mul-suc, mul-le-mul-left, mod-eq-of-lt}
 use native.Mathlib.Omega.{arith}
 use Rattle.laws.specs.Choose.{pick}
+use Rattle.protocol.specs.declared.table.Shape.{Shape}
+use Rattle.protocol.specs.declared.table.Shape.the-variants.{Cts, CtsData, Eager, LongCts, Medium}
 use Rattle.protocol.specs.declared.types.CqData.{CqData}
 use Rattle.peer.specs.State.{freeSlot, freshPeer, phaseAt, slotCount, slotWith}
 use Rattle.peer.specs.declared.types.Inbound.{Inbound}
@@ -18,10 +21,10 @@ use Rattle.peer.specs.declared.types.Slot.{Slot}
 use Rattle.engine.specs.SetUp.{engineOf, peerAt, peerCount}
 use Rattle.engine.specs.declared.types.Engine.{Engine}
 use Rattle.state_words.specs.Flat.{flat, same}
-use Rattle.state_words.specs.Loading.{engineIn, isState, peerIn, phaseIn, stateOf}
+use Rattle.state_words.specs.Loading.{engineIn, isState, peerIn, phaseIn, shapeIn, stateOf}
 use Rattle.state_words.specs.RoundTrip.{Held, LoadedAgain, MessageHeld, PeerHeld, SavedAgain}
 use Rattle.words.specs.Presence.{bitOf, cqBit, cqValue}
-use Rattle.state_words.specs.Saving.{engineWords, peerSize, peerWords, phaseWords, slotSize, slotWords}
+use Rattle.state_words.specs.Saving.{engineWords, peerSize, peerWords, phaseWords, shapeNumber, slotSize, slotWords, sortWord}
 use Rattle.laws.proofs.Choosing.{pick-true}
 use Rattle.state_words.proofs.FlatLaws.{length-flat, tabulate-is, same-refl, same-true}
 use Rattle.state_words.proofs.Sizes.{length-peer, length-slot}
@@ -72,6 +75,23 @@ unfolding pick
 cq-read CqData.Absent = refl
 cq-read (CqData.Present d) = refl
 
+sort-shape : (s : Shape) (t : Bool) → shapeIn (sortWord s t / 2) ≡ s
+unfolding pick
+sort-shape Cts true = refl
+sort-shape Cts false = refl
+sort-shape CtsData true = refl
+sort-shape CtsData false = refl
+sort-shape Eager true = refl
+sort-shape Eager false = refl
+sort-shape Medium true = refl
+sort-shape Medium false = refl
+sort-shape LongCts true = refl
+sort-shape LongCts false = refl
+
+sort-tagged : (s : Shape) (t : Bool) → eqb (sortWord s t % 2) 1 ≡ t
+sort-tagged s true = eq-eqb ((2 * shapeNumber s + 1) % 2) 1 (omega arith)
+sort-tagged s false = ne-eqb ((2 * shapeNumber s + 0) % 2) 1 (λ x. omega arith)
+
 phase-read : (w : List ℕ) (at : ℕ) (f : Phase) → ((o : Inbound) → f ≡ Phase.Open o → MessageHeld (o .message)) → Stand w at (phaseWords f) → phaseIn w at ≡ f
 unfolding phaseIn phaseWords pick
 phase-read w at Phase.Free held s = rw (first-word w at (phaseWords Phase.Free) (omega arith) s)
@@ -81,7 +101,7 @@ phase-read w at (Phase.Open o) held s =
     let m = held o refl in
     rw (first-word w at (phaseWords (Phase.Open o)) (omega arith) s, s 1 (omega arith), s 2 (omega arith), s 3 (omega arith), s 4 (omega arith), s 5 (omega arith), bit-read)
     (rw (s 7 (omega arith), s 8 (omega arith), s 9 (omega arith), s 10 (omega arith), s 11 (omega arith), s 12 (omega arith), s 13 (omega arith))
-    (rw (s 14 (omega arith), s 15 (omega arith), cq-read, mod-eq-of-lt (m .kind), mod-eq-of-lt (m .id), mod-eq-of-lt (m .sendId), mod-eq-of-lt (m .creditRequest))))
+    (rw (s 14 (omega arith), s 15 (omega arith), cq-read, sort-shape, sort-tagged, mod-eq-of-lt (m .id), mod-eq-of-lt (m .sendId), mod-eq-of-lt (m .creditRequest))))
 
 module _ (w : List ℕ) (at : ℕ) (p : Peer) (held : PeerHeld p) (s : Stand w at (peerWords p)) where
   slot-read : (i : ℕ) → i < slotCount → phaseIn w (at + 1 + slotSize * i) ≡ phaseAt (p .slots) i

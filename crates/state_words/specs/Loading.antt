@@ -1,10 +1,12 @@
 -- The state that words are read as, and which words are a state's.
-use Prim.Native.Nat.{ℕ, _+_, _*_, _%_, _^_}
+use Prim.Native.Nat.{ℕ, _+_, _*_, _/_, _%_, _^_}
 use mathlib.Core.List.{List}
 use mathlib.Core.Bool.{Bool}
 use lib.ListN.{getD}
 use lib.Dec.{eqb}
 use Rattle.laws.specs.Choose.{pick}
+use Rattle.protocol.specs.declared.table.Shape.{Shape}
+use Rattle.protocol.specs.declared.table.Shape.the-variants.{Cts, CtsData, Eager, Medium, LongCts}
 use Rattle.protocol.specs.declared.types.CqData.{CqData}
 use Rattle.peer.specs.declared.types.Receive.{Receive}
 use Rattle.peer.specs.declared.types.Message.{Message}
@@ -29,10 +31,15 @@ receiveIn w at =
 abbrev pub cqIn : List ℕ → ℕ → CqData
 cqIn w at = pick (eqb (getD w (at + 14) 0) 1) (CqData.Present (getD w (at + 15) 0)) CqData.Absent
 
+-- the shape with this number
+abbrev pub shapeIn : ℕ → Shape
+shapeIn n = pick (eqb n 0) Cts (pick (eqb n 1) CtsData (pick (eqb n 2) Eager (pick (eqb n 3) Medium LongCts)))
+
 abbrev pub messageIn : List ℕ → ℕ → Message
 messageIn w at =
     record {
-      kind = getD w (at + 7) 0 % 256;
+      shape = shapeIn (getD w (at + 7) 0 / 2);
+      tagged = eqb (getD w (at + 7) 0 % 2) 1;
       id = getD w (at + 8) 0 % 2 ^ 32;
       tag = getD w (at + 9) 0;
       length = getD w (at + 10) 0;

@@ -21,7 +21,6 @@ SavedAgain = (w : List ℕ) → isState w ≡ true → engineWords (stateOf w) �
 -- ---- an engine as the code holds it: its arrays have their lengths, and numbers of fewer than 64 bits are within their types
 
 pub record MessageHeld (m : Message) : Type 0 where
-  pub kind : m .kind < 256
   pub id : m .id < 2 ^ 32
   pub sendId : m .«send_id» < 2 ^ 32
   pub creditRequest : m .«credit_request» < 2 ^ 32

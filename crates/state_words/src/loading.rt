@@ -12,6 +12,7 @@ use peer::Phase;
 use peer::Receive;
 use peer::Slot;
 use protocol::CqData;
+use protocol::Shape;
 ghost use mathlib.Core.Path.{_≡_};
 ghost use mathlib.Core.Bool.{false};
 ghost use Prim.Native.Nat.{_+_, _≤_};
@@ -19,7 +20,7 @@ ghost use lib.ListN.{length};
 ghost use Rattle.peer.specs.State.{slotWith};
 ghost use Rattle.engine.specs.SetUp.{engineOf};
 ghost use Rattle.state_words.specs.Flat.{same};
-ghost use Rattle.state_words.specs.Loading.{receiveIn, cqIn, messageIn, phaseIn, peerIn, engineIn, isState, stateOf};
+ghost use Rattle.state_words.specs.Loading.{receiveIn, cqIn, shapeIn, messageIn, phaseIn, peerIn, engineIn, isState, stateOf};
 
 fn receive_in(words: &[u64], at: usize) -> Receive
     requires { ⌜ at + 16 ≤ length (now words) ⌝ }
@@ -45,13 +46,28 @@ fn cq_in(words: &[u64], at: usize) -> CqData
     }
 }
 
+fn shape_in(number: u64) -> Shape
+    ensures { λ r. ⌜ r ≡ shapeIn number ⌝ }
+{
+    match number {
+        0 => Shape::Cts,
+        1 => Shape::CtsData,
+        2 => Shape::Eager,
+        3 => Shape::Medium,
+        _ => Shape::LongCts,
+    }
+}
+
 fn message_in(words: &[u64], at: usize) -> Message
     requires { ⌜ at + 16 ≤ length (now words) ⌝ }
     ensures { λ r. ⌜ r ≡ messageIn (now (words .entry)) at ⌝ }
 {
     let cq_data = cq_in(words, at);
+    let sort = words[at + 7];
+    let shape = shape_in(sort / 2);
     Message {
-        kind: (words[at + 7] % 256) as u8,
+        shape,
+        tagged: sort % 2 == 1,
         id: (words[at + 8] % 0x1_0000_0000) as u32,
         tag: words[at + 9],
         length: words[at + 10] as usize,

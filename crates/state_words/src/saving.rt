@@ -7,11 +7,33 @@ use peer::Peer;
 use peer::Phase;
 use peer::Receive;
 use peer::Slot;
+use protocol::Shape;
 ghost use mathlib.Core.Path.{_≡_};
 ghost use Prim.Native.Nat.{_+_, _≤_};
 ghost use lib.ListN.{length};
 ghost use Rattle.laws.specs.Parts.{storeAt};
-ghost use Rattle.state_words.specs.Saving.{phaseWords, slotWords, peerWords, engineWords};
+ghost use Rattle.state_words.specs.Saving.{shapeNumber, sortWord, phaseWords, slotWords, peerWords, engineWords};
+
+// A shape by its place among the shapes.
+fn shape_number(shape: Shape) -> u64
+    ensures { λ r. ⌜ (r ≡ shapeNumber shape) × (r ≤ 4) ⌝ }
+{
+    match shape {
+        Shape::Cts => 0,
+        Shape::CtsData => 1,
+        Shape::Eager => 2,
+        Shape::Medium => 3,
+        Shape::LongCts => 4,
+    }
+}
+
+// Shape and tagged in one word.
+fn sort_word(shape: Shape, tagged: bool) -> u64
+    ensures { λ r. ⌜ r ≡ sortWord shape tagged ⌝ }
+{
+    let number = shape_number(shape);
+    if tagged { 2 * number + 1 } else { 2 * number }
+}
 
 // The words of an open slot.
 fn open_words(inbound: Inbound) -> [u64; 16]
@@ -19,6 +41,7 @@ fn open_words(inbound: Inbound) -> [u64; 16]
 {
     let receive = inbound.receive;
     let message = inbound.message;
+    let shape = message.shape;
     let cq = message.cq_data;
     [
         2,
@@ -28,7 +51,7 @@ fn open_words(inbound: Inbound) -> [u64; 16]
         receive.start as u64,
         receive.capacity as u64,
         0,
-        message.kind as u64,
+        sort_word(shape, message.tagged),
         message.id as u64,
         message.tag,
         message.length as u64,

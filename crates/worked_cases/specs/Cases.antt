@@ -26,7 +26,7 @@ use Rattle.peer.specs.Calls.{someInTheWay, countPosted, countOlder, renumbered,
 use Rattle.peer.specs.Effects.{progressOf, grantOf, settledAs, accept, begun, truncatedAt, carry}
 use Rattle.peer.specs.Incomings.{incomingOf}
 use Rattle.peer.specs.Judging.{judgeMore, judgeAgain, judgeData, judgeFit, judgeNew, judgeFound, judge}
-use Rattle.peer.specs.Matching.{openHere, findOpen, sameOutside, fits, older, olderHere, oldest, vacancy, ahead, sameMessage}
+use Rattle.peer.specs.Matching.{openHere, findOpen, sameOutside, fits, older, olderHere, oldest, vacancy, ahead, sameMedium, sameMessage}
 use Rattle.peer.specs.State.{freshPeer, overlap, inTheWay, phaseFits, clash, allFit, noneClash, pairsApart, peerFits}
 use Rattle.engine.specs.SetUp.{setUp, numbersFit, lentFits, allPeersFit, engineFits}
 use Rattle.engine.specs.Steps.{World, putBack, peerTurn, callTurn}
@@ -153,7 +153,7 @@ abbrev yieldOf : Seen → Yield
 yieldOf s = record { answer = s .says; reply = s .reply; bytes = s .bytes }
 
 unfoldable pub run : List Act → Case
-unfolding pick part storeAt leBytes leOf leAt ctsBytes hasFlag flagsFit rawAddressBit cqDataBit connidBit flagsOf layout fieldBytes numberAt fieldsIn lengthsFit rawAddressBytes cqDataBytes connidBytes connidOrZero multiuseBytes cqDataIn connidIn headerIn packetIn readLengths readSections readFlags readTyped readOf rawSpan afterRaw cqDataLength connidLength connidAt sectionsFrom extentOf rowIn rowOf admit baseBytes mandatoryBytes packetBytes bit bitAt setBit clearBit marked cleared touched countSet firstClear someInTheWay countPosted countOlder renumbered placed placedIn postEffect readEffect packetEffect cancelAt cancelEffect reportAt reportEffect peerStep progressOf grantOf settledAs accept begun truncatedAt carry incomingOf judgeMore judgeAgain judgeData judgeFit judgeNew judgeFound judge openHere findOpen sameOutside fits older olderHere oldest vacancy ahead sameMessage freshPeer overlap inTheWay phaseFits clash allFit noneClash pairsApart peerFits numbersFit lentFits allPeersFit engineFits putBack peerTurn callTurn setUp freshWorld turnOf worldAfter observe callsOf
+unfolding pick part storeAt leBytes leOf leAt ctsBytes hasFlag flagsFit rawAddressBit cqDataBit connidBit flagsOf layout fieldBytes numberAt fieldsIn lengthsFit rawAddressBytes cqDataBytes connidBytes connidOrZero multiuseBytes cqDataIn connidIn headerIn packetIn readLengths readSections readFlags readTyped readOf rawSpan afterRaw cqDataLength connidLength connidAt sectionsFrom extentOf rowIn rowOf admit baseBytes mandatoryBytes packetBytes bit bitAt setBit clearBit marked cleared touched countSet firstClear someInTheWay countPosted countOlder renumbered placed placedIn postEffect readEffect packetEffect cancelAt cancelEffect reportAt reportEffect peerStep progressOf grantOf settledAs accept begun truncatedAt carry incomingOf judgeMore judgeAgain judgeData judgeFit judgeNew judgeFound judge openHere findOpen sameOutside fits older olderHere oldest vacancy ahead sameMedium sameMessage freshPeer overlap inTheWay phaseFits clash allFit noneClash pairsApart peerFits numbersFit lentFits allPeersFit engineFits putBack peerTurn callTurn setUp freshWorld turnOf worldAfter observe callsOf
 run calls =
     let start : World = freshWorld 2 256 96 (replicate 512 7) (replicate 8 1) in
     let all : List Request = map asPeer calls in

@@ -4,7 +4,7 @@
 use reference::bits;
 use reference::engine::{Answer, Engine, Message, Receive, Slot, CTS_LENGTH};
 use reference::packed::{self, Call as Packed};
-use reference::packet::Packet;
+use reference::packet::{Packet, Shape, TABLE};
 
 use crate::packets;
 use crate::random::Random;
@@ -258,7 +258,7 @@ impl<'a> Guide<'a> {
 
     /// A packet of an open message: a segment of its own, or one of another message.
     fn more(&mut self, index: usize, receive: Receive, message: Message) -> Vec<u8> {
-        let long = matches!(message.kind, 68 | 69);
+        let long = message.shape == Shape::Long;
         let end = if long {
             message.granted
         } else {
@@ -279,7 +279,7 @@ impl<'a> Guide<'a> {
             _ => (self.random.below(end.saturating_sub(size) + 1), size),
         };
         let mut packet = Packet {
-            kind: if long { 4 } else { message.kind },
+            kind: if long { 4 } else { segment_kind(&message) },
             msg_id: message.id,
             recv_id: message.id,
             tag: message.tag,
@@ -312,4 +312,12 @@ impl<'a> Guide<'a> {
 /// A few tags, so that receives and messages meet.
 pub fn tag(random: &mut Random) -> u64 {
     random.pick(&[0, 0x10, 0x1A, 0x2A, u64::MAX])
+}
+
+/// The type of which a further segment of this message is, or any if no type begins such a message.
+fn segment_kind(message: &Message) -> u8 {
+    TABLE
+        .iter()
+        .find(|row| (row.shape, row.tagged) == (message.shape, message.tagged))
+        .map_or(66, |row| row.kind)
 }

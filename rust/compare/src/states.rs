@@ -2,6 +2,7 @@
 
 use reference::engine::{Engine, Message, Peer, Receive, Slot, SLOTS};
 use reference::packed::{self, PEER_WORDS, SLOT_WORDS, STATE_WORDS};
+use reference::packet::Shape;
 
 use crate::calls::tag;
 use crate::random::Random;
@@ -62,7 +63,16 @@ fn any_slot(random: &mut Random, area: u64, number: u64, next: u32) -> Slot {
     }
     let length = random.pick(&[capacity, capacity / 2, capacity.min(3)]);
     let message = Message {
-        kind: random.pick(&[66, 67, 68, 69, 66, 67, 68, 69, 64, 65, 3, 0, 255]),
+        shape: random.pick(&[
+            Shape::Medium,
+            Shape::Long,
+            Shape::Medium,
+            Shape::Long,
+            Shape::Eager,
+            Shape::CtsData,
+            Shape::Cts,
+        ]),
+        tagged: random.chance(50),
         id: next.wrapping_sub(number as u32 + 1 - random.below(2) as u32),
         tag: tag(random),
         length,

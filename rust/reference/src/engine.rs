@@ -77,11 +77,12 @@ pub struct Receive {
     pub capacity: u64,
 }
 
-/// A message of which segments are still to come. `kind` is its RTM's packet type; a field that
-/// this type doesn't have is zero.
+/// A message of which segments are still to come. Shape and tagged are those of its RTM's type; a
+/// field that this type doesn't have is zero.
 #[derive(Clone, Copy, PartialEq, Eq, Debug)]
 pub struct Message {
-    pub kind: u8,
+    pub shape: Shape,
+    pub tagged: bool,
     pub id: u32,
     pub tag: u64,
     pub length: u64,
@@ -484,7 +485,7 @@ impl Peer {
     ) -> Result<Step, u8> {
         // A plain packet's tag is read as 0, and so is that of every plain message of a run.
         let belongs = row.shape == Shape::Medium
-            && packet.kind == message.kind
+            && (message.shape, message.tagged) == (row.shape, row.tagged)
             && packet.msg_length == message.length
             && packet.tag == message.tag;
         if !belongs {
@@ -601,14 +602,15 @@ impl Receive {
 
 impl Message {
     fn is_long(&self) -> bool {
-        matches!(self.kind, packet::LONGCTS_MSGRTM | packet::LONGCTS_TAGRTM)
+        self.shape == Shape::Long
     }
 
     /// The message that an RTM begins, with the RTM's own data granted.
     fn begun_by(row: &Row, packet: &Packet) -> Message {
         let data = packet.data.len() as u64;
         Message {
-            kind: packet.kind,
+            shape: row.shape,
+            tagged: row.tagged,
             id: packet.msg_id,
             tag: packet.tag,
             length: match row.shape {

@@ -98,8 +98,10 @@ fn read_receive(words: &[u64]) -> Option<Receive> {
 }
 
 fn read_message(words: &[u64]) -> Option<Message> {
+    let (shape, tagged) = read_sort(words[0])?;
     Some(Message {
-        kind: u8::try_from(words[0]).ok()?,
+        shape,
+        tagged,
         id: u32::try_from(words[1]).ok()?,
         tag: words[2],
         length: words[3],
@@ -112,6 +114,26 @@ fn read_message(words: &[u64]) -> Option<Message> {
             (false, _) => return None,
         },
     })
+}
+
+/// The shapes in the order of their numbers in a state's words.
+const SHAPES: [Shape; 5] = [
+    Shape::Cts,
+    Shape::CtsData,
+    Shape::Eager,
+    Shape::Medium,
+    Shape::Long,
+];
+
+/// Shape and tagged from one word: twice the shape's number, and one more if tagged.
+fn read_sort(word: u64) -> Option<(Shape, bool)> {
+    let number = usize::try_from(word / 2).ok()?;
+    Some((*SHAPES.get(number)?, word % 2 == 1))
+}
+
+fn sort_word(message: &Message) -> u64 {
+    let number = SHAPES.iter().position(|shape| *shape == message.shape);
+    2 * number.unwrap_or_default() as u64 + u64::from(message.tagged)
 }
 
 fn read_flag(word: u64) -> Option<bool> {
@@ -154,7 +176,7 @@ fn slot_words(slot: &Slot) -> [u64; SLOT_WORDS] {
             words[0] = OPEN;
             words[1..6].copy_from_slice(&receive_words(receive));
             words[7..].copy_from_slice(&[
-                u64::from(message.kind),
+                sort_word(message),
                 u64::from(message.id),
                 message.tag,
                 message.length,

@@ -5,24 +5,20 @@ use Rattle.peer.specs.Matching.{sameMessage}
 use Rattle.receiving.proofs.matching.goes_on.Statement.{statement}
 use Rattle.receiving.proofs.matching.goes_on.Tie as tie
 
-is-medium-requires : tie.Need-is-medium-requires
-is-medium-requires c κs = search needs
+same-medium-requires : tie.Need-same-medium-requires
+same-medium-requires c κs = search needs
 
 returns : tie.Need-returns
 unfolding sameMessage
-returns c = rw (← c .before .is-medium .ensures, not-true (c .before .is-medium .result) (c .if1 .taken))
+returns c = rw (← c .before .same-medium .ensures, not-true (c .before .same-medium .result) (c .if1 .taken))
 
 returns-2 : tie.Need-returns-2
 unfolding sameMessage
-returns-2 c = rw (← c .before .before .before .before .is-medium .ensures, not-false (c .before .before .before .before .is-medium .result) (c .before .before .before .if1 .left), ne-eqb _ _ (c .if2 .taken))
+returns-2 c = rw (← c .before .before .before .before .same-medium .ensures, not-false (c .before .before .before .before .same-medium .result) (c .before .before .before .if1 .left), ne-eqb _ _ (c .if2 .taken))
 
 returns-3 : tie.Need-returns-3
 unfolding sameMessage
-returns-3 c = rw (← c .before .before .before .before .before .before .before .is-medium .ensures, not-false (c .before .before .before .before .before .before .before .is-medium .result) (c .before .before .before .before .before .before .if1 .left), eq-eqb _ _ (c .before .before .before .if2 .left), ne-eqb _ _ (c .if3 .taken))
-
-returns-4 : tie.Need-returns-4
-unfolding sameMessage
-returns-4 c = rw (← c .before .before .before .before .before .before .before .before .before .is-medium .ensures, not-false (c .before .before .before .before .before .before .before .before .before .is-medium .result) (c .before .before .before .before .before .before .before .before .if1 .left), eq-eqb _ _ (c .before .before .before .before .before .if2 .left), eq-eqb _ _ (c .before .before .if3 .left))
+returns-3 c = rw (← c .before .before .before .before .before .before .same-medium .ensures, not-false (c .before .before .before .before .before .before .same-medium .result) (c .before .before .before .before .before .if1 .left), eq-eqb _ _ (c .before .before .if2 .left))
 
 pub goes-on-spec : {M : Type 1} → statement M
-goes-on-spec = tie.close (tie.spec is-medium-requires returns returns-2 returns-3 returns-4)
+goes-on-spec = tie.close (tie.spec same-medium-requires returns returns-2 returns-3)
