@@ -17,7 +17,7 @@ use Rattle.peer.specs.CannotBe.{CannotBeIfAClauseIsBroken}
 use Rattle.protocol.specs.Checks.{Result, gives, refused}
 use Rattle.peer.specs.Checks.{checksOf}
 use Rattle.peer.specs.Claims.{AreBytes}
-use Rattle.peer.specs.Numbers.{Saying, said, say}
+use Rattle.peer.specs.Says.{Saying, said, say}
 use Rattle.peer.specs.State.{freshPeer, peerFits}
 use Rattle.peer.specs.declared.types.Peer.{Peer}
 use Rattle.engine.specs.Checks.{Fails, WithIds, Outside, SetUpFails, SetUpIsChecked, TurnsAreChecked, WordsAreTheAreasBits, WrongLengths, cannotBe, checksAt, highLimit, longArea, lowLimit, manyPeers, noPeer, numberOf, own, readySays, shortArea, unevenArea}
@@ -211,9 +211,9 @@ module _ (w : World) (p : ℕ) (c : Call) (held : WithIds (w .engine)) (b : AreB
 
   -- "2, 3, 4, ..": by its tests, whether the state can be, the lent lengths are right, and the peer is below n
   abbrev turnSays : Bool → Bool → Bool → Saying
-  turnSays false lent below = say Rattle.peer.specs.Numbers.refused (2 ∷ [])
-  turnSays true false below = say Rattle.peer.specs.Numbers.refused (3 ∷ [])
-  turnSays true true false = say Rattle.peer.specs.Numbers.refused (4 ∷ [])
+  turnSays false lent below = say Rattle.peer.specs.Says.refused (2 ∷ [])
+  turnSays true false below = say Rattle.peer.specs.Says.refused (3 ∷ [])
+  turnSays true true false = say Rattle.peer.specs.Says.refused (4 ∷ [])
   turnSays true true true = said (peerStep area limit (peerAt (w .engine) p) (wordsOf w p) c .answer)
 
   turn-says : (fits lent below : Bool) → engineFits (w .engine) ≡ fits → lentFits n area (length (w .arena)) (length (w .map)) ≡ lent → ltb p n ≡ below

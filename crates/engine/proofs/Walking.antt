@@ -10,10 +10,11 @@ use mathlib.Core.Path.{_≡_, refl, sym, ap, _∙_}
 use native.Mathlib.Nat.{mul-le-mul}
 use native.Mathlib.Numerals.{add-one}
 use native.Mathlib.Omega.{arith}
+use Rattle.protocol.specs.Refusals.{badLent, badPeer, badState}
 use Rattle.engine.specs.Gates.{Small, gateOf, throughGate}
 use Rattle.lending.specs.Lending.{Owned}
 use Rattle.engine.specs.SetUp.{allPeersFit, engineFits, lentFits, numbersFit, peerCount}
-use Rattle.engine.specs.Steps.{World, badLent, badPeer, badState, callTurn, peerTurn, refusedTurn}
+use Rattle.engine.specs.Steps.{World, callTurn, peerTurn, refusedTurn}
 use Rattle.engine.specs.declared.types.Engine.{Engine}
 use Rattle.engine.specs.declared.types.Gate.{Gate}
 use Rattle.laws.specs.Choose.{pick}

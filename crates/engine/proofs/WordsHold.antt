@@ -9,10 +9,11 @@ use mathlib.Core.Path.{_≡_, refl, sym, ap, _∙_, subst}
 use native.Mathlib.Nat.{zero-div}
 use native.Mathlib.Omega.{arith}
 use Rattle.bitmap.specs.Map.{bit, bitAt}
+use Rattle.protocol.specs.Refusals.{badLent, badPeer, badState}
 use Rattle.engine.specs.Checks.{WordsAreTheAreasBits}
 use Rattle.engine.specs.InWords.{ClearMap, Eights, FreshEngine, OthersKept, SameFor, SameSetUp, SetUpKept, SetUpStartsFresh}
 use Rattle.engine.specs.SetUp.{Prepared, engineFits, engineOf, lentFits, notStarted, numbersFit, peerAt, peerCount, setUp}
-use Rattle.engine.specs.Steps.{Turn, World, badLent, badPeer, badState, callTurn, peerTurn, putBack, refusedTurn, wordsOf}
+use Rattle.engine.specs.Steps.{Turn, World, callTurn, peerTurn, putBack, refusedTurn, wordsOf}
 use Rattle.engine.specs.declared.types.Ready.{Ready}
 use Rattle.peer.specs.Calls.{Call}
 use Rattle.peer.specs.State.{freeSlot, freshPeer, phaseAt, slotCount}

@@ -11,8 +11,9 @@ use mathlib.Core.Path.{_≡_, refl, sym, ap, ap₂, _∙_, subst}
 use native.Mathlib.Decide.{decLt, ℕ-discrete}
 use native.Mathlib.Nat.{mul-le-mul-right, suc-mul}
 use native.Mathlib.Omega.{arith}
+use Rattle.protocol.specs.Refusals.{badPeer}
 use Rattle.engine.specs.SetUp.{allPeersFit, engineFits, lentFits, numbersFit, peerAt, peerCount}
-use Rattle.engine.specs.Steps.{Turn, World, badPeer, callTurn, peerTurn, putBack, refusedTurn, withPeer, wordsOf}
+use Rattle.engine.specs.Steps.{Turn, World, callTurn, peerTurn, putBack, refusedTurn, withPeer, wordsOf}
 use Rattle.laws.specs.Parts.{part, storeAt}
 use Rattle.peer.specs.Calls.{Call, peerStep}
 use Rattle.peer.specs.Effects.{Effect}

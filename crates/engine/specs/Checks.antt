@@ -12,7 +12,7 @@ use Rattle.peer.specs.CannotBe.{Breaks, Clause}
 use Rattle.peer.specs.Checks.{checksOf}
 use Rattle.peer.specs.Claims.{AreBytes}
 use Rattle.peer.specs.Firsts.{RefusedByFirst}
-use Rattle.peer.specs.Numbers.{said}
+use Rattle.peer.specs.Says.{said}
 use Rattle.peer.specs.View.{viewOf}
 use Rattle.engine.specs.InWords.{Eights}
 use Rattle.engine.specs.SetUp.{peerAt, setUp}

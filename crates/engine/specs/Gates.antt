@@ -3,10 +3,11 @@ use Prim.Native.Nat.{ℕ, _≤_}
 use mathlib.Core.Bool.{Bool}
 use lib.Dec.{ltb}
 use Rattle.laws.specs.Choose.{pick}
+use Rattle.protocol.specs.Refusals.{badLent, badPeer, badState}
 use Rattle.peer.specs.Calls.{Call}
 use Rattle.engine.specs.declared.types.Gate.{Gate}
 use Rattle.engine.specs.SetUp.{lentFits, peerCount}
-use Rattle.engine.specs.Steps.{World, Turn, badState, badLent, badPeer, refusedTurn, peerTurn}
+use Rattle.engine.specs.Steps.{World, Turn, refusedTurn, peerTurn}
 
 -- the number of peers and an area are within the set-up's limits, so that their product is small
 pub record Small (n area : ℕ) : Type 0 where

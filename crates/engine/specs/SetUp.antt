@@ -6,7 +6,7 @@ use lib.ListN.{length, getD, take, replicate}
 use lib.Dec.{leb, eqb}
 use Rattle.laws.specs.Choose.{pick}
 use Rattle.protocol.specs.declared.types.Refusal.{Refusal}
-use Rattle.protocol.specs.Refusals.{refusal}
+use Rattle.protocol.specs.Refusals.{badSetUp}
 use Rattle.peer.specs.declared.types.Peer.{Peer}
 use Rattle.peer.specs.State.{freshPeer, peerFits}
 use Rattle.engine.specs.declared.types.Engine.{Engine}
@@ -29,10 +29,6 @@ abbrev pub engineOf : ℕ → ℕ → ℕ → Engine
 engineOf n area limit = record { peers = replicate peerCount freshPeer; n = n; area = area; limit = limit }
 
 -- ---- the call
-
--- "set-up numbers or lent lengths are wrong; map untouched"
-abbrev pub badSetUp : Refusal
-badSetUp = refusal 1
 
 -- what set-up leaves: its result, and the map
 pub record Prepared : Type 0 where

@@ -6,7 +6,7 @@ use lib.Dec.{ltb}
 use Rattle.laws.specs.Choose.{pick}
 use Rattle.laws.specs.Parts.{part, storeAt}
 use Rattle.protocol.specs.declared.types.Refusal.{Refusal}
-use Rattle.protocol.specs.Refusals.{refusal}
+use Rattle.protocol.specs.Refusals.{badLent, badPeer, badState}
 use Rattle.peer.specs.declared.types.Peer.{Peer}
 use Rattle.peer.specs.declared.types.Answer.{Answer}
 use Rattle.peer.specs.Calls.{Call, peerStep}
@@ -25,18 +25,6 @@ pub record Turn : Type 0 where
   pub world : World
   pub answer : Answer
   pub reply : List ℕ
-
--- "a state that can't be"
-abbrev pub badState : Refusal
-badState = refusal 2
-
--- "arena or map has the wrong length"
-abbrev pub badLent : Refusal
-badLent = refusal 3
-
--- "peer not below n"
-abbrev pub badPeer : Refusal
-badPeer = refusal 4
 
 -- "Each refusal returns its number alone and changes nothing lent"
 abbrev pub refusedTurn : World → Refusal → Turn

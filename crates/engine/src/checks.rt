@@ -1,17 +1,13 @@
 // The checks on numbers and lengths. Those that look at peers stand in the calls, where the engine is.
 use crate::types::Engine;
 use crate::types::Gate;
-use protocol::Refusal;
+use protocol::BAD_LENT;
+use protocol::BAD_PEER;
+use protocol::BAD_STATE;
 ghost use mathlib.Core.Path.{_≡_};
 ghost use mathlib.Core.Bool.{true};
 ghost use Rattle.engine.specs.Gates.{Small, gateOf};
 ghost use Rattle.engine.specs.SetUp.{numbersFit, lentFits};
-
-const BAD_STATE: Refusal = Refusal { number: 2 };
-
-const BAD_LENT: Refusal = Refusal { number: 3 };
-
-const BAD_PEER: Refusal = Refusal { number: 4 };
 
 // The limits of the three set-up numbers.
 pub(crate) fn numbers_fit(n: usize, area: usize, limit: usize) -> bool

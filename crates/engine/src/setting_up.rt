@@ -4,14 +4,12 @@ use crate::types::Engine;
 use crate::types::Ready;
 use crate::types::Started;
 use peer::Peer;
-use protocol::Refusal;
+use protocol::BAD_SET_UP;
 ghost use mathlib.Core.Path.{_≡_};
 ghost use mathlib.Core.List.{List};
 ghost use Prim.Native.Nat.{ℕ};
 ghost use lib.ListN.{length};
 ghost use Rattle.engine.specs.SetUp.{engineOf, notStarted, setUp};
-
-const BAD_SET_UP: Refusal = Refusal { number: 1 };
 
 // An engine whose peers are fresh.
 fn fresh(n: usize, area: usize, limit: usize) -> Engine

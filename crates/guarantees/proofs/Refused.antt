@@ -10,9 +10,10 @@ use mathlib.Core.Logic.{_⊎_, inl, inr}
 use mathlib.Core.Path.{_≡_, refl, sym, ap, _∙_}
 use native.Mathlib.Decide.{decLt}
 use native.Mathlib.Omega.{arith}
+use Rattle.protocol.specs.Refusals.{badLent, badPeer, badState}
 use Rattle.engine.specs.Checks.{readySays}
 use Rattle.engine.specs.SetUp.{Prepared, engineFits, lentFits, notStarted, numbersFit, peerAt, setUp}
-use Rattle.engine.specs.Steps.{Turn, World, badLent, badPeer, badState, callTurn, peerTurn, putBack, refusedTurn, withPeer, wordsOf}
+use Rattle.engine.specs.Steps.{Turn, World, callTurn, peerTurn, putBack, refusedTurn, withPeer, wordsOf}
 use Rattle.engine.specs.declared.types.Engine.{Engine}
 use Rattle.guarantees.specs.Refusals.{NeverBadState, RefusedLeavesAll, RefusedSetUp, listFor}
 use Rattle.guarantees.specs.Runs.{Act, bufferOf, callOf, cancel, freshWorld, packet, post, report, turnOf, worldAfter}

@@ -6,8 +6,9 @@ use mathlib.Core.Bool.{true, false, false≢true}
 use mathlib.Core.List.{[]}
 use mathlib.Core.Path.{_≡_, refl, ap, _∙_, subst}
 use native.Mathlib.Omega.{arith}
+use Rattle.protocol.specs.Refusals.{badLent, badPeer, badState}
 use Rattle.engine.specs.SetUp.{engineFits, lentFits, peerAt}
-use Rattle.engine.specs.Steps.{Turn, World, badLent, badPeer, badState, callTurn, peerTurn, putBack, refusedTurn, wordsOf}
+use Rattle.engine.specs.Steps.{Turn, World, callTurn, peerTurn, putBack, refusedTurn, wordsOf}
 use Rattle.guarantees.specs.Replies.{ReplyUntouched, RestKept, RestUntouched}
 use Rattle.guarantees.specs.Runs.{Act, bufferOf, callOf, cancel, packet, post, report, turnOf}
 use Rattle.laws.specs.Parts.{storeAt}

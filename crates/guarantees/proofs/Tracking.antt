@@ -17,7 +17,7 @@ use Rattle.peer.specs.Claims.{WriteClaim}
 use Rattle.peer.specs.Coverage.{Segment, byteOf, bytesFrom, inside}
 use Rattle.peer.specs.Effects.{Effect}
 use Rattle.peer.specs.Expected.{expected, expectedBytes, expectedReply, targetOfCall}
-use Rattle.peer.specs.Numbers.{said}
+use Rattle.peer.specs.Says.{said}
 use Rattle.peer.specs.Origins.{Origin, OwnClaim, originOfCall}
 use Rattle.peer.specs.Plain.{Plain, Target, enter}
 use Rattle.peer.specs.Starts.{noteStart}

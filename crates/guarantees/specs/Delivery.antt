@@ -17,7 +17,7 @@ use Rattle.protocol.specs.declared.types.Read.{Read}
 use Rattle.peer.specs.Calls.{Call}
 use Rattle.peer.specs.Claims.{AllBytes, BytesClaim, CountsUp, Distinct, DoneClaim, GrantClaim, InOrder, TruncateClaim, idsOf, isDone, isMatch, receivesOf, takes}
 use Rattle.peer.specs.Expected.{expected, expectedBytes, expectedReply, targetOfCall}
-use Rattle.peer.specs.Numbers.{said}
+use Rattle.peer.specs.Says.{said}
 use Rattle.peer.specs.Origins.{Origin, OriginClaim, OwnClaim, ReplyClaim, noOrigins, noteOrigin, originOfCall}
 use Rattle.peer.specs.Plain.{Plain, enter, freshPlain}
 use Rattle.peer.specs.declared.types.Answer.{Answer}

@@ -8,7 +8,7 @@ use Rattle.laws.specs.Parts.{part, storeAt}
 use Rattle.peer.specs.declared.types.Receive.{Receive}
 use Rattle.peer.specs.declared.types.Answer.{Answer}
 use Rattle.peer.specs.Calls.{Call}
-use Rattle.peer.specs.Numbers.{Saying, said}
+use Rattle.peer.specs.Says.{Saying, said}
 use Rattle.peer.specs.Starts.{noteStart}
 use Rattle.peer.specs.State.{slotCount}
 use Rattle.engine.specs.Left.{world}

@@ -3,16 +3,13 @@ use peer::Answer;
 use peer::Inbound;
 use peer::Peer;
 use peer::Phase;
-use protocol::Refusal;
+use protocol::BAD_SLOT;
 ghost use mathlib.Core.Path.{_≡_};
 ghost use Prim.Native.Nat.{_*_};
 ghost use lib.ListN.{length};
 ghost use Rattle.receiving.specs.Asks.{Mapped, Mapping};
 ghost use Rattle.peer.specs.Calls.{missingIn, reportEffect};
 ghost use Rattle.peer.specs.Effects.{quiet};
-
-// The report's refusal, by 01's table.
-const BAD_SLOT: Refusal = Refusal { number: 20 };
 
 // How many bytes of the message are in, and the first that is not.
 fn missing(inbound: Inbound, words: &[u64]) -> Answer

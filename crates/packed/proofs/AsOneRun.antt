@@ -10,7 +10,8 @@ use Rattle.laws.specs.Parts.{part, storeAt}
 use Rattle.laws.proofs.Choosing.{pick-cases, pick-true}
 use Rattle.laws.proofs.Comparing.{eq-or-ne}
 use Rattle.laws.proofs.Storing.{part-middle, store-start}
-use Rattle.engine.specs.SetUp.{Prepared, badSetUp, engineOf, notStarted, setUp}
+use Rattle.protocol.specs.Refusals.{badSetUp}
+use Rattle.engine.specs.SetUp.{Prepared, engineOf, notStarted, setUp}
 use Rattle.engine.specs.Steps.{World}
 use Rattle.engine.specs.declared.types.Ready.{Ready}
 use Rattle.engine.proofs.Worlds.{Good}

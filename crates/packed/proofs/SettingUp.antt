@@ -5,8 +5,9 @@ use lib.ListN.{length}
 use mathlib.Core.List.{List}
 use mathlib.Core.Path.{_≡_, sym, ap, _∙_}
 use Rattle.laws.proofs.Choosing.{pick-false, pick-true}
+use Rattle.protocol.specs.Refusals.{badSetUp}
 use Rattle.protocol.specs.declared.types.Refusal.{Refusal}
-use Rattle.engine.specs.SetUp.{Prepared, badSetUp, setUp}
+use Rattle.engine.specs.SetUp.{Prepared, setUp}
 use Rattle.engine.specs.declared.types.Ready.{Ready}
 use Rattle.state_words.specs.Saving.{engineWords, stateSize}
 use Rattle.packed.specs.Starting.{startOf, startedAs}

@@ -4,8 +4,9 @@ use mathlib.Core.List.{List}
 use lib.ListN.{length}
 use lib.Dec.{eqb}
 use Rattle.laws.specs.Choose.{pick}
+use Rattle.protocol.specs.Refusals.{badSetUp}
 use Rattle.engine.specs.declared.types.Ready.{Ready}
-use Rattle.engine.specs.SetUp.{Prepared, badSetUp, setUp}
+use Rattle.engine.specs.SetUp.{Prepared, setUp}
 use Rattle.state_words.specs.Saving.{engineWords, stateSize}
 
 -- 0 or the refusal's number, and what is left of map and state

@@ -1,12 +1,10 @@
 // The checks 2, 3 and 4 of a call in a run, whose state is checked once.
 use engine::Gate;
-use protocol::Refusal;
+use protocol::BAD_STATE;
 ghost use mathlib.Core.Path.{_≡_};
 ghost use mathlib.Core.Bool.{_&&_};
 ghost use Rattle.engine.specs.Gates.{gateOf};
 ghost use Rattle.engine.specs.SetUp.{numbersFit};
-
-const BAD_STATE: Refusal = Refusal { number: 2 };
 
 // Whether a call of a peer goes through, by what the check of the state said.
 pub(crate) fn admit(

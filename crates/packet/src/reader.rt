@@ -3,17 +3,17 @@ use crate::flags;
 use crate::flags::RAW_ADDRESS;
 use crate::layout;
 use crate::lengths;
-use crate::limits::ABOVE_LIMIT;
-use crate::limits::BAD_FLAGS;
-use crate::limits::BAD_LENGTH;
-use crate::limits::BAD_TYPE;
-use crate::limits::BAD_VERSION;
-use crate::limits::CUT_SHORT;
 use crate::limits::LIMIT;
 use crate::limits::VERSION;
 use crate::options;
 use crate::sections;
 use crate::table;
+use protocol::ABOVE_LIMIT;
+use protocol::BAD_FLAGS;
+use protocol::BAD_LENGTH;
+use protocol::BAD_TYPE;
+use protocol::BAD_VERSION;
+use protocol::CUT_SHORT;
 use protocol::Extent;
 use protocol::Found;
 use protocol::Header;
@@ -28,13 +28,12 @@ ghost use mathlib.Core.Bool.{true, false};
 ghost use Prim.Native.Nat.{_≤_};
 ghost use lib.ListN.{length};
 ghost use Rattle.protocol.specs.Reading.{headerIn, packetIn, readLengths, readFlags, readOf};
-ghost use Rattle.protocol.specs.Refusals.{refusal};
 ghost use Rattle.protocol.specs.Rules.{Sound, Inside};
 
-fn refused(number: u8) -> Read
-    ensures { λ r. ⌜ r ≡ Read.Refused (refusal number) ⌝ }
+fn refused(refusal: Refusal) -> Read
+    ensures { λ r. ⌜ r ≡ Read.Refused refusal ⌝ }
 {
-    Read::Refused(Refusal { number })
+    Read::Refused(refusal)
 }
 
 // The numbers of a packet whose sections are known.

@@ -2,19 +2,19 @@
 use crate::flags;
 use crate::layout;
 use crate::lengths;
-use crate::limits::ABOVE_LIMIT;
-use crate::limits::BAD_FLAGS;
-use crate::limits::BAD_LENGTH;
-use crate::limits::BAD_TYPE;
 use crate::limits::LIMIT;
-use crate::limits::NO_ROOM;
 use crate::limits::VERSION;
 use crate::options;
 use crate::sections;
 use crate::table;
+use protocol::ABOVE_LIMIT;
+use protocol::BAD_FLAGS;
+use protocol::BAD_LENGTH;
+use protocol::BAD_TYPE;
 use protocol::Found;
 use protocol::Header;
 use protocol::Length;
+use protocol::NO_ROOM;
 use protocol::Refusal;
 use protocol::TypeRow;
 use protocol::Written;
@@ -24,14 +24,13 @@ ghost use lib.ListN.{length};
 ghost use Rattle.laws.specs.Parts.{storeAt};
 ghost use Rattle.protocol.specs.Flags.{flagsOf};
 ghost use Rattle.protocol.specs.Writing.{baseBytes, mandatoryBytes, packetBytes, writeAs, writeOf};
-ghost use Rattle.protocol.specs.Refusals.{refusal};
 ghost use Rattle.protocol.specs.Totals.{headLength, limitedTo, totalOf};
 ghost use Rattle.protocol.specs.Rules.{Sound};
 
-fn refused(number: u8) -> Written
-    ensures { λ r. ⌜ r ≡ Written.Refused (refusal number) ⌝ }
+fn refused(refusal: Refusal) -> Written
+    ensures { λ r. ⌜ r ≡ Written.Refused refusal ⌝ }
 {
-    Written::Refused(Refusal { number })
+    Written::Refused(refusal)
 }
 
 // The bytes of the headers without the raw address.

@@ -14,6 +14,7 @@ use Rattle.bitmap.specs.Offsets.{someOf}
 use Rattle.laws.specs.Choose.{pick}
 use Rattle.protocol.specs.InWords.{ReadIfNoneFails, RefusedByFirstToFail, readerChecks, wrongLengths}
 use Rattle.protocol.specs.Reading.{readOf}
+use Rattle.protocol.specs.Refusals.{badSlot, beyondGrant, differs, early, late, noReceive, repeated}
 use Rattle.protocol.specs.Says.{readSays}
 use Rattle.protocol.specs.Values.{valuesIn}
 use Rattle.protocol.specs.Values.{bytesAt}
@@ -29,7 +30,7 @@ use Rattle.peer.specs.Incomings.{incomingOf, isLong, isRtm}
 use Rattle.peer.specs.InWords.{RtmIs64To69}
 use Rattle.peer.specs.Judging.{judge, judgeAgain, judgeData, judgeFit, judgeFound, judgeMore, judgeNew}
 use Rattle.peer.specs.Matching.{ahead, findOpen, oldest, sameMessage, vacancy}
-use Rattle.peer.specs.Numbers.{badSlot, beyondGrant, differs, early, late, noReceive, refused, repeated, said, say}
+use Rattle.peer.specs.Says.{refused, said, say}
 use Rattle.peer.specs.PacketBytes.{Rtm, idIn, typeIn}
 use Rattle.peer.specs.Plain.{Entry, Role, entryAt, idle, openIn, receiving, roles}
 use Rattle.peer.specs.State.{peerFits, phaseAt}

@@ -12,6 +12,7 @@ use Rattle.bitmap.specs.Map.{cleared, countSet, firstClear, marked}
 use Rattle.bitmap.specs.Offsets.{firstNot}
 use Rattle.laws.specs.Choose.{pick}
 use Rattle.protocol.specs.Reading.{readOf}
+use Rattle.protocol.specs.Refusals.{beyondGrant}
 use Rattle.protocol.specs.Values.{bytesAt}
 use Rattle.protocol.specs.declared.types.Read.{Read}
 use Rattle.peer.specs.Calls.{Call, cancel, cancelAt, cancelEffect, packet, packetEffect, peerStep, placedIn, post, postEffect, readEffect, report, reportAt, reportEffect}
@@ -22,7 +23,6 @@ use Rattle.peer.specs.Formed.{Formed}
 use Rattle.peer.specs.Incomings.{incomingOf, isLong, isRtm}
 use Rattle.peer.specs.Judging.{judge, judgeAgain, judgeData, judgeFit, judgeFound, judgeMore, judgeNew}
 use Rattle.peer.specs.Matching.{ahead, findOpen, oldest, vacancy}
-use Rattle.peer.specs.Numbers.{beyondGrant}
 use Rattle.peer.specs.Plain.{Plain, entryAt, openIn, roles, segmentOf}
 use Rattle.peer.specs.State.{phaseAt, phaseFits}
 use Rattle.peer.specs.View.{roleOf, rolesOf}

@@ -6,7 +6,7 @@ use mathlib.Core.Logic.{_⊎_, inl, inr, ⊎-elim}
 use mathlib.Core.Path.{_≡_, refl, sym, ap, _∙_, subst}
 use native.Mathlib.Omega.{arith}
 use Rattle.peer.specs.Firsts.{FirstToFail, NoneFails, RefusedByFirst}
-use Rattle.peer.specs.Numbers.{Saying, refused, say}
+use Rattle.peer.specs.Says.{Saying, refused, say}
 
 module _ {C : Type 0} (fails : C → Type 0) (number : C → ℕ) where
   -- check by check: one fails and its number is said, or it does not and the rest is gone through; at the end nothing is refused

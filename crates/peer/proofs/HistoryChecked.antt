@@ -11,6 +11,7 @@ use native.Mathlib.Omega.{arith}
 use Rattle.laws.specs.Choose.{pick}
 use Rattle.protocol.specs.InWords.{readerChecks}
 use Rattle.protocol.specs.Reading.{readOf}
+use Rattle.protocol.specs.Refusals.{badSlot, beyondGrant, differs, early, late, noReceive, repeated}
 use Rattle.protocol.specs.Values.{bytesAt}
 use Rattle.protocol.specs.declared.types.Packet.{Packet}
 use Rattle.protocol.specs.declared.types.Read.{Read}
@@ -22,7 +23,7 @@ use Rattle.peer.specs.Effects.{grantOf, opened}
 use Rattle.peer.specs.Expected.{anyOverlap, expectAgain, expectCancel, expectData, expectFit, expectFound, expectMore, expectNew, expectPost, expectRead, expectReport, expectTaken, expected, lowestIdle}
 use Rattle.peer.specs.Incomings.{incomingOf}
 use Rattle.peer.specs.Matching.{ahead}
-use Rattle.peer.specs.Numbers.{badSlot, beyondGrant, differs, early, late, noReceive, repeated, said}
+use Rattle.peer.specs.Says.{said}
 use Rattle.peer.specs.PacketBytes.{Rtm, idIn, typeIn}
 use Rattle.peer.specs.Plain.{Plain, Role, Target, enter, enterPost, entryAt, firstPosted, freshPlain, idle, nextAfter, openIn, receiving, roles, segmentOf, waiting}
 use Rattle.peer.specs.State.{freeSlot, freshPeer, phaseAt, slotCount}

@@ -8,6 +8,7 @@ use mathlib.Core.Path.{_≡_, refl, ap}
 use native.Mathlib.Omega.{arith}
 use Rattle.bitmap.specs.Offsets.{someOf}
 use Rattle.protocol.specs.Reading.{readOf}
+use Rattle.protocol.specs.Refusals.{badLength, badSlot, beyondGrant, differs, early, late, overlaps, repeated, shortReply}
 use Rattle.protocol.specs.Values.{bytesAt}
 use Rattle.protocol.specs.declared.types.CqData.{CqData}
 use Rattle.protocol.specs.declared.types.Packet.{Packet}
@@ -19,7 +20,6 @@ use Rattle.peer.specs.Effects.{grantOf, opened}
 use Rattle.peer.specs.Expected.{anyOverlap, expectAgain, expectCancel, expectData, expectFit, expectFound, expectMore, expectNew, expectPlace, expectPost, expectRead, expectReport, expectTaken, expected, lowestIdle, targetOfCall, targetOfRead}
 use Rattle.peer.specs.Incomings.{incomingOf, isLong, isRtm}
 use Rattle.peer.specs.Matching.{ahead, sameMessage}
-use Rattle.peer.specs.Numbers.{badSlot, beyondGrant, differs, early, late, outsideArea, overlaps, repeated, shortReply}
 use Rattle.peer.specs.Plain.{Plain, Role, Target, begunEntry, entryAt, firstPosted, grown, idle, matchTarget, nowhere, openIn, receiving, roles, segmentOf, targetIn, targetOf, waiting}
 use Rattle.peer.specs.State.{slotCount}
 use Rattle.peer.specs.declared.types.Answer.{Answer}
@@ -222,7 +222,7 @@ module _ (limit : ℕ) (l : Plain) (c : Call) (b : Brings limit c) where
 pub outcome : (area limit : ℕ) (l : Plain) (c : Call) → Outcome limit l c (targetOfCall limit l c) (expected area limit l c)
 unfolding targetOfCall expected expectPost expectRead targetOf O segment
 outcome area limit l (post r) =
-    branch P (ltb area (r .start + r .capacity)) (Answer.Refused outsideArea) _ (λ x. tt) (λ x.
+    branch P (ltb area (r .start + r .capacity)) (Answer.Refused badLength) _ (λ x. tt) (λ x.
     branch P (anyOverlap r (roles (l .entries))) (Answer.Refused overlaps) _ (λ y. tt) (λ y. go (lowestIdle 0 (roles (l .entries)))))
   where
     P : Answer → Type 0

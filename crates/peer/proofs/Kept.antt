@@ -9,6 +9,7 @@ use mathlib.Core.Path.{_≡_, refl, sym, ap, ap₂, _∙_}
 use native.Mathlib.Omega.{arith}
 use Rattle.bitmap.specs.Map.{cleared, marked}
 use Rattle.protocol.specs.Reading.{readOf}
+use Rattle.protocol.specs.Refusals.{badSlot, noSlot}
 use Rattle.protocol.specs.Values.{bytesAt}
 use Rattle.protocol.specs.declared.types.Packet.{Packet}
 use Rattle.protocol.specs.declared.types.Read.{Read}
@@ -18,7 +19,6 @@ use Rattle.peer.specs.Formed.{Formed}
 use Rattle.peer.specs.Incomings.{incomingOf}
 use Rattle.peer.specs.Judging.{judge}
 use Rattle.peer.specs.Matching.{vacancy}
-use Rattle.peer.specs.Numbers.{badSlot, noSlot}
 use Rattle.peer.specs.State.{clash, inTheWay, overlap, phaseAt, phaseFits, slotCount, slotWith}
 use Rattle.peer.specs.declared.types.Answer.{Answer}
 use Rattle.peer.specs.declared.types.Answer.the-variants.{Cancelled, Refused, Truncated}

@@ -10,6 +10,7 @@ use native.Mathlib.Omega.{arith}
 use Rattle.bitmap.specs.Map.{cleared, marked}
 use Rattle.protocol.specs.InWords.{headIn}
 use Rattle.protocol.specs.Reading.{readOf}
+use Rattle.protocol.specs.Refusals.{badLength, badSlot, noSlot, overlaps, shortReply}
 use Rattle.protocol.specs.Values.{bytesAt}
 use Rattle.protocol.specs.declared.types.Packet.{Packet}
 use Rattle.protocol.specs.declared.types.Read.{Read}
@@ -21,7 +22,6 @@ use Rattle.peer.specs.Incomings.{incomingOf}
 use Rattle.peer.specs.Judging.{judge}
 use Rattle.peer.specs.Matching.{vacancy}
 use Rattle.peer.specs.Moves.{Beginning, GoingOn, Moved, MovesAreAsSaid}
-use Rattle.peer.specs.Numbers.{badSlot, noSlot, outsideArea, overlaps, shortReply}
 use Rattle.peer.specs.PacketBytes.{offsetIn}
 use Rattle.peer.specs.State.{phaseAt, slotCount}
 use Rattle.peer.specs.View.{roleOf}
@@ -252,7 +252,7 @@ module _ (limit : ℕ) (p : Peer) (ws : List ℕ) (eight : length (p .slots) ≡
 pub moves-are-as-said : MovesAreAsSaid
 unfolding MovesAreAsSaid peerStep postEffect packetEffect readEffect cancelEffect reportEffect
 moves-are-as-said area limit p ws (post r) fit eight words =
-    branch P _ _ _ (λ x. refused-moves limit p ws (post r) outsideArea) (λ x.
+    branch P _ _ _ (λ x. refused-moves limit p ws (post r) badLength) (λ x.
     branch P _ _ _ (λ y. refused-moves limit p ws (post r) overlaps) (λ y. post-moves limit p ws eight r (vacancy 0 (p .slots)) refl))
   where
     P : Effect → Type 0

@@ -13,7 +13,7 @@ use Rattle.peer.specs.Checks.{Ahead, Check, Differs, Fails, FitsIn, Long
 use Rattle.peer.specs.InWords.{AheadIsTheDistance, LongIs68And69, OtherMessageDiffers, PlainFitsPlain, SameMessageIsAllEqual, SomeOfIsSomeOffset, TaggedFitsOutsideIgnore}
 use Rattle.peer.specs.Incomings.{isLong}
 use Rattle.peer.specs.Matching.{ahead, fits, sameMessage}
-use Rattle.peer.specs.Numbers.{refused, said, say}
+use Rattle.peer.specs.Says.{refused, said, say}
 use Rattle.peer.specs.PacketBytes.{Rtm, idIn, typeIn, typeOf, typeSaid}
 use Rattle.peer.specs.Plain.{waiting}
 use Rattle.peer.specs.View.{OpenIn, View}

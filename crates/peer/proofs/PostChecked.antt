@@ -8,11 +8,12 @@ use mathlib.Core.List.{List, [], _∷_}
 use mathlib.Core.Logic.{inl, inr, ⊎-elim}
 use mathlib.Core.Path.{_≡_, refl, sym, ap, _∙_, subst}
 use native.Mathlib.Omega.{arith}
+use Rattle.protocol.specs.Refusals.{badLength, overlaps}
 use Rattle.peer.specs.Calls.{cancel, post, report}
 use Rattle.peer.specs.Checks.{Check, Fails, checksOf, inUse, noneFree, numberOf}
 use Rattle.peer.specs.Expected.{anyOverlap, expectPlace, lowestIdle}
 use Rattle.peer.specs.InWords.{HasByte}
-use Rattle.peer.specs.Numbers.{outsideArea, overlaps, refused, said, say}
+use Rattle.peer.specs.Says.{refused, said, say}
 use Rattle.peer.specs.Plain.{Role, idle, receiving, waiting}
 use Rattle.peer.specs.State.{overlap}
 use Rattle.peer.specs.View.{UsesRange, View}
@@ -87,7 +88,7 @@ placed k (receiving o ∷ us) = not-idle k (receiving o) us (lowestIdle (suc k) 
 
 -- "Post: .. 11, 19, 18": by its tests, whether the range ends beyond the area, and whether a used range is in the way, and the lowest free slot
 abbrev pub postAnswer : Bool → Bool → Vacancy → Answer
-postAnswer true hit y = Answer.Refused outsideArea
+postAnswer true hit y = Answer.Refused badLength
 postAnswer false true y = Answer.Refused overlaps
 postAnswer false false y = expectPlace y
 

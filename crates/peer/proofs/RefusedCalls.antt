@@ -7,6 +7,7 @@ use mathlib.Core.List.{List, [], _∷_}
 use mathlib.Core.Path.{_≡_, refl, sym, ap, _∙_}
 use native.Mathlib.Omega.{arith}
 use Rattle.protocol.specs.Reading.{packetIn, readFlags, readLengths, readOf, readSections, readTyped}
+use Rattle.protocol.specs.Refusals.{badLength, badSlot, noSlot, overlaps, shortReply}
 use Rattle.protocol.specs.Sections.{extentOf}
 use Rattle.protocol.specs.Types.{admit, rowOf}
 use Rattle.protocol.specs.Values.{bytesAt}
@@ -21,7 +22,6 @@ use Rattle.peer.specs.Effects.{Effect, accept, advance, begun, carry, op
 use Rattle.peer.specs.Incomings.{incomingOf}
 use Rattle.peer.specs.Judging.{judge, judgeAgain, judgeData, judgeFit, judgeFound, judgeMore, judgeNew}
 use Rattle.peer.specs.Matching.{findOpen, oldest, vacancy}
-use Rattle.peer.specs.Numbers.{badSlot, noSlot, outsideArea, overlaps, shortReply}
 use Rattle.peer.specs.Refusing.{among, refusalsOf}
 use Rattle.peer.specs.State.{phaseAt}
 use Rattle.peer.specs.declared.types.Answer.{Answer}
@@ -126,7 +126,7 @@ carry-refusing limit p ws h bytes (Verdict.More i o) j = λ k x. absurd (settled
 pub step-refusing : (area limit : ℕ) (p : Peer) (ws : List ℕ) (c : Call) → Refusing p ws (refusalsOf c) (peerStep area limit p ws c)
 unfolding peerStep postEffect packetEffect cancelEffect reportEffect
 step-refusing area limit p ws (post r) =
-    branch (Refusing p ws (refusalsOf (post r))) _ _ _ (λ x. listed p ws (refusalsOf (post r)) outsideArea refl) (λ x.
+    branch (Refusing p ws (refusalsOf (post r))) _ _ _ (λ x. listed p ws (refusalsOf (post r)) badLength refl) (λ x.
     branch (Refusing p ws (refusalsOf (post r))) _ _ _ (λ x. listed p ws (refusalsOf (post r)) overlaps refl) (λ x. place (vacancy 0 (p .slots))))
   where
     place : (y : Vacancy) → Refusing p ws (refusalsOf (post r)) (placedIn p ws r y)

@@ -15,6 +15,7 @@ use Rattle.protocol.specs.Cts.{ctsBytes}
 use Rattle.protocol.specs.Layout.{fieldBytes, layout}
 use Rattle.protocol.specs.Options.{connidBytes, cqDataBytes, multiuseBytes, rawAddressBytes}
 use Rattle.protocol.specs.Reading.{readOf}
+use Rattle.protocol.specs.Refusals.{badLength, badSlot, noSlot, overlaps, shortReply}
 use Rattle.protocol.specs.Values.{bytesAt}
 use Rattle.protocol.specs.Writing.{baseBytes, mandatoryBytes, packetBytes}
 use Rattle.protocol.specs.declared.types.CqData.{CqData}
@@ -29,7 +30,6 @@ use Rattle.peer.specs.Formed.{Formed}
 use Rattle.peer.specs.Incomings.{incomingOf, isLong}
 use Rattle.peer.specs.Judging.{judge}
 use Rattle.peer.specs.Matching.{vacancy}
-use Rattle.peer.specs.Numbers.{badSlot, noSlot, outsideArea, overlaps, shortReply}
 use Rattle.peer.specs.Plain.{Plain, Role, Target, entryAt, nowhere, receiving, segmentOf, targetOf}
 use Rattle.peer.specs.State.{isFree, phaseAt}
 use Rattle.peer.specs.declared.types.Answer.{Answer}
@@ -179,7 +179,7 @@ module _ (area limit : ℕ) (p : Peer) (ws : List ℕ) (mem mem′ : ℕ → ℕ
   post-yields : (r : Receive) → Y nowhere (postEffect area p ws r)
   unfolding postEffect
   post-yields r =
-      branch (Y nowhere) _ _ _ (λ x. refusal-yields nowhere outsideArea) (λ x.
+      branch (Y nowhere) _ _ _ (λ x. refusal-yields nowhere badLength) (λ x.
       branch (Y nowhere) _ _ _ (λ y. refusal-yields nowhere overlaps) (λ y. place (vacancy 0 (p .slots))))
     where
       place : (y : Vacancy) → Y nowhere (placedIn p ws r y)

@@ -11,6 +11,7 @@ use mathlib.Core.Path.{_≡_, refl, sym, ap, ap₂, _∙_, subst}
 use native.Mathlib.Decide.{decLt, ℕ-discrete}
 use native.Mathlib.Omega.{arith}
 use Rattle.protocol.specs.Reading.{readOf}
+use Rattle.protocol.specs.Refusals.{shortReply}
 use Rattle.protocol.specs.Values.{bytesAt}
 use Rattle.protocol.specs.declared.types.Read.{Read}
 use Rattle.protocol.specs.declared.types.Refusal.{Refusal}
@@ -21,7 +22,6 @@ use Rattle.peer.specs.Expected.{expected}
 use Rattle.peer.specs.Incomings.{incomingOf, isLong}
 use Rattle.peer.specs.Judging.{judge}
 use Rattle.peer.specs.Matching.{vacancy}
-use Rattle.peer.specs.Numbers.{shortReply}
 use Rattle.peer.specs.Plain.{Entry, Plain, enter, enterCancel, enterPost, enterRead, enterSegment, entryAt, freshPlain, noEntry, put, waiting}
 use Rattle.peer.specs.State.{clash, freeSlot, freshPeer, phaseAt, phaseFits, slotCount, slotWith}
 use Rattle.peer.specs.declared.types.Answer.{Answer}

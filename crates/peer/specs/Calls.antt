@@ -6,6 +6,7 @@ use lib.ListN.{set}
 use lib.Dec.{leb, ltb}
 use Rattle.laws.specs.Choose.{pick}
 use Rattle.bitmap.specs.Map.{countSet, firstClear}
+use Rattle.protocol.specs.Refusals.{badLength, badSlot, noSlot, overlaps, shortReply}
 use Rattle.protocol.specs.declared.types.Read.{Read}
 use Rattle.protocol.specs.Reading.{readOf}
 use Rattle.protocol.specs.Values.{bytesAt}
@@ -20,7 +21,6 @@ use Rattle.peer.specs.Effects.{Effect, quiet, refuse, withPhase, carry}
 use Rattle.peer.specs.Incomings.{incomingOf}
 use Rattle.peer.specs.Judging.{judge}
 use Rattle.peer.specs.Matching.{vacancy}
-use Rattle.peer.specs.Numbers.{shortReply, outsideArea, noSlot, overlaps, badSlot}
 use Rattle.peer.specs.State.{slotCount, slotWith, phaseAt, inTheWay}
 
 -- a call, without the peer's number and without what a run hands on: of a packet its bytes and the reply buffer's length
@@ -78,7 +78,7 @@ placedIn p ws r (Vacancy.Slot i) = quiet (placed p r i) ws (Answer.Posted i)
 -- "Post: .. 11, 19, 18"
 unfoldable pub postEffect : ℕ → Peer → List ℕ → Receive → Effect
 postEffect area p ws r =
-    pick (ltb area (r .start + r .capacity)) (refuse p ws outsideArea)
+    pick (ltb area (r .start + r .capacity)) (refuse p ws badLength)
     (pick (someInTheWay r (p .slots)) (refuse p ws overlaps)
     (placedIn p ws r (vacancy 0 (p .slots))))
 

@@ -13,7 +13,7 @@ use Rattle.peer.specs.Claims.{AreBytes, history}
 use Rattle.peer.specs.Expected.{expected}
 use Rattle.peer.specs.Firsts.{RefusedByFirst}
 use Rattle.peer.specs.InWords.{HasByte}
-use Rattle.peer.specs.Numbers.{said}
+use Rattle.peer.specs.Says.{said}
 use Rattle.peer.specs.PacketBytes.{Rtm, idIn, lengthIn, offsetIn, sizeIn, tagIn, typeIn, typeOf}
 use Rattle.peer.specs.Plain.{Plain, idle, receiving, waiting}
 use Rattle.peer.specs.State.{peerFits}

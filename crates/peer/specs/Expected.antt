@@ -6,6 +6,7 @@ use lib.Dec.{leb, ltb}
 use Rattle.laws.specs.Choose.{pick}
 use Rattle.bitmap.specs.Offsets.{someOf, countOf, firstNot}
 use Rattle.protocol.specs.Cts.{ctsBytes}
+use Rattle.protocol.specs.Refusals.{badLength, badSlot, beyondGrant, differs, early, late, noReceive, noSlot, overlaps, repeated, shortReply}
 use Rattle.protocol.specs.declared.table.Shape.the-variants.{Eager}
 use Rattle.protocol.specs.declared.types.CqData.{CqData}
 use Rattle.protocol.specs.declared.types.Read.{Read}
@@ -24,7 +25,6 @@ use Rattle.peer.specs.Coverage.{Segment, covers, allOf, bytesFrom}
 use Rattle.peer.specs.Effects.{opened, grantOf}
 use Rattle.peer.specs.Incomings.{incomingOf, isRtm, isLong}
 use Rattle.peer.specs.Matching.{ahead, sameMessage}
-use Rattle.peer.specs.Numbers.{shortReply, outsideArea, early, noReceive, differs, late, repeated, beyondGrant, noSlot, overlaps, badSlot}
 use Rattle.peer.specs.Plain.{Role, idle, waiting, receiving, Plain, entryAt, roles, openIn, firstPosted, segmentOf, Target, targetOf}
 use Rattle.peer.specs.State.{slotCount, overlap}
 
@@ -51,7 +51,7 @@ expectPlace (Vacancy.Slot i) = Answer.Posted i
 
 unfoldable pub expectPost : ℕ → Plain → Receive → Answer
 expectPost area l r =
-    pick (ltb area (r .start + r .capacity)) (Answer.Refused outsideArea)
+    pick (ltb area (r .start + r .capacity)) (Answer.Refused badLength)
     (pick (anyOverlap r (roles (l .entries))) (Answer.Refused overlaps)
     (expectPlace (lowestIdle 0 (roles (l .entries)))))
 

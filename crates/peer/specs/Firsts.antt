@@ -3,7 +3,7 @@ use Prim.Native.Nat.{ℕ}
 use mathlib.Core.List.{List, [], _∷_, _++_, List·Memᴰ}
 use mathlib.Core.Logic.{_↔_}
 use mathlib.Core.Path.{_≡_}
-use Rattle.peer.specs.Numbers.{Saying, refused, say}
+use Rattle.peer.specs.Says.{Saying, refused, say}
 
 -- the list is `before`, then c, then `after`; c fails, and no check of `before` does
 pub record FirstToFail {C : Type 0} (fails : C → Type 0) (cs : List C) (c : C) : Type 0 where

@@ -4,6 +4,7 @@ use mathlib.Core.List.{List}
 use lib.Dec.{leb, ltb}
 use Rattle.laws.specs.Choose.{pick}
 use Rattle.bitmap.specs.Map.{touched}
+use Rattle.protocol.specs.Refusals.{beyondGrant, differs, early, late, noReceive, repeated}
 use Rattle.peer.specs.declared.types.Inbound.{Inbound}
 use Rattle.peer.specs.declared.types.Incoming.{Incoming}
 use Rattle.peer.specs.declared.types.Peer.{Peer}
@@ -12,7 +13,6 @@ use Rattle.peer.specs.declared.types.Fit.{Fit}
 use Rattle.peer.specs.declared.types.Verdict.{Verdict}
 use Rattle.peer.specs.Incomings.{isRtm, isLong}
 use Rattle.peer.specs.Matching.{findOpen, oldest, ahead, sameMessage}
-use Rattle.peer.specs.Numbers.{early, noReceive, differs, late, repeated, beyondGrant}
 
 -- refusal 16: a byte of the segment is marked already
 unfoldable pub judgeMore : List ℕ → ℕ → Inbound → Incoming → Verdict

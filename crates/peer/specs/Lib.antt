@@ -1,5 +1,5 @@
 pub mod State
-pub mod Numbers
+pub mod Says
 pub mod Incomings
 pub mod Matching
 pub mod Judging

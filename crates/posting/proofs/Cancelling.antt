@@ -3,9 +3,9 @@ use Prim.Native.Nat.{ℕ}
 use mathlib.Core.Bool.{true, false, true≢false, false≢true}
 use mathlib.Core.List.{List}
 use mathlib.Core.Path.{_≡_, refl}
+use Rattle.protocol.specs.Refusals.{badSlot}
 use Rattle.peer.specs.Calls.{cancelAt}
 use Rattle.peer.specs.Effects.{quiet, refuse, withPhase}
-use Rattle.peer.specs.Numbers.{badSlot}
 use Rattle.peer.specs.State.{isFree}
 use Rattle.peer.specs.declared.types.Answer.{Answer}
 use Rattle.peer.specs.declared.types.Peer.{Peer}

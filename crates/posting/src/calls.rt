@@ -1,15 +1,15 @@
 // A receive posted, and a slot cancelled.
 use crate::ages;
 use crate::places;
-use crate::refusals::BAD_SLOT;
-use crate::refusals::NO_SLOT;
-use crate::refusals::OUTSIDE_AREA;
-use crate::refusals::OVERLAPS;
 use peer::Answer;
 use peer::Peer;
 use peer::Receive;
 use peer::Step;
 use peer::Vacancy;
+use protocol::BAD_LENGTH;
+use protocol::BAD_SLOT;
+use protocol::NO_SLOT;
+use protocol::OVERLAPS;
 ghost use mathlib.Core.Path.{_≡_};
 ghost use mathlib.Core.List.{List};
 ghost use Prim.Native.Nat.{ℕ};
@@ -21,7 +21,7 @@ pub fn post(peer: Peer, area: usize, receive: Receive) -> Step
     ensures { λ r. ⌜ ((words : List ℕ) → quiet (r .peer) words (r .answer) ≡ postEffect area peer words receive) ⌝ }
 {
     if !wire::ends_by(receive.start, receive.capacity, area) {
-        return peer.refused(OUTSIDE_AREA);
+        return peer.refused(BAD_LENGTH);
     }
     if places::has_in_the_way(peer, receive) {
         return peer.refused(OVERLAPS);

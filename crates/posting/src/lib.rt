@@ -2,7 +2,6 @@
 mod ages;
 mod calls;
 mod places;
-mod refusals;
 
 pub use calls::cancel;
 pub use calls::post;

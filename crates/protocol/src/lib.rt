@@ -1,9 +1,31 @@
 // What a packet of EFA RDM protocol v4 is: its types here, the definitions of reading and writing in
 // specs/, and what is proved of them in proofs/. There is no function: reader and writer stand in `packet`.
+mod refusals;
 mod sections;
 mod table;
 mod types;
 
+pub use refusals::ABOVE_LIMIT;
+pub use refusals::BAD_FLAGS;
+pub use refusals::BAD_LENGTH;
+pub use refusals::BAD_LENT;
+pub use refusals::BAD_PEER;
+pub use refusals::BAD_SET_UP;
+pub use refusals::BAD_SLOT;
+pub use refusals::BAD_STATE;
+pub use refusals::BAD_TYPE;
+pub use refusals::BAD_VERSION;
+pub use refusals::BEYOND_GRANT;
+pub use refusals::CUT_SHORT;
+pub use refusals::DIFFERS;
+pub use refusals::EARLY;
+pub use refusals::LATE;
+pub use refusals::NO_RECEIVE;
+pub use refusals::NO_ROOM;
+pub use refusals::NO_SLOT;
+pub use refusals::OVERLAPS;
+pub use refusals::REPEATED;
+pub use refusals::SHORT_REPLY;
 pub use sections::Extent;
 pub use sections::Sections;
 pub use table::Found;

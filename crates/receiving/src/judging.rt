@@ -1,11 +1,5 @@
 // What is to be done with a packet: all its tests after the reader's. The area is not read.
 use crate::matching;
-use crate::refusals::BEYOND_GRANT;
-use crate::refusals::DIFFERS;
-use crate::refusals::EARLY;
-use crate::refusals::LATE;
-use crate::refusals::NO_RECEIVE;
-use crate::refusals::REPEATED;
 use crate::shapes;
 use peer::Fit;
 use peer::Found;
@@ -13,6 +7,12 @@ use peer::Inbound;
 use peer::Incoming;
 use peer::Peer;
 use peer::Verdict;
+use protocol::BEYOND_GRANT;
+use protocol::DIFFERS;
+use protocol::EARLY;
+use protocol::LATE;
+use protocol::NO_RECEIVE;
+use protocol::REPEATED;
 ghost use mathlib.Core.Path.{_≡_};
 ghost use mathlib.Core.Bool.{true};
 ghost use Prim.Native.Nat.{_+_};

@@ -6,7 +6,6 @@ mod incoming;
 mod judging;
 mod matching;
 mod packets;
-mod refusals;
 mod segment;
 mod shapes;
 

@@ -6,7 +6,7 @@ use mathlib.Core.List.{List, [], _∷_, _++_, map}
 use mathlib.Core.Bool.{true, false}
 use lib.ListN.{length, replicate}
 use Rattle.wire.specs.LittleEndian.{leBytes}
-use Rattle.peer.specs.Numbers.{Saying, say, refused, posted, stored, granted, done, truncated}
+use Rattle.peer.specs.Says.{Saying, say, refused, posted, stored, granted, done, truncated}
 use Rattle.engine.specs.SetUp.{peerAt}
 use Rattle.guarantees.specs.Runs.{Act, post, packet, Request, Seen, freshWorld, worldAfter, observe, noStarts}
 use Rattle.laws.specs.Choose.{pick}
