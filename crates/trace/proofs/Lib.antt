@@ -2,6 +2,8 @@ pub mod NumberLaws
 pub mod EntryLaws
 pub mod GroupLaws
 pub mod GroupCounts
+pub mod GroupBytes
+pub mod NumberGroups
 pub mod ShortestForm
 pub mod Standing
 pub mod OnlyAsRecorded
