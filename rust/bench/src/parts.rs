@@ -1,4 +1,4 @@
-//! Parts of a receiver on their own: marking, reading a packet, a run of one call.
+//! Parts of a receiver on their own: marking, reading and writing a packet, a run of one call.
 
 use std::hint::black_box;
 use std::time::{Duration, Instant};
@@ -15,7 +15,7 @@ const MARK: (usize, usize) = (100, 8_000);
 
 pub fn print() {
     println!(
-        "\nParts on their own, per call. Bytes are those marked, or those of the packets read.\n"
+        "\nParts on their own, per call. Bytes are those marked, or those of the packets.\n"
     );
     println!(
         "| Part | Verified, ns | Reference, ns | Verified, calls/s | Reference, calls/s \
@@ -24,6 +24,7 @@ pub fn print() {
     println!("|---|---|---|---|---|---|---|---|");
     row("overlap test and marks of 8,000 bytes", &marks());
     row("reader, mix of the eight types", &reads());
+    row("writer, mix of the eight types", &writes());
     for n in [1, 8] {
         let (report, packet) = one_call_runs(n);
         row(&format!("run of one report, n = {n}"), &report);
@@ -125,6 +126,54 @@ fn reads() -> Measured {
         calls: packets.len() * rounds,
         bytes: Some(bytes * rounds),
     }
+}
+
+/// Each packet is written from the values that were read of it.
+fn writes() -> Measured {
+    let packets = packets();
+    let values: Vec<[u64; VALUE_WORDS]> = packets.iter().map(|packet| values_of(packet)).collect();
+    let rounds = 50;
+    let mut sides = [(); 2].map(|()| vec![[0; 256]; packets.len()]);
+    let (verified, reference) = in_turn(|verified| {
+        let outs = &mut sides[usize::from(verified)];
+        let since = Instant::now();
+        for _ in 0..rounds {
+            for ((packet, values), out) in packets.iter().zip(&values).zip(outs.iter_mut()) {
+                let (raw_address, data) = (part(packet, values, 11), part(packet, values, 17));
+                let mut length = 0;
+                if verified {
+                    let taken = quagfeather::write(values, raw_address, data, out, &mut length);
+                    assert!(taken.is_ok());
+                } else {
+                    length = packed::write(black_box(values), raw_address, data, out).unwrap_or(0);
+                }
+                assert_eq!(length, packet.len());
+            }
+        }
+        since.elapsed()
+    });
+    for (packet, out) in packets.iter().zip(&sides[0]) {
+        assert!(out.starts_with(packet), "the packet written is another");
+    }
+    assert!(sides[0] == sides[1], "the receivers differ");
+    let bytes: usize = packets.iter().map(Vec::len).sum();
+    Measured {
+        verified,
+        reference,
+        calls: packets.len() * rounds,
+        bytes: Some(bytes * rounds),
+    }
+}
+
+fn values_of(packet: &[u8]) -> [u64; VALUE_WORDS] {
+    let mut values = [0; VALUE_WORDS];
+    assert!(packed::read(packet, &mut values).is_ok());
+    values
+}
+
+/// The bytes at the place and of the length that two of the values give.
+fn part<'a>(packet: &'a [u8], values: &[u64], at: usize) -> &'a [u8] {
+    &packet[values[at] as usize..][..values[at + 1] as usize]
 }
 
 /// A mix of packets: every type, with each set of optional headers that it may have.
