@@ -4,7 +4,7 @@ use borrow.Rule.Slice.PartMut.{putMid}
 use lib.ListN.{length, getD, take, drop, set, length-append, take-append-drop, length-take, length-drop, drop-of-length-le, List·getD-eq-default}
 use lib.Seq.{length-take-le, take-all, take-length, drop-append-le, getD-take, getD-drop, take-take, drop-drop, take-add, take-at, drop-at, sets, sets-eq, paste}
 use mathlib.Core.List.{List, [], _∷_, _++_, append-assoc, append-nil}
-use mathlib.Core.Path.{_≡_, refl, sym}
+use mathlib.Core.Path.{_≡_, refl, sym, ap, _∙_}
 use native.Mathlib.Decide.{decLt}
 use native.Mathlib.Nat.{add-assoc, add-zero, le-refl}
 use native.Mathlib.Omega.{arith}
@@ -55,6 +55,13 @@ module _ {A : Type 0} where
   unfolding part
   part-middle a b c at n p q = rw (drop-at a (b ++ c) at p) (take-at b c n q)
 
+  -- a store in the middle of three lists
+  pub store-middle : (a b c s : List A) (at : ℕ) → length a ≡ at → length s ≡ length b → storeAt (a ++ (b ++ c)) at s ≡ a ++ (s ++ c)
+  unfolding storeAt
+  store-middle a b c s at p q =
+      let n : length (a ++ b) ≡ at + length s = rw (length-append, p, q) in
+      rw (take-at a (b ++ c) at p, ← append-assoc a b c, drop-at (a ++ b) c (at + length s) n) (append-assoc a s c)
+
   -- what was stored is read
   pub part-store : (l : List A) (at : ℕ) (s : List A) → at ≤ length l → part (storeAt l at s) at (length s) ≡ s
   unfolding storeAt
@@ -86,19 +93,10 @@ module _ {A : Type 0} where
           rw (List·getD-eq-default (take n (drop at l)) d short, ← List·getD-eq-default l d (le-refl (length l))) (h (length l))
 
   -- a store in a list that is taken apart
-  pub store-front : (l : List A) (a n k : ℕ) (s : List A) → length s ≡ n
-      → part l 0 a ++ (s ++ (part l (a + n) k ++ drop (a + n + k) l)) ≡ storeAt l a s
-  unfolding storeAt
-  store-front l a n k s e = rw (part-drop l (a + n) k, e) (unfold part in sym (append-assoc (take a l) s (drop (a + n) l)))
-
   pub store-back : (l : List A) (a k c n : ℕ) (s : List A) → length s ≡ n
       → part l 0 a ++ (part l a k ++ (part l (a + k) c ++ s ++ drop (a + k + c + n) l)) ≡ storeAt l (a + k + c) s
   unfolding storeAt part
   store-back l a k c n s e = rw (e, take-add (a + k) c l, take-add a k l) (simp append-assoc)
-
-  -- a list that is taken apart
-  pub parts-all : (l : List A) (a k c : ℕ) → part l 0 a ++ (part l a k ++ (part l (a + k) c ++ drop (a + k + c) l)) ≡ l
-  parts-all l a k c = rw (part-drop l (a + k) c, part-drop l a k) (unfold part in take-append-drop a l)
 
   -- stores side by side
   pub store-store : (l : List A) (at : ℕ) (a b : List A) → at + length a + length b ≤ length l
@@ -119,6 +117,17 @@ module _ {A : Type 0} where
   pub store-next : (l : List A) (at : ℕ) (a b : List A) (k : ℕ) → k ≡ at + length a → k + length b ≤ length l
       → storeAt (storeAt l at a) k b ≡ storeAt l at (a ++ b)
   store-next l at a b k e h = rw e (store-store l at a b (rw e at h))
+
+  -- a store over the start of another
+  pub store-over : (l : List A) (at : ℕ) (a b c : List A) → length a ≡ length b → at ≤ length l
+      → storeAt (storeAt l at (a ++ c)) at b ≡ storeAt l at (b ++ c)
+  unfolding storeAt
+  store-over l at a b c e h =
+      let n : length (a ++ c) ≡ length (b ++ c) = rw (length-append a c, length-append b c, e) in
+      let rest : List A = drop (at + length (b ++ c)) l in
+      rw (n, append-assoc (take at l) (a ++ c) rest, append-assoc a c rest)
+      (store-middle (take at l) a (c ++ rest) b at (length-take-le at l h) (sym e)
+      ∙ sym (append-assoc (take at l) (b ++ c) rest ∙ ap (λ (m : List A). take at l ++ m) (append-assoc b c rest)))
 
   -- elements that are set one after the other are stored
   pub sets-store : (l : List A) (at : ℕ) (s : List A) → at + length s ≤ length l → sets l at s ≡ storeAt l at s

@@ -1,17 +1,14 @@
 // Flags of a packet.
+use protocol::CONNID;
+use protocol::CQ_DATA;
 use protocol::Connid;
 use protocol::CqData;
 use protocol::Header;
+use protocol::RAW_ADDRESS;
 use protocol::TypeRow;
 ghost use mathlib.Core.Path.{_≡_};
 ghost use Prim.Native.Nat.{_<_, _≤_};
 ghost use Rattle.protocol.specs.Flags.{hasFlag, flagsFit, flagsOf, rawAddressBit, cqDataBit, connidBit};
-
-pub(crate) const RAW_ADDRESS: u16 = 0x1;
-
-pub(crate) const CQ_DATA: u16 = 0x2;
-
-pub(crate) const CONNID: u16 = 0x8000;
 
 // Whether a flag is set.
 pub(crate) fn has(flags: u16, flag: u16) -> bool

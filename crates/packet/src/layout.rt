@@ -1,184 +1,151 @@
-// The fields of each type, read from a packet and written into one.
+// The fields of a packet, read and written where its type's row says that they stand.
+use crate::options;
+use protocol::CREDIT_REQUEST;
 use protocol::Fields;
-use protocol::Shape;
+use protocol::Header;
+use protocol::MSG_ID;
+use protocol::MSG_LENGTH;
+use protocol::MULTIUSE;
+use protocol::PADDING;
+use protocol::RECV_ID;
+use protocol::RECV_LENGTH;
+use protocol::SEG_LENGTH;
+use protocol::SEG_OFFSET;
+use protocol::SEND_ID;
+use protocol::TAG;
 use protocol::TypeRow;
+ghost use mathlib.Core.List.{[], _∷_};
 ghost use mathlib.Core.Path.{_≡_};
-ghost use Prim.Native.Nat.{_≤_};
+ghost use Prim.Native.Nat.{_+_, _≤_, _<_};
 ghost use lib.ListN.{length};
 ghost use Rattle.laws.specs.Parts.{storeAt};
-ghost use Rattle.protocol.specs.Layout.{untagged, layout, fieldsAt, fieldsIn, fieldBytes, noFields};
+ghost use Rattle.protocol.specs.FieldNumbers.{fieldBytes, fieldsIn, numberThere, putFields, putThere};
+ghost use Rattle.protocol.specs.Layout.{credit-request, layout, msg-id, msg-length, multiuse, padding, placeBy, recv-id, recv-length, seg-length, seg-offset, send-id, tag};
 ghost use Rattle.protocol.specs.Rules.{Sound};
 
-// No field has a number yet.
-fn none() -> Fields
-    ensures { λ r. ⌜ r ≡ noFields ⌝ }
+// Where a field stands; 0 where the type has no such field.
+pub(crate) fn place(places: u64, unit: u64) -> usize
+    requires { ⌜ 0 < unit ⌝ }
+    ensures { λ r. ⌜ r ≡ placeBy places unit ⌝ }
 {
-    Fields {
-        msg_id: 0,
-        recv_id: 0,
-        send_id: 0,
-        msg_length: 0,
-        seg_length: 0,
-        recv_length: 0,
-        seg_offset: 0,
-        credit_request: 0,
-        tag: 0,
+    (places / unit % 16 * 4) as usize
+}
+
+// The number of a field; 0 where the type has no such field.
+fn number_u32(bytes: &[u8], places: u64, unit: u64) -> u32
+    requires { ⌜ 0 < unit ⌝ }
+    requires { ⌜ placeBy places unit + 4 ≤ length (now bytes) ⌝ }
+    ensures { λ r. ⌜ r ≡ numberThere (placeBy places unit) 4 (now (bytes .entry)) ⌝ }
+{
+    let at = place(places, unit);
+    if at == 0 {
+        return 0;
     }
+    wire::read_u32(bytes, at)
 }
 
-fn read_cts(bytes: &[u8]) -> Fields
-    requires { ⌜ 24 ≤ length (now bytes) ⌝ }
-    ensures { λ r. ⌜ r ≡ fieldsIn (untagged Shape.Cts) 8 (now (bytes .entry)) ⌝ }
+fn number_u64(bytes: &[u8], places: u64, unit: u64) -> u64
+    requires { ⌜ 0 < unit ⌝ }
+    requires { ⌜ placeBy places unit + 8 ≤ length (now bytes) ⌝ }
+    ensures { λ r. ⌜ r ≡ numberThere (placeBy places unit) 8 (now (bytes .entry)) ⌝ }
 {
-    let mut fields = none();
-    fields.send_id = wire::read_u32(bytes, 8);
-    fields.recv_id = wire::read_u32(bytes, 12);
-    fields.recv_length = wire::read_u64(bytes, 16);
-    fields
-}
-
-fn read_cts_data(bytes: &[u8]) -> Fields
-    requires { ⌜ 24 ≤ length (now bytes) ⌝ }
-    ensures { λ r. ⌜ r ≡ fieldsIn (untagged Shape.CtsData) 4 (now (bytes .entry)) ⌝ }
-{
-    let mut fields = none();
-    fields.recv_id = wire::read_u32(bytes, 4);
-    fields.seg_length = wire::read_u64(bytes, 8);
-    fields.seg_offset = wire::read_u64(bytes, 16);
-    fields
-}
-
-fn read_eager(bytes: &[u8]) -> Fields
-    requires { ⌜ 8 ≤ length (now bytes) ⌝ }
-    ensures { λ r. ⌜ r ≡ fieldsIn (untagged Shape.Eager) 4 (now (bytes .entry)) ⌝ }
-{
-    let mut fields = none();
-    fields.msg_id = wire::read_u32(bytes, 4);
-    fields
-}
-
-fn read_medium(bytes: &[u8]) -> Fields
-    requires { ⌜ 24 ≤ length (now bytes) ⌝ }
-    ensures { λ r. ⌜ r ≡ fieldsIn (untagged Shape.Medium) 4 (now (bytes .entry)) ⌝ }
-{
-    let mut fields = none();
-    fields.msg_id = wire::read_u32(bytes, 4);
-    fields.msg_length = wire::read_u64(bytes, 8);
-    fields.seg_offset = wire::read_u64(bytes, 16);
-    fields
-}
-
-fn read_long_cts(bytes: &[u8]) -> Fields
-    requires { ⌜ 24 ≤ length (now bytes) ⌝ }
-    ensures { λ r. ⌜ r ≡ fieldsIn (untagged Shape.LongCts) 4 (now (bytes .entry)) ⌝ }
-{
-    let mut fields = none();
-    fields.msg_id = wire::read_u32(bytes, 4);
-    fields.msg_length = wire::read_u64(bytes, 8);
-    fields.send_id = wire::read_u32(bytes, 16);
-    fields.credit_request = wire::read_u32(bytes, 20);
-    fields
-}
-
-// The fields of a type's shape, all but the tag.
-fn read_untagged(row: TypeRow, bytes: &[u8]) -> Fields
-    requires { ⌜ Sound row ⌝ }
-    requires { ⌜ row .header ≤ length (now bytes) ⌝ }
-    ensures { λ r. ⌜ r ≡ fieldsIn (untagged (row .shape)) (fieldsAt row) (now (bytes .entry)) ⌝ }
-{
-    let shape = row.shape;
-    match shape {
-        Shape::Cts => read_cts(bytes),
-        Shape::CtsData => read_cts_data(bytes),
-        Shape::Eager => read_eager(bytes),
-        Shape::Medium => read_medium(bytes),
-        Shape::LongCts => read_long_cts(bytes),
+    let at = place(places, unit);
+    if at == 0 {
+        return 0;
     }
+    wire::read_u64(bytes, at)
 }
 
-// All fields of a packet. The tag ends the mandatory header.
+// All fields of a packet.
 pub(crate) fn read(row: TypeRow, bytes: &[u8]) -> Fields
     requires { ⌜ Sound row ⌝ }
     requires { ⌜ row .header ≤ length (now bytes) ⌝ }
-    ensures { λ r. ⌜ r ≡ fieldsIn (layout row) (fieldsAt row) (now (bytes .entry)) ⌝ }
+    ensures { λ r. ⌜ r ≡ fieldsIn (layout row) 4 (now (bytes .entry)) ⌝ }
 {
-    let mut fields = read_untagged(row, bytes);
-    if row.tagged {
-        let at = row.header - 8;
-        fields.tag = wire::read_u64(bytes, at);
+    Fields {
+        msg_id: number_u32(bytes, row.places, MSG_ID),
+        recv_id: number_u32(bytes, row.places, RECV_ID),
+        send_id: number_u32(bytes, row.places, SEND_ID),
+        msg_length: number_u64(bytes, row.places, MSG_LENGTH),
+        seg_length: number_u64(bytes, row.places, SEG_LENGTH),
+        recv_length: number_u64(bytes, row.places, RECV_LENGTH),
+        seg_offset: number_u64(bytes, row.places, SEG_OFFSET),
+        credit_request: number_u32(bytes, row.places, CREDIT_REQUEST),
+        tag: number_u64(bytes, row.places, TAG),
     }
-    fields
 }
 
-fn write_cts(fields: Fields, out: &mut [u8])
-    requires { ⌜ 24 ≤ length (now out) ⌝ }
-    ensures { λ _. ⌜ now (out .exit) ≡ storeAt (now (out .entry)) 8 (fieldBytes (untagged Shape.Cts) fields) ⌝ }
+// Puts a number there, if the type has the field.
+fn put_u32(out: &mut [u8], places: u64, unit: u64, x: u32)
+    requires { ⌜ 0 < unit ⌝ }
+    requires { ⌜ placeBy places unit + 4 ≤ length (now out) ⌝ }
+    ensures { λ _. ⌜ now (out .exit) ≡ putThere (placeBy places unit) 4 x (now (out .entry)) ⌝ }
 {
-    wire::write_u32(out, 8, fields.send_id);
-    wire::write_u32(out, 12, fields.recv_id);
-    wire::write_u64(out, 16, fields.recv_length);
+    let at = place(places, unit);
+    if at == 0 {
+        return;
+    }
+    wire::write_u32(out, at, x);
 }
 
-fn write_cts_data(fields: Fields, out: &mut [u8])
-    requires { ⌜ 24 ≤ length (now out) ⌝ }
-    ensures { λ _. ⌜ now (out .exit) ≡ storeAt (now (out .entry)) 4 (fieldBytes (untagged Shape.CtsData) fields) ⌝ }
+fn put_u64(out: &mut [u8], places: u64, unit: u64, x: u64)
+    requires { ⌜ 0 < unit ⌝ }
+    requires { ⌜ placeBy places unit + 8 ≤ length (now out) ⌝ }
+    ensures { λ _. ⌜ now (out .exit) ≡ putThere (placeBy places unit) 8 x (now (out .entry)) ⌝ }
 {
-    wire::write_u32(out, 4, fields.recv_id);
-    wire::write_u64(out, 8, fields.seg_length);
-    wire::write_u64(out, 16, fields.seg_offset);
+    let at = place(places, unit);
+    if at == 0 {
+        return;
+    }
+    wire::write_u64(out, at, x);
 }
 
-fn write_eager(fields: Fields, out: &mut [u8])
-    requires { ⌜ 8 ≤ length (now out) ⌝ }
-    ensures { λ _. ⌜ now (out .exit) ≡ storeAt (now (out .entry)) 4 (fieldBytes (untagged Shape.Eager) fields) ⌝ }
-{
-    wire::write_u32(out, 4, fields.msg_id);
-}
-
-fn write_medium(fields: Fields, out: &mut [u8])
-    requires { ⌜ 24 ≤ length (now out) ⌝ }
-    ensures { λ _. ⌜ now (out .exit) ≡ storeAt (now (out .entry)) 4 (fieldBytes (untagged Shape.Medium) fields) ⌝ }
-{
-    wire::write_u32(out, 4, fields.msg_id);
-    wire::write_u64(out, 8, fields.msg_length);
-    wire::write_u64(out, 16, fields.seg_offset);
-}
-
-fn write_long_cts(fields: Fields, out: &mut [u8])
-    requires { ⌜ 24 ≤ length (now out) ⌝ }
-    ensures { λ _. ⌜ now (out .exit) ≡ storeAt (now (out .entry)) 4 (fieldBytes (untagged Shape.LongCts) fields) ⌝ }
-{
-    wire::write_u32(out, 4, fields.msg_id);
-    wire::write_u64(out, 8, fields.msg_length);
-    wire::write_u32(out, 16, fields.send_id);
-    wire::write_u32(out, 20, fields.credit_request);
-}
-
-// The fields of a type's shape are written, all but the tag.
-fn write_untagged(row: TypeRow, fields: Fields, out: &mut [u8])
+// The identifiers.
+fn write_ids(row: TypeRow, header: Header, out: &mut [u8])
     requires { ⌜ Sound row ⌝ }
     requires { ⌜ row .header ≤ length (now out) ⌝ }
-    ensures { λ _. ⌜ now (out .exit) ≡ storeAt (now (out .entry)) (fieldsAt row) (fieldBytes (untagged (row .shape)) fields) ⌝ }
+    ensures { λ _. ⌜ now (out .exit) ≡ putFields row header (msg-id ∷ recv-id ∷ send-id ∷ []) (now (out .entry)) ⌝ }
 {
-    let shape = row.shape;
-    match shape {
-        Shape::Cts => write_cts(fields, out),
-        Shape::CtsData => write_cts_data(fields, out),
-        Shape::Eager => write_eager(fields, out),
-        Shape::Medium => write_medium(fields, out),
-        Shape::LongCts => write_long_cts(fields, out),
-    }
+    let fields = header.fields;
+    put_u32(out, row.places, MSG_ID, fields.msg_id);
+    put_u32(out, row.places, RECV_ID, fields.recv_id);
+    put_u32(out, row.places, SEND_ID, fields.send_id);
 }
 
-// All fields of a packet are written. The tag ends the mandatory header.
-pub(crate) fn write(row: TypeRow, fields: Fields, out: &mut [u8])
+// The lengths, and the offset.
+fn write_lengths(row: TypeRow, header: Header, out: &mut [u8])
     requires { ⌜ Sound row ⌝ }
     requires { ⌜ row .header ≤ length (now out) ⌝ }
-    ensures { λ _. ⌜ now (out .exit) ≡ storeAt (now (out .entry)) (fieldsAt row) (fieldBytes (layout row) fields) ⌝ }
+    ensures { λ _. ⌜ now (out .exit) ≡ putFields row header (msg-length ∷ seg-length ∷ recv-length ∷ seg-offset ∷ []) (now (out .entry)) ⌝ }
 {
-    write_untagged(row, fields, out);
-    if row.tagged {
-        let at = row.header - 8;
-        wire::write_u64(out, at, fields.tag);
-    }
+    let fields = header.fields;
+    put_u64(out, row.places, MSG_LENGTH, fields.msg_length);
+    put_u64(out, row.places, SEG_LENGTH, fields.seg_length);
+    put_u64(out, row.places, RECV_LENGTH, fields.recv_length);
+    put_u64(out, row.places, SEG_OFFSET, fields.seg_offset);
+}
+
+// The other fields: multiuse with the connid, if there is one, and padding with zero.
+fn write_others(row: TypeRow, header: Header, out: &mut [u8])
+    requires { ⌜ Sound row ⌝ }
+    requires { ⌜ row .header ≤ length (now out) ⌝ }
+    ensures { λ _. ⌜ now (out .exit) ≡ putFields row header (credit-request ∷ tag ∷ multiuse ∷ padding ∷ []) (now (out .entry)) ⌝ }
+{
+    let fields = header.fields;
+    put_u32(out, row.places, CREDIT_REQUEST, fields.credit_request);
+    put_u64(out, row.places, TAG, fields.tag);
+    let connid = header.connid;
+    put_u32(out, row.places, MULTIUSE, options::connid_or_zero(connid));
+    put_u32(out, row.places, PADDING, 0);
+}
+
+// All fields of a packet are written.
+pub(crate) fn write(row: TypeRow, header: Header, out: &mut [u8])
+    requires { ⌜ Sound row ⌝ }
+    requires { ⌜ row .header ≤ length (now out) ⌝ }
+    ensures { λ _. ⌜ now (out .exit) ≡ storeAt (now (out .entry)) 4 (fieldBytes (layout row) header) ⌝ }
+{
+    write_ids(row, header, out);
+    write_lengths(row, header, out);
+    write_others(row, header, out);
 }

@@ -1,8 +1,8 @@
 // The optional headers, read from a packet and written into one. A writer answers where the next
 // header begins.
 use crate::flags;
-use crate::flags::CONNID;
-use crate::flags::CQ_DATA;
+use protocol::CONNID;
+use protocol::CQ_DATA;
 use protocol::Connid;
 use protocol::CqData;
 use protocol::TypeRow;
@@ -12,7 +12,7 @@ ghost use Prim.Native.Nat.{_+_, _≤_, _<_, _^_};
 ghost use lib.ListN.{length};
 ghost use Rattle.laws.specs.Parts.{storeAt};
 ghost use Rattle.protocol.specs.Flags.{hasFlag, cqDataFlag, connidFlag};
-ghost use Rattle.protocol.specs.Options.{rawAddressBytes, cqDataBytes, connidBytes, multiuseBytes, cqDataIn, connidIn};
+ghost use Rattle.protocol.specs.Options.{rawAddressBytes, cqDataBytes, connidBytes, connidOrZero, cqDataIn, connidIn};
 ghost use Rattle.wire.specs.LittleEndian.{leBytes};
 ghost use Rattle.protocol.specs.Rules.{Sound, NumberWidth};
 
@@ -92,14 +92,12 @@ pub(crate) fn write_connid(out: &mut [u8], at: usize, row: TypeRow, connid: Conn
     }
 }
 
-// The multiuse field, of `row.multiuse` bytes.
-pub(crate) fn write_multiuse(out: &mut [u8], row: TypeRow, connid: Connid) -> usize
-    requires { ⌜ Sound row ⌝ }
-    requires { ⌜ 4 + length (multiuseBytes row connid) ≤ length (now out) ⌝ }
-    ensures { λ r. ⌜ (r ≡ 4 + length (multiuseBytes row connid)) × (now (out .exit) ≡ storeAt (now (out .entry)) 4 (multiuseBytes row connid)) ⌝ }
+// What the multiuse field holds.
+pub(crate) fn connid_or_zero(connid: Connid) -> u32
+    ensures { λ r. ⌜ r ≡ connidOrZero connid ⌝ }
 {
     match connid {
-        Connid::Absent => write_number(out, 4, row.multiuse, 0),
-        Connid::Present(value) => write_number(out, 4, row.multiuse, value),
+        Connid::Absent => 0,
+        Connid::Present(value) => value,
     }
 }

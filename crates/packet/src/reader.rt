@@ -1,6 +1,5 @@
 // Reading a packet: its checks in their order, then its numbers and where its bytes lie.
 use crate::flags;
-use crate::flags::RAW_ADDRESS;
 use crate::layout;
 use crate::lengths;
 use crate::limits::LIMIT;
@@ -18,6 +17,7 @@ use protocol::Extent;
 use protocol::Found;
 use protocol::Header;
 use protocol::Packet;
+use protocol::RAW_ADDRESS;
 use protocol::Read;
 use protocol::Refusal;
 use protocol::Sections;

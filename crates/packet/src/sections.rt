@@ -1,9 +1,11 @@
 // Where a packet's optional headers and its data lie.
 use crate::flags;
-use crate::flags::CONNID;
-use crate::flags::CQ_DATA;
-use crate::flags::RAW_ADDRESS;
+use crate::layout;
+use protocol::CONNID;
+use protocol::CQ_DATA;
 use protocol::Extent;
+use protocol::MULTIUSE;
+use protocol::RAW_ADDRESS;
 use protocol::Sections;
 use protocol::Span;
 use protocol::TypeRow;
@@ -32,7 +34,8 @@ pub(crate) fn connid_length(row: TypeRow, flags: u16) -> usize
 fn connid_at(row: TypeRow, after: usize) -> usize
     ensures { λ r. ⌜ r ≡ connidAt row after ⌝ }
 {
-    if row.multiuse == 0 { after } else { 4 }
+    let at = layout::place(row.places, MULTIUSE);
+    if at == 0 { after } else { at }
 }
 
 // The sections of a packet of n bytes, whose raw address ends before at.

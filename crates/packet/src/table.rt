@@ -1,6 +1,16 @@
 // The table of packet types, which reader and writer share.
+use protocol::CREDIT_REQUEST;
 use protocol::Found;
+use protocol::MSG_ID;
+use protocol::MSG_LENGTH;
+use protocol::MULTIUSE;
+use protocol::RECV_ID;
+use protocol::RECV_LENGTH;
+use protocol::SEG_LENGTH;
+use protocol::SEG_OFFSET;
+use protocol::SEND_ID;
 use protocol::Shape;
+use protocol::TAG;
 use protocol::TypeRow;
 ghost use mathlib.Core.Path.{_≡_};
 ghost use Rattle.protocol.specs.Types.{rowOf, admit};
@@ -19,7 +29,7 @@ const TYPES: [TypeRow; 8] = [
         must: 0x0,
         may: CTS_MAY,
         header: 24,
-        multiuse: 4,
+        places: 1 * MULTIUSE + 2 * SEND_ID + 3 * RECV_ID + 4 * RECV_LENGTH,
         connid: 0,
     },
     TypeRow {
@@ -30,7 +40,7 @@ const TYPES: [TypeRow; 8] = [
         must: 0x0,
         may: CTS_MAY,
         header: 24,
-        multiuse: 0,
+        places: 1 * RECV_ID + 2 * SEG_LENGTH + 4 * SEG_OFFSET,
         connid: 8,
     },
     TypeRow {
@@ -41,7 +51,7 @@ const TYPES: [TypeRow; 8] = [
         must: 0x4,
         may: RTM_MAY,
         header: 8,
-        multiuse: 0,
+        places: 1 * MSG_ID,
         connid: 4,
     },
     TypeRow {
@@ -52,7 +62,7 @@ const TYPES: [TypeRow; 8] = [
         must: 0xc,
         may: RTM_MAY,
         header: 16,
-        multiuse: 0,
+        places: 1 * MSG_ID + 2 * TAG,
         connid: 4,
     },
     TypeRow {
@@ -63,7 +73,7 @@ const TYPES: [TypeRow; 8] = [
         must: 0x4,
         may: RTM_MAY,
         header: 24,
-        multiuse: 0,
+        places: 1 * MSG_ID + 2 * MSG_LENGTH + 4 * SEG_OFFSET,
         connid: 4,
     },
     TypeRow {
@@ -74,7 +84,7 @@ const TYPES: [TypeRow; 8] = [
         must: 0xc,
         may: RTM_MAY,
         header: 32,
-        multiuse: 0,
+        places: 1 * MSG_ID + 2 * MSG_LENGTH + 4 * SEG_OFFSET + 6 * TAG,
         connid: 4,
     },
     TypeRow {
@@ -85,7 +95,7 @@ const TYPES: [TypeRow; 8] = [
         must: 0x4,
         may: RTM_MAY,
         header: 24,
-        multiuse: 0,
+        places: 1 * MSG_ID + 2 * MSG_LENGTH + 4 * SEND_ID + 5 * CREDIT_REQUEST,
         connid: 4,
     },
     TypeRow {
@@ -96,7 +106,7 @@ const TYPES: [TypeRow; 8] = [
         must: 0xc,
         may: RTM_MAY,
         header: 32,
-        multiuse: 0,
+        places: 1 * MSG_ID + 2 * MSG_LENGTH + 4 * SEND_ID + 5 * CREDIT_REQUEST + 6 * TAG,
         connid: 4,
     },
 ];

@@ -88,10 +88,7 @@ fn put_mandatory(out: &mut [u8], row: TypeRow, header: Header, flags: u16)
     ensures { λ _. ⌜ now (out .exit) ≡ storeAt (now (out .entry)) 0 (mandatoryBytes row header) ⌝ }
 {
     put_base(out, row.kind, flags);
-    let connid = header.connid;
-    options::write_multiuse(out, row, connid);
-    let fields = header.fields;
-    layout::write(row, fields, out);
+    layout::write(row, header, out);
 }
 
 // A whole packet.

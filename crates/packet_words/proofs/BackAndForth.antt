@@ -11,8 +11,9 @@ use native.Mathlib.Nat.{mod-eq-of-lt, mod-lt}
 use native.Mathlib.Omega.{arith}
 use Rattle.laws.specs.Choose.{pick}
 use Rattle.protocol.specs.Checks.{gives, refused}
+use Rattle.protocol.specs.FieldNumbers.{numberIn}
 use Rattle.protocol.specs.InWords.{ReadTellsItsBytes}
-use Rattle.protocol.specs.Layout.{Field, numberIn, width}
+use Rattle.protocol.specs.Layout.{Field, width}
 use Rattle.protocol.specs.Options.{connidOrZero}
 use Rattle.protocol.specs.RoundTrip.{Numbers, cqDataOrZero}
 use Rattle.protocol.specs.Says.{writtenSays}
@@ -61,6 +62,8 @@ number-said v Field.recv-length h = refl
 number-said v Field.seg-offset h = refl
 number-said v Field.credit-request h = mod-eq-of-lt h
 number-said v Field.tag h = refl
+number-said v Field.multiuse h = refl
+number-said v Field.padding h = refl
 
 own-said : (v : List ℕ) (fs : List Field) → fieldsFit v fs ≡ true → map (numberIn (fieldsIn v)) fs ≡ map (numberOf v) fs
 unfolding fieldsFit
@@ -106,6 +109,8 @@ numbers-said v words =
     small Field.seg-offset = words 7
     small Field.credit-request = mod-lt (getD v 8 0) (lit< tt)
     small Field.tag = words 9
+    small Field.multiuse = lit< tt
+    small Field.padding = lit< tt
 
 -- ---- words that pass their checks are left to the packet writer
 

@@ -35,7 +35,7 @@ use Rattle.protocol.proofs.FoundRow.{is-unknown, isUnknown, ofRow, pick-not, ro
 use Rattle.protocol.proofs.TypeWords.{lengths-in-words, unknown-lengths, unknown-type}
 use Rattle.protocol.proofs.WordsHold.{types-are-the-tables}
 use Rattle.protocol.proofs.WriterHolds.{bytesAs, refusing, write-failing, write-judged, written}
-use Rattle.packet_words.proofs.Rows.{flags-allowed, layoutOf, options-by-type, own-layout, row-small}
+use Rattle.packet_words.proofs.Rows.{flags-allowed, options-by-type, own-fields, ownOf, row-small}
 
 -- a conjunction that fails fails in a part
 and-cases : (a b : Bool) → (a && b) ≡ false → (a ≡ false) ⊎ (b ≡ false)
@@ -86,7 +86,7 @@ module _ (v : List ℕ) where
   module _ (r : TypeRow) (e : rowOf (typeWord v) ≡ Row r) where
     pub numbers-held : numbersFit r v ≡ held
     unfolding numbersFit
-    numbers-held = ap (λ (fs : List Field). fieldsFit v fs && connidFits v) (ap layoutOf (sym e) ∙ own-layout (typeWord v))
+    numbers-held = ap (λ (fs : List Field). fieldsFit v fs && connidFits v) (ap ownOf (sym e) ∙ own-fields (typeWord v))
 
     pub type-small : typeWord v % 256 ≡ typeWord v
     type-small = mod-eq-of-lt (row-small _ r e)

@@ -10,6 +10,7 @@ use native.Mathlib.Omega.{arith}
 use Rattle.laws.specs.Choose.{pick}
 use Rattle.protocol.specs.ByType.{CtsOrData, column}
 use Rattle.protocol.specs.Flags.{connidBit, connidFlag, cqDataBit, cqDataFlag, flagsFit, hasFlag, rawAddressBit, rawAddressFlag}
+use Rattle.protocol.specs.Layout as table
 use Rattle.protocol.specs.Layout.{Field, layout}
 use Rattle.protocol.specs.Types.{rowIn, rowOf, rows}
 use Rattle.protocol.specs.declared.table.Found.{Found}
@@ -97,17 +98,18 @@ options-by-type a b c =
 
 -- ---- own fields
 
-abbrev pub layoutOf : Found → List Field
-layoutOf Unknown = []
-layoutOf (Row r) = layout r
+abbrev pub ownOf : Found → List Field
+ownOf Unknown = []
+ownOf (Row r) = table.ownFields r
 
 -- what a table's row says, as a column of it
-as-column : (rs : List TypeRow) (k : ℕ) → layoutOf (rowIn rs k) ≡ column [] (map (λ q. (q .kind, layout q)) rs) k
+as-column : (rs : List TypeRow) (k : ℕ) → ownOf (rowIn rs k) ≡ column [] (map (λ q. (q .kind, table.ownFields q)) rs) k
 unfolding rowIn
 as-column [] k = refl
-as-column (q ∷ rs) k = pick-ap layoutOf (eqb (q .kind) k) (Row q) (rowIn rs k) ∙ ap (λ (l : List Field). pick (eqb (q .kind) k) (layout q) l) (as-column rs k)
+as-column (q ∷ rs) k =
+    pick-ap ownOf (eqb (q .kind) k) (Row q) (rowIn rs k) ∙ ap (λ (l : List Field). pick (eqb (q .kind) k) (table.ownFields q) l) (as-column rs k)
 
--- the layout of a type has the type's own fields
-pub own-layout : (k : ℕ) → layoutOf (rowOf k) ≡ ownFields k
-unfolding rowOf layout
-own-layout k = unfold pick in as-column rows k
+-- the own fields of a type by its row and by its number
+pub own-fields : (k : ℕ) → ownOf (rowOf k) ≡ ownFields k
+unfolding rowOf table.ownFields layout
+own-fields k = unfold pick in as-column rows k

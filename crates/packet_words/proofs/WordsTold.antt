@@ -12,9 +12,10 @@ use native.Mathlib.Omega.{arith}
 use Rattle.laws.specs.Choose.{pick}
 use Rattle.laws.specs.Parts.{part, storeAt}
 use Rattle.protocol.specs.Checks.{gives, refused}
+use Rattle.protocol.specs.FieldNumbers.{numberIn}
 use Rattle.protocol.specs.InWords.{RefusedByFirstToFail}
 use Rattle.protocol.specs.InWords as reader
-use Rattle.protocol.specs.Layout.{Field, numberIn}
+use Rattle.protocol.specs.Layout.{Field}
 use Rattle.protocol.specs.Reading.{readOf}
 use Rattle.protocol.specs.Says.{readSays}
 use Rattle.protocol.specs.Types.{rowOf}
@@ -38,7 +39,7 @@ use Rattle.packet_words.specs.ReaderInWords.{ReadsIntoWords, RefusedRead
 use Rattle.packet_words.specs.Says.{dataAt, ownFields, rawAddressAt, tookSays, wordsSay}
 use Rattle.packet_words.specs.Values.{readInto, tookAs, valueWords}
 use Rattle.packet_words.specs.Writing.{numberOf, typeWord}
-use Rattle.packet_words.proofs.Rows.{layoutOf, own-layout}
+use Rattle.packet_words.proofs.Rows.{own-fields, ownOf}
 
 -- ---- values
 
@@ -51,9 +52,9 @@ same-values a b k o r q c d = λ i. record { kind = k i; own = o i; rawAddress =
 
 -- the numbers of the type's own fields, by its number
 pub own-numbers : (k : ℕ) (v : Fields) → ownNumbers (rowOf k) v ≡ map (numberIn v) (ownFields k)
-own-numbers k v = go (rowOf k) ∙ ap (map (numberIn v)) (own-layout k)
+own-numbers k v = go (rowOf k) ∙ ap (map (numberIn v)) (own-fields k)
   where
-    go : (o : Found) → ownNumbers o v ≡ map (numberIn v) (layoutOf o)
+    go : (o : Found) → ownNumbers o v ≡ map (numberIn v) (ownOf o)
     go Unknown = unfold ownNumbers in refl
     go (Row r) = unfold ownNumbers in refl
 
@@ -94,6 +95,8 @@ module _ (values : List ℕ) (p : Packet) where
   field-word Field.seg-offset = word-at 7 (lit< tt)
   field-word Field.credit-request = word-at 8 (lit< tt)
   field-word Field.tag = word-at 9 (lit< tt)
+  field-word Field.multiuse = refl
+  field-word Field.padding = refl
 
   own-words : (fs : List Field) → map (numberOf wordsOf) fs ≡ map (numberIn (p .header .fields)) fs
   own-words [] = refl

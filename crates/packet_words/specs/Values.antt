@@ -6,6 +6,7 @@ use lib.ListN.{length}
 use lib.Dec.{leb}
 use Rattle.laws.specs.Choose.{pick}
 use Rattle.laws.specs.Parts.{storeAt}
+use Rattle.protocol.specs.Refusals.{noRoom}
 use Rattle.protocol.specs.declared.types.Fields.{Fields}
 use Rattle.protocol.specs.declared.types.Header.{Header}
 use Rattle.protocol.specs.declared.types.Packet.{Packet}
@@ -37,4 +38,4 @@ tookAs values (Read.Packet p) = record { refusal = 0; values = storeAt values 0 
 -- with too few words nothing is read
 unfoldable pub readInto : List ℕ → List ℕ → Took
 readInto bytes values =
-    pick (leb valueCount (length values)) (tookAs values (readOf true 8192 bytes)) (record { refusal = 21; values = values })
+    pick (leb valueCount (length values)) (tookAs values (readOf true 8192 bytes)) (record { refusal = noRoom .number; values = values })

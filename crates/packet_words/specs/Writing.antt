@@ -6,6 +6,7 @@ use mathlib.Core.Bool.{Bool, true, not, _&&_}
 use lib.ListN.{length, getD}
 use lib.Dec.{leb, ltb, eqb}
 use Rattle.laws.specs.Choose.{pick}
+use Rattle.protocol.specs.Refusals.{badFlags, badLength, badType, noRoom}
 use Rattle.protocol.specs.declared.table.Found.{Found}
 use Rattle.protocol.specs.declared.table.Found.the-variants.{Row, Unknown}
 use Rattle.protocol.specs.declared.table.TypeRow.{TypeRow}
@@ -15,27 +16,26 @@ use Rattle.protocol.specs.declared.types.Fields.{Fields}
 use Rattle.protocol.specs.declared.types.Header.{Header}
 use Rattle.protocol.specs.declared.types.Written.{Written}
 use Rattle.protocol.specs.Flags.{connidFlag, cqDataFlag, hasFlag, rawAddressFlag}
-use Rattle.protocol.specs.Layout.{Field, layout, width}
+use Rattle.protocol.specs.Layout.{Field, ownFields, width}
 use Rattle.protocol.specs.Types.{rowOf}
 use Rattle.protocol.specs.Writing.{writeOf}
 use Rattle.packet_words.specs.Values.{valueCount}
 
 -- ---- the words of the values
 
-abbrev pub wordOf : Field → ℕ
-wordOf Field.msg-id = 1
-wordOf Field.recv-id = 2
-wordOf Field.send-id = 3
-wordOf Field.msg-length = 4
-wordOf Field.seg-length = 5
-wordOf Field.recv-length = 6
-wordOf Field.seg-offset = 7
-wordOf Field.credit-request = 8
-wordOf Field.tag = 9
-
--- the number that the words give a field
+-- the number that the words give an own field; padding and multiuse have none
 abbrev pub numberOf : List ℕ → Field → ℕ
-numberOf v f = getD v (wordOf f) 0
+numberOf v Field.msg-id = getD v 1 0
+numberOf v Field.recv-id = getD v 2 0
+numberOf v Field.send-id = getD v 3 0
+numberOf v Field.msg-length = getD v 4 0
+numberOf v Field.seg-length = getD v 5 0
+numberOf v Field.recv-length = getD v 6 0
+numberOf v Field.seg-offset = getD v 7 0
+numberOf v Field.credit-request = getD v 8 0
+numberOf v Field.tag = getD v 9 0
+numberOf v Field.multiuse = 0
+numberOf v Field.padding = 0
 
 abbrev pub typeWord : List ℕ → ℕ
 typeWord v = getD v 0 0
@@ -104,12 +104,16 @@ unfoldable pub fieldsFit : List ℕ → List Field → Bool
 fieldsFit v [] = true
 fieldsFit v (f ∷ fs) = ltb (numberOf v f) (256 ^ width f) && fieldsFit v fs
 
+-- a number of 32 bits, if it is there
+abbrev pub holds : ℕ → ℕ → Bool
+holds there n = pick (eqb there 0) true (ltb n (2 ^ 32))
+
 abbrev pub connidFits : List ℕ → Bool
-connidFits v = pick (eqb (connidWord v) 0) true (ltb (connidNumber v) (2 ^ 32))
+connidFits v = holds (connidWord v) (connidNumber v)
 
 -- the type's own fields, and a connid that is there
 unfoldable pub numbersFit : TypeRow → List ℕ → Bool
-numbersFit r v = fieldsFit v (layout r) && connidFits v
+numbersFit r v = fieldsFit v (ownFields r) && connidFits v
 
 -- ---- the writer
 
@@ -128,15 +132,15 @@ refusedPut k out size = record { refusal = k; out = out; size = size }
 
 -- 9; then 10; then a number that its field cannot hold, the first cause of 11; then the packet writer's own checks: lengths 11, 6, 21
 unfoldable pub writeTyped : Found → List ℕ → List ℕ → List ℕ → List ℕ → ℕ → Put
-writeTyped Unknown v raw body out size = refusedPut 9 out size
+writeTyped Unknown v raw body out size = refusedPut (badType .number) out size
 writeTyped (Row r) v raw body out size =
     pick (optionsFit r v)
     (pick (numbersFit r v)
     (putAs size (writeOf (headerIn v) raw body out .out) (writeOf (headerIn v) raw body out .answer))
-    (refusedPut 11 out size))
-    (refusedPut 10 out size)
+    (refusedPut (badLength .number) out size))
+    (refusedPut (badFlags .number) out size)
 
 -- with too few words nothing is written
 unfoldable pub writeFrom : List ℕ → List ℕ → List ℕ → List ℕ → ℕ → Put
 writeFrom v raw body out size =
-    pick (leb valueCount (length v)) (writeTyped (rowOf (typeWord v)) v raw body out size) (refusedPut 21 out size)
+    pick (leb valueCount (length v)) (writeTyped (rowOf (typeWord v)) v raw body out size) (refusedPut (noRoom .number) out size)

@@ -6,10 +6,10 @@ pub const VALUES: usize = 19;
 // header, and that a field cannot hold its number.
 pub(crate) const TAKEN: usize = 0;
 
-pub(crate) const FEW_WORDS: usize = 21;
+pub(crate) const FEW_WORDS: usize = protocol::NO_ROOM.number as usize;
 
-pub(crate) const BAD_TYPE: usize = 9;
+pub(crate) const BAD_TYPE: usize = protocol::BAD_TYPE.number as usize;
 
-pub(crate) const BAD_OPTION: usize = 10;
+pub(crate) const BAD_OPTION: usize = protocol::BAD_FLAGS.number as usize;
 
-pub(crate) const BAD_NUMBER: usize = 11;
+pub(crate) const BAD_NUMBER: usize = protocol::BAD_LENGTH.number as usize;

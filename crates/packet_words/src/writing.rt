@@ -5,26 +5,26 @@ use crate::types::BAD_TYPE;
 use crate::types::FEW_WORDS;
 use crate::types::TAKEN;
 use crate::types::VALUES;
+use protocol::CONNID;
+use protocol::CQ_DATA;
+use protocol::CREDIT_REQUEST;
 use protocol::Connid;
 use protocol::CqData;
 use protocol::Fields;
 use protocol::Found;
 use protocol::Header;
-use protocol::Shape;
+use protocol::MSG_ID;
+use protocol::RAW_ADDRESS;
+use protocol::RECV_ID;
+use protocol::SEND_ID;
 use protocol::TypeRow;
 use protocol::Written;
 ghost use mathlib.Core.Path.{_≡_};
 ghost use Prim.Native.Nat.{_<_, _≤_};
 ghost use lib.ListN.{length};
-ghost use Rattle.protocol.specs.Layout.{untagged};
-ghost use Rattle.packet_words.specs.Writing.{mayHave, optionsFit, fieldsFit, connidFits, numbersFit, fieldsIn, cqIn, connidIn, headerIn, writeTyped, writeFrom};
-
-// The flags of the optional headers.
-const RAW_ADDRESS: u16 = 0x1;
-
-const CQ_DATA: u16 = 0x2;
-
-const CONNID: u16 = 0x8000;
+ghost use Rattle.protocol.specs.Layout.{ownFields};
+ghost use Rattle.protocol.specs.Rules.{Sound};
+ghost use Rattle.packet_words.specs.Writing.{mayHave, optionsFit, fieldsFit, holds, numbersFit, fieldsIn, cqIn, connidIn, headerIn, writeTyped, writeFrom};
 
 // The least number that 32 bits do not hold.
 const WIDE: u64 = 0x1_0000_0000;
@@ -54,53 +54,43 @@ fn options_fit(row: TypeRow, values: &[u64]) -> bool
     may_have(row, CONNID, values[15])
 }
 
-// Whether each own field of such a type holds its number, but for the tag. A field of 64 bits does.
-fn fields_fit(shape: Shape, values: &[u64]) -> bool
-    requires { ⌜ 19 ≤ length (now values) ⌝ }
-    ensures { λ r. ⌜ r ≡ fieldsFit (now (values .entry)) (untagged shape) ⌝ }
+// Whether 32 bits hold a number, if it is there.
+fn holds(there: u64, word: u64) -> bool
+    ensures { λ r. ⌜ r ≡ holds there word ⌝ }
 {
-    match shape {
-        Shape::Cts => {
-            if WIDE <= values[3] {
-                return false;
-            }
-            values[2] < WIDE
-        }
-        Shape::CtsData => values[2] < WIDE,
-        Shape::Eager => values[1] < WIDE,
-        Shape::Medium => values[1] < WIDE,
-        Shape::LongCts => {
-            if WIDE <= values[1] {
-                return false;
-            }
-            if WIDE <= values[3] {
-                return false;
-            }
-            values[8] < WIDE
-        }
-    }
-}
-
-// A connid that is not there means nothing.
-fn connid_fits(values: &[u64]) -> bool
-    requires { ⌜ 19 ≤ length (now values) ⌝ }
-    ensures { λ r. ⌜ r ≡ connidFits (now (values .entry)) ⌝ }
-{
-    if values[15] == 0 {
+    if there == 0 {
         return true;
     }
-    values[16] < WIDE
+    word < WIDE
+}
+
+// Whether each own field of the type holds its number. A field of 64 bits does.
+fn fields_fit(row: TypeRow, values: &[u64]) -> bool
+    requires { ⌜ Sound row ⌝ }
+    requires { ⌜ 19 ≤ length (now values) ⌝ }
+    ensures { λ r. ⌜ r ≡ fieldsFit (now (values .entry)) (ownFields row) ⌝ }
+{
+    if !holds(row.places / MSG_ID % 16, values[1]) {
+        return false;
+    }
+    if !holds(row.places / RECV_ID % 16, values[2]) {
+        return false;
+    }
+    if !holds(row.places / SEND_ID % 16, values[3]) {
+        return false;
+    }
+    holds(row.places / CREDIT_REQUEST % 16, values[8])
 }
 
 fn numbers_fit(row: TypeRow, values: &[u64]) -> bool
+    requires { ⌜ Sound row ⌝ }
     requires { ⌜ 19 ≤ length (now values) ⌝ }
     ensures { λ r. ⌜ r ≡ numbersFit row (now (values .entry)) ⌝ }
 {
-    let shape = row.shape;
-    if !fields_fit(shape, values) {
+    if !fields_fit(row, values) {
         return false;
     }
-    connid_fits(values)
+    holds(values[15], values[16])
 }
 
 fn fields_in(values: &[u64]) -> Fields
@@ -168,6 +158,7 @@ fn write_as(
     out: &mut [u8],
     size: &mut usize,
 ) -> usize
+    requires { ⌜ Sound row ⌝ }
     requires { ⌜ 19 ≤ length (now values) ⌝ }
     ensures { λ r. ⌜ record { refusal = r; out = now (out .exit); size = now (size .exit) } ≡ writeTyped (Found.Row row) (now (values .entry)) (now («raw_address» .entry)) (now («data» .entry)) (now (out .entry)) (now (size .entry)) ⌝ }
 {

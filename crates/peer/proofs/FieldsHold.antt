@@ -3,20 +3,20 @@ use Prim.Native.Nat.{ℕ, _-_}
 use borrow.Author.Tests.{eqb-true}
 use lib.Dec.{leb, eqb}
 use lib.ListN.{length, getD}
-use mathlib.Core.Bool.{Bool, false}
-use mathlib.Core.List.{List, [], _∷_, _++_}
+use mathlib.Core.Bool.{false, _||_}
+use mathlib.Core.List.{List}
 use mathlib.Core.Logic.{⊎-elim}
 use mathlib.Core.Path.{_≡_, refl, sym, ap, _∙_, subst}
 use native.Mathlib.Omega.{arith}
 use Rattle.laws.specs.Choose.{pick}
 use Rattle.protocol.specs.ByType.{taggedTold}
-use Rattle.protocol.specs.Layout.{fieldsAt, fieldsIn, layout, numberAt, tag, untagged}
+use Rattle.protocol.specs.FieldNumbers.{fieldsIn, numberAt}
+use Rattle.protocol.specs.Layout.{layout, placeOf, tag}
 use Rattle.protocol.specs.Lengths.{lengthsFit}
 use Rattle.protocol.specs.Reading.{headerIn, packetIn, readOf}
 use Rattle.protocol.specs.Types.{row, rowIn, rowOf, rows}
 use Rattle.protocol.specs.declared.table.Found.the-variants.{Row}
-use Rattle.protocol.specs.declared.table.Shape.{Shape}
-use Rattle.protocol.specs.declared.table.Shape.the-variants.{Cts, CtsData, Eager, LongCts, Medium}
+use Rattle.protocol.specs.declared.table.Shape.the-variants.{Cts}
 use Rattle.protocol.specs.declared.table.TypeRow.{TypeRow}
 use Rattle.protocol.specs.declared.types.Packet.{Packet}
 use Rattle.protocol.specs.declared.types.Read.{Read}
@@ -25,20 +25,18 @@ use Rattle.peer.specs.Incomings.{incomingOf}
 use Rattle.peer.specs.PacketBytes.{typeNumber, typeSaid}
 use Rattle.peer.specs.declared.types.Incoming.{Incoming}
 use Rattle.wire.specs.LittleEndian.{leAt}
-use Rattle.laws.proofs.Choosing.{and-right}
+use Rattle.laws.proofs.Choosing.{and-right, clashing, or-cases}
 use Rattle.protocol.proofs.Accepted.{ReadAs, as-read, dataFrom, packetOf}
+use Rattle.protocol.proofs.RowLaws.{number-none}
 use Rattle.protocol.proofs.Served.{served-read}
-use Rattle.protocol.proofs.TableRule.{by-row}
+use Rattle.protocol.proofs.TableRule.{by-row, row-passes, sound}
 use Rattle.protocol.proofs.TypeWords.{tagged-in-words}
 
--- a type that is not tagged is read with tag 0
-no-tag : (s : Shape) (at : ℕ) (bs : List ℕ) → numberAt (untagged s ++ pick false (tag ∷ []) []) at bs tag ≡ 0
-unfolding numberAt pick
-no-tag Cts at bs = refl
-no-tag CtsData at bs = refl
-no-tag Eager at bs = refl
-no-tag Medium at bs = refl
-no-tag LongCts at bs = refl
+-- a type that is not tagged has no tag
+plain-untagged : (k : ℕ) (r : TypeRow) → rowOf k ≡ Row r → r .tagged ≡ false → placeOf r tag ≡ 0
+plain-untagged k r e x =
+    ⊎-elim (λ y. clashing (r .tagged) y x) (eqb-true (placeOf r tag) 0)
+    (or-cases (r .tagged) (eqb (placeOf r tag) 0) (row-passes (λ q. q .tagged || eqb (placeOf q tag) 0) refl k r e))
 
 -- a row's shape and tagged give its type's number
 numbered : (k : ℕ) (r : TypeRow) → rowOf k ≡ Row r → typeNumber (r .shape) (r .tagged) ≡ k
@@ -103,12 +101,11 @@ module _ (limit : ℕ) (bs : List ℕ) (q : Packet) (e : readOf false limit bs �
       size-of p ∙ eqb-true n (leAt 8 bs 8) (and-right (leb 1 n) (eqb n (leAt 8 bs 8)) (a .lengths))
 
   tag-read : taggedTold (getD bs 0 0) ≡ false → incomingOf q .tag ≡ 0
-  unfolding incomingOf packetIn headerIn fieldsIn layout
+  unfolding incomingOf packetIn headerIn fieldsIn
   tag-read x =
       let (r, a, p) = as-read limit bs q (served-read limit bs q e) in
       ap (λ (y : Packet). y .header .fields .tag) p
-      ∙ ap (λ (t : Bool). numberAt (untagged (r .shape) ++ pick t (tag ∷ []) []) (fieldsAt r) bs tag) (tagged-in-words (getD bs 0 0) r (a .row) ∙ x)
-      ∙ no-tag (r .shape) (fieldsAt r) bs
+      ∙ number-none r bs tag (sound (getD bs 0 0) r (a .row)) (plain-untagged (getD bs 0 0) r (a .row) (tagged-in-words (getD bs 0 0) r (a .row) ∙ x))
 
   told : Told bs (incomingOf q)
   unfolding rowOf rowIn pick incomingOf packetIn headerIn fieldsIn numberAt layout

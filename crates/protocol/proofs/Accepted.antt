@@ -9,9 +9,10 @@ use native.Mathlib.Omega.{arith}
 use Rattle.laws.specs.Choose.{pick}
 use Rattle.laws.specs.Parts.{storeAt}
 use Rattle.protocol.specs.ByType.{fieldsTold}
+use Rattle.protocol.specs.FieldNumbers.{fieldsIn}
 use Rattle.protocol.specs.Flags.{flagsFit, flagsOf}
 use Rattle.protocol.specs.InWords.{Check, checkAt, headIn, headerCut, noBase, overLimit, readerChecks, refusedAs, wrongFlags, wrongLengths, wrongType, wrongVersion}
-use Rattle.protocol.specs.Layout.{fieldsAt, fieldsIn, layout}
+use Rattle.protocol.specs.Layout.{layout}
 use Rattle.protocol.specs.Lengths.{lengthsFit}
 use Rattle.protocol.specs.Reading.{readOf}
 use Rattle.protocol.specs.Refusals.{refusal}
@@ -44,7 +45,7 @@ pub record ReadAs (limit : ℕ) (bs : List ℕ) (r : TypeRow) : Type 0 where
   pub row : rowOf (getD bs 0 0) ≡ Row r
   pub flags : flagsFit r (leAt 2 bs 2) ≡ true
   pub inside : dataFrom r (leAt 2 bs 2) bs ≤ length bs
-  pub lengths : lengthsFit (r .shape) (fieldsIn (layout r) (fieldsAt r) bs) (length bs - dataFrom r (leAt 2 bs 2) bs) ≡ true
+  pub lengths : lengthsFit (r .shape) (fieldsIn (layout r) 4 bs) (length bs - dataFrom r (leAt 2 bs 2) bs) ≡ true
 
 pub read-as : (limit : ℕ) (bs : List ℕ) (r : TypeRow) → ReadAs limit bs r → readOf true limit bs ≡ Read.Packet (packetOf r (leAt 2 bs 2) bs)
 unfolding admit pick

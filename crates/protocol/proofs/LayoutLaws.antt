@@ -1,36 +1,29 @@
--- Laws of fields over any list of them: their length, written fields are read, and read fields are written.
-use Prim.Native.Nat.{ℕ, _+_, _^_, _≤_, _<_}
-use borrow.Author.Tests.{eqb-true, not-true, eq-eqb}
+-- Laws of fields over any list of them: their length and places, and that written fields are read.
+use Prim.Native.Nat.{ℕ, _+_, _^_, _<_}
+use borrow.Author.Tests.{eq-eqb, eqb-true, ne-eqb}
 use lib.ListN.{length, getD, length-append}
-use mathlib.Core.Bool.{Bool, true, false, not, _&&_, _||_, false≢true, or-true}
+use mathlib.Core.Bool.{true, false, false≢true, or-true, true≢false}
 use mathlib.Core.List.{List, [], _∷_, _++_, append-assoc, map}
 use mathlib.Core.Logic.{⊎-elim}
 use mathlib.Core.Path.{_≡_, refl, sym, ap, ap₂, _∙_}
 use native.Mathlib.Omega.{arith}
 use Rattle.laws.specs.Choose.{pick}
-use Rattle.laws.specs.Parts.{part}
-use Rattle.protocol.specs.Layout.{Field, credit-request, fieldBytes, fieldsIn, layout, msg-id, msg-length, numberAt, numberIn, ordinal, recv-id, recv-length, sameField, seg-length, seg-offset, send-id, tag, untagged, width, widths}
-use Rattle.protocol.specs.Lengths.{lengthsFit}
-use Rattle.protocol.specs.Types.{row, rowOf}
-use Rattle.protocol.specs.declared.table.Found.the-variants.{Row}
-use Rattle.protocol.specs.declared.table.Shape.{Shape}
-use Rattle.protocol.specs.declared.table.Shape.the-variants.{Cts, CtsData, Eager, LongCts, Medium}
-use Rattle.protocol.specs.declared.table.TypeRow.{TypeRow}
-use Rattle.protocol.specs.declared.types.Fields.{Fields}
-use Rattle.wire.specs.LittleEndian.{leAt, leBytes}
-use Rattle.laws.proofs.Choosing.{and-left, and-right, pick-false, pick-true, tested}
-use Rattle.laws.proofs.Storing.{part-add}
-use Rattle.protocol.proofs.TableRule.{row-passes}
-use Rattle.wire.proofs.Laws.{bytes-again, le-behind, length-le}
+use Rattle.protocol.specs.FieldNumbers.{fieldBytes, fieldsIn, numberAt, numberIn, numberOf, numberThere}
+use Rattle.protocol.specs.Layout.{Field, credit-request, fields, has, isOwn, msg-id, msg-length, multiuse, ordinal, padding, placeIn, recv-id, recv-length, sameField, seg-length, seg-offset, select, send-id, tag, width, widths}
+use Rattle.protocol.specs.RoundTrip.{Numbers}
+use Rattle.protocol.specs.declared.types.Header.{Header}
+use Rattle.wire.specs.LittleEndian.{leBytes}
+use Rattle.laws.proofs.Choosing.{allTrue, and-left, and-right, pick-false, pick-true, tested}
+use Rattle.wire.proofs.Laws.{le-behind, length-le}
 
-pub length-fields : (gs : List Field) (v : Fields) → length (fieldBytes gs v) ≡ widths gs
+pub length-fields : (gs : List Field) (h : Header) → length (fieldBytes gs h) ≡ widths gs
 unfolding fieldBytes
-length-fields [] v = refl
-length-fields (g ∷ gs) v = rw (length-append, length-le, length-fields gs v)
+length-fields [] h = refl
+length-fields (g ∷ gs) h = rw (length-append, length-le, length-fields gs h)
 
 -- two fields with one ordinal are the same
 named : ℕ → Field
-named n = getD (msg-id ∷ recv-id ∷ send-id ∷ msg-length ∷ seg-length ∷ recv-length ∷ seg-offset ∷ credit-request ∷ []) n tag
+named n = getD fields n padding
 
 named-ordinal : (g : Field) → named (ordinal g) ≡ g
 unfolding named
@@ -43,100 +36,119 @@ named-ordinal recv-length = refl
 named-ordinal seg-offset = refl
 named-ordinal credit-request = refl
 named-ordinal tag = refl
+named-ordinal multiuse = refl
+named-ordinal padding = refl
 
-same-field : (g f : Field) → sameField g f ≡ true → g ≡ f
+pub same-field : (g f : Field) → sameField g f ≡ true → g ≡ f
 same-field g f e = sym (named-ordinal g) ∙ ap named (eqb-true _ _ e) ∙ named-ordinal f
 
--- f is one of the fields gs
-abbrev has : Field → List Field → Bool
-has f [] = false
-has f (g ∷ gs) = sameField g f || has f gs
-
--- a field that was written is read
-number-read : (gs : List Field) (v : Fields) (a c : List ℕ) (at : ℕ) (f : Field)
-    → numberIn v f < 256 ^ width f
-    → length a ≡ at
-    → has f gs ≡ true
-    → numberAt gs at (a ++ (fieldBytes gs v ++ c)) f ≡ numberIn v f
-unfolding numberAt fieldBytes pick
-number-read [] v a c at f x p m = absurd (false≢true m)
-number-read (g ∷ gs) v a c at f x p m =
-    ⊎-elim (λ e. pick-true _ _ e ∙ rw (same-field g f e, append-assoc) (le-behind (width f) (numberIn v f) a _ at x p))
-    (λ e.
-    let m : has f gs ≡ true = rw e at m in
-    let q : length (a ++ leBytes (width g) (numberIn v g)) ≡ at + width g = rw (length-append, length-le, p) in
-    pick-false _ _ e
-    ∙ rw (append-assoc, ← append-assoc a (leBytes (width g) (numberIn v g)) (fieldBytes gs v ++ c))
-    (number-read gs v (a ++ leBytes (width g) (numberIn v g)) c (at + width g) f x q m))
-    (tested (sameField g f))
-
-map-same : (u v : Field → ℕ) (gs : List Field) → ((f : Field) → has f gs ≡ true → u f ≡ v f) → map u gs ≡ map v gs
-map-same u v [] h = refl
-map-same u v (g ∷ gs) h =
-    ap₂ _∷_ (h g (rw (eq-eqb (ordinal g) (ordinal g) refl))) (map-same u v gs (λ f m. h f (rw (m, or-true))))
-
--- the numbers of `fieldsIn`
-number-in : (gs : List Field) (at : ℕ) (bs : List ℕ) (f : Field) → numberIn (fieldsIn gs at bs) f ≡ numberAt gs at bs f
-unfolding fieldsIn
-number-in gs at bs msg-id = refl
-number-in gs at bs recv-id = refl
-number-in gs at bs send-id = refl
-number-in gs at bs msg-length = refl
-number-in gs at bs seg-length = refl
-number-in gs at bs recv-length = refl
-number-in gs at bs seg-offset = refl
-number-in gs at bs credit-request = refl
-number-in gs at bs tag = refl
-
--- fields that were written are read
-pub fields-read : (gs : List Field) (v : Fields) (a c : List ℕ) (at : ℕ)
-    → ((f : Field) → numberIn v f < 256 ^ width f)
-    → length a ≡ at
-    → map (numberIn (fieldsIn gs at (a ++ (fieldBytes gs v ++ c)))) gs ≡ map (numberIn v) gs
-fields-read gs v a c at x p = map-same _ _ gs (λ f m. number-in gs at _ f ∙ number-read gs v a c at f (x f) p m)
-
--- no field stands among gs twice
-abbrev distinct : List Field → Bool
-distinct [] = true
-distinct (g ∷ gs) = not (has g gs) && distinct gs
-
-other-field : (gs : List Field) (g f : Field) → has g gs ≡ false → has f gs ≡ true → sameField g f ≡ false
+pub other-field : (gs : List Field) (g f : Field) → has g gs ≡ false → has f gs ≡ true → sameField g f ≡ false
 other-field gs g f n m = ⊎-elim (λ e. absurd (false≢true (sym n ∙ rw (same-field g f e) m))) (λ e. e) (tested (sameField g f))
 
--- fields that were read are written
-fields-again : (gs : List Field) (v : Fields) (bs : List ℕ) (at : ℕ)
-    → distinct gs ≡ true
-    → ((i : ℕ) → getD bs i 0 < 256)
-    → at + widths gs ≤ length bs
-    → ((f : Field) → has f gs ≡ true → numberIn v f ≡ numberAt gs at bs f)
-    → fieldBytes gs v ≡ part bs at (widths gs)
-unfolding fieldBytes numberAt part
-fields-again [] v bs at d b h e = refl
-fields-again (g ∷ gs) v bs at d b h e =
+-- ---- places
+
+-- a field that has a place among gs is one of them
+pub place-has : (gs : List Field) (at : ℕ) (f : Field) → (placeIn gs at f ≡ 0 → ⊥) → has f gs ≡ true
+unfolding placeIn
+place-has [] at f n = absurd (n refl)
+place-has (g ∷ gs) at f n =
+    ⊎-elim (λ e. rw e) (λ e. rw (place-has gs (at + width g) f (λ z. n (pick-false _ _ e ∙ z)), or-true)) (tested (sameField g f))
+
+-- and one of them has a place
+pub has-place : (gs : List Field) (at : ℕ) (f : Field) → 0 < at → has f gs ≡ true → placeIn gs at f ≡ 0 → ⊥
+unfolding placeIn
+has-place [] at f p m z = false≢true m
+has-place (g ∷ gs) at f p m z =
+    ⊎-elim (λ e. let x : at ≡ 0 = sym (pick-true _ _ e) ∙ z in omega arith)
+    (λ e. has-place gs (at + width g) f (omega arith) (rw e at m) (sym (pick-false _ _ e) ∙ z))
+    (tested (sameField g f))
+
+-- a field is read at its place
+pub number-there : (gs : List Field) (at : ℕ) (bs : List ℕ) (f : Field) → 0 < at
+    → numberAt gs at bs f ≡ numberThere (placeIn gs at f) (width f) bs
+unfolding numberAt placeIn numberThere pick
+number-there [] at bs f p = refl
+number-there (g ∷ gs) at bs f p =
+    ⊎-elim (λ e. rw (e, ne-eqb at 0 (λ z. omega arith)))
+    (λ e. pick-false _ _ e ∙ number-there gs (at + width g) bs f (omega arith) ∙ ap (λ n. numberThere n (width f) bs) (sym (pick-false _ _ e)))
+    (tested (sameField g f))
+
+-- ---- numbers
+
+-- the numbers of own fields
+number-in : (gs : List Field) (at : ℕ) (bs : List ℕ) (f : Field) → isOwn f ≡ true → numberIn (fieldsIn gs at bs) f ≡ numberAt gs at bs f
+unfolding fieldsIn
+number-in gs at bs msg-id o = refl
+number-in gs at bs recv-id o = refl
+number-in gs at bs send-id o = refl
+number-in gs at bs msg-length o = refl
+number-in gs at bs seg-length o = refl
+number-in gs at bs recv-length o = refl
+number-in gs at bs seg-offset o = refl
+number-in gs at bs credit-request o = refl
+number-in gs at bs tag o = refl
+number-in gs at bs multiuse o = absurd (false≢true o)
+number-in gs at bs padding o = absurd (false≢true o)
+
+own-number : (h : Header) (f : Field) → isOwn f ≡ true → numberOf h f ≡ numberIn (h .fields) f
+own-number h f o = ⊎-elim (λ e. absurd (true≢false (sym o ∙ rw e))) (λ e. pick-false _ _ e) (tested (sameField multiuse f))
+
+-- each number that is written fits its field
+number-fits : (h : Header) (f : Field) → Numbers h → numberOf h f < 256 ^ width f
+number-fits h msg-id x = unfold pick in x .fields msg-id
+number-fits h recv-id x = unfold pick in x .fields recv-id
+number-fits h send-id x = unfold pick in x .fields send-id
+number-fits h msg-length x = unfold pick in x .fields msg-length
+number-fits h seg-length x = unfold pick in x .fields seg-length
+number-fits h recv-length x = unfold pick in x .fields recv-length
+number-fits h seg-offset x = unfold pick in x .fields seg-offset
+number-fits h credit-request x = unfold pick in x .fields credit-request
+number-fits h tag x = unfold pick in x .fields tag
+number-fits h multiuse x = unfold pick in x .connid
+number-fits h padding x = unfold pick in x .fields padding
+
+-- ---- written fields are read
+
+pub number-read : (gs : List Field) (h : Header) (a c : List ℕ) (at : ℕ) (f : Field) → Numbers h → length a ≡ at → has f gs ≡ true
+    → numberAt gs at (a ++ (fieldBytes gs h ++ c)) f ≡ numberOf h f
+unfolding numberAt fieldBytes
+number-read [] h a c at f x p m = absurd (false≢true m)
+number-read (g ∷ gs) h a c at f x p m =
+    ⊎-elim (λ e. pick-true _ _ e ∙ rw (same-field g f e, append-assoc) (le-behind (width f) (numberOf h f) a _ at (number-fits h f x) p))
+    (λ e.
+    let m : has f gs ≡ true = rw e at m in
+    let q : length (a ++ leBytes (width g) (numberOf h g)) ≡ at + width g = rw (length-append, length-le, p) in
+    pick-false _ _ e
+    ∙ rw (append-assoc, ← append-assoc a (leBytes (width g) (numberOf h g)) (fieldBytes gs h ++ c))
+    (number-read gs h (a ++ leBytes (width g) (numberOf h g)) c (at + width g) f x q m))
+    (tested (sameField g f))
+
+map-own : (u v : Field → ℕ) (gs : List Field) → ((f : Field) → has f gs ≡ true → isOwn f ≡ true → u f ≡ v f)
+    → map u (select isOwn gs) ≡ map v (select isOwn gs)
+unfolding pick
+map-own u v [] h = refl
+map-own u v (g ∷ gs) h =
     let self : sameField g g ≡ true = eq-eqb (ordinal g) (ordinal g) refl in
-    let n : has g gs ≡ false = not-true (has g gs) (and-left (not (has g gs)) (distinct gs) d) in
-    let here : numberIn v g ≡ leAt (width g) bs at = e g (rw self) ∙ pick-true _ _ self in
-    let rest : (f : Field) → has f gs ≡ true → numberIn v f ≡ numberAt gs (at + width g) bs f =
-    λ f m. e f (rw (m, or-true)) ∙ pick-false _ _ (other-field gs g f n m) in
-    let again = fields-again gs v bs (at + width g) (and-right (not (has g gs)) (distinct gs) d) b (omega arith) rest in
-    rw (here, bytes-again (width g) bs at b (omega arith), again) (sym (part-add bs at (width g) (widths gs)))
+    let rest = map-own u v gs (λ f m. h f (rw (m, or-true))) in
+    ⊎-elim (λ e. rw e (ap₂ _∷_ (h g (rw self) e) rest)) (λ e. rw e rest) (tested (isOwn g))
 
-pub layout-again : (k : ℕ) (r : TypeRow) (bs : List ℕ) (at : ℕ)
-    → rowOf k ≡ Row r
-    → ((i : ℕ) → getD bs i 0 < 256)
-    → at + widths (layout r) ≤ length bs
-    → fieldBytes (layout r) (fieldsIn (layout r) at bs) ≡ part bs at (widths (layout r))
-unfolding layout pick
-layout-again k r bs at row b h =
-    fields-again (layout r) _ bs at (row-passes (λ q. distinct (layout q)) refl k r row) b h (λ f m. number-in (layout r) at bs f)
+-- the own fields of a packet that was written
+pub fields-read : (gs : List Field) (h : Header) (a c : List ℕ) (at : ℕ) → Numbers h → length a ≡ at
+    → map (numberIn (fieldsIn gs at (a ++ (fieldBytes gs h ++ c)))) (select isOwn gs) ≡ map (numberIn (h .fields)) (select isOwn gs)
+fields-read gs h a c at x p = map-own _ _ gs (λ f m o. number-in gs at _ f o ∙ number-read gs h a c at f x p m ∙ own-number h f o)
 
--- the rules on lengths ask for the type's own fields alone
-pub lengths-same : (s : Shape) (gs : List Field) (v w : Fields) (n : ℕ)
-    → map (numberIn v) (untagged s ++ gs) ≡ map (numberIn w) (untagged s ++ gs)
-    → lengthsFit s v n ≡ lengthsFit s w n
-unfolding lengthsFit
-lengths-same Cts gs v w n e = cc
-lengths-same CtsData gs v w n e = cc
-lengths-same Eager gs v w n e = cc
-lengths-same Medium gs v w n e = cc
-lengths-same LongCts gs v w n e = cc
+-- ---- two ways to number fields
+
+-- that agree on the fields gs agree on each of them
+map-has : (u v : Field → ℕ) (gs : List Field) (f : Field) → map u gs ≡ map v gs → has f gs ≡ true → u f ≡ v f
+map-has u v [] f e m = absurd (false≢true m)
+map-has u v (g ∷ gs) f e m =
+    let x : u g ≡ v g = cc in
+    let rest : map u gs ≡ map v gs = cc in
+    ⊎-elim (λ t. rw (← same-field g f t) x) (λ t. map-has u v gs f rest (rw t at m)) (tested (sameField g f))
+
+-- and on any of them
+pub map-among : (u v : Field → ℕ) (gs fs : List Field) → map u gs ≡ map v gs → allTrue (map (λ f. has f gs) fs) ≡ true → map u fs ≡ map v fs
+map-among u v gs [] e m = refl
+map-among u v gs (f ∷ fs) e m =
+    ap₂ _∷_ (map-has u v gs f e (and-left (has f gs) _ m)) (map-among u v gs fs e (and-right (has f gs) _ m))

@@ -2,6 +2,8 @@ pub mod TableRule
 pub mod RowLaws
 pub mod FlagLaws
 pub mod LayoutLaws
+pub mod KeptFields
+pub mod PutLaws
 pub mod OptionLaws
 pub mod ReadingLaws
 pub mod WritingLaws

@@ -10,7 +10,7 @@ use native.Mathlib.Omega.{arith}
 use Rattle.laws.specs.Choose.{pick}
 use Rattle.laws.specs.Parts.{part}
 use Rattle.protocol.specs.Flags.{connidFlag, cqDataFlag, flagsOf, hasFlag, rawAddressFlag}
-use Rattle.protocol.specs.Options.{connidBytes, connidIn, connidOrZero, cqDataBytes, cqDataIn, multiuseBytes, rawAddressBytes}
+use Rattle.protocol.specs.Options.{connidBytes, connidIn, connidOrZero, cqDataBytes, cqDataIn, rawAddressBytes}
 use Rattle.protocol.specs.RoundTrip.{cqDataOrZero}
 use Rattle.protocol.specs.Rules.{Sound}
 use Rattle.protocol.specs.Sections.{afterRaw, connidLength, cqDataLength, rawLength, rawSpan}
@@ -50,10 +50,6 @@ module _ (r : TypeRow) (h : Header) (s : Sound r) where
   pub connid-length : connidLength r (flagsOf r h) ≡ length (connidBytes r (h .connid))
   unfolding connidLength
   connid-length = rw (length-connid, connid-flag r h s)
-
-pub length-multiuse : (r : TypeRow) (q : Connid) → length (multiuseBytes r q) ≡ r .multiuse
-unfolding multiuseBytes
-length-multiuse r q = rw length-le
 
 -- a raw address that was written behind the bytes m
 module _ (r : TypeRow) (f : ℕ) (raw m c : List ℕ) (p : length m ≡ r .header) where
@@ -104,15 +100,10 @@ connid-behind r f (Connid.Present d) a c at w e x p =
     rw (e, n, le-behind-wide 4 (r .connid - 4) d a c at x p)
 
 -- a connid in multiuse
-pub connid-in-multiuse : (r : TypeRow) (f : ℕ) (q : Connid) (a c : List ℕ) (at : ℕ)
-    → r .multiuse ≡ 4
-    → hasFlag f connidFlag ≡ hasConnid q
-    → connidOrZero q < 256 ^ 4
-    → length a ≡ at
-    → connidIn f (a ++ (multiuseBytes r q ++ c)) at ≡ q
-unfolding connidIn multiuseBytes connidOrZero pick
-connid-in-multiuse r f Connid.Absent a c at w e x p = rw e
-connid-in-multiuse r f (Connid.Present d) a c at w e x p = rw (e, w, le-behind 4 d a c at x p)
+pub connid-there : (f : ℕ) (q : Connid) (bs : List ℕ) (at : ℕ) → hasFlag f connidFlag ≡ hasConnid q → leAt 4 bs at ≡ connidOrZero q → connidIn f bs at ≡ q
+unfolding connidIn connidOrZero pick
+connid-there f Connid.Absent bs at e x = rw e
+connid-there f (Connid.Present d) bs at e x = rw (e, x)
 
 -- an optional header that was read is there where its flag is
 pub has-cq-data : (f : ℕ) (bs : List ℕ) (at : ℕ) → hasCqData (cqDataIn f bs at) ≡ hasFlag f cqDataFlag

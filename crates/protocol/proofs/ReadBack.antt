@@ -2,6 +2,7 @@
 use Prim.Native.Nat.{ℕ, _+_, _-_, _^_, _≤_, _<_}
 use lib.ListN.{length, length-append}
 use lib.Seq.{drop-append-seam}
+use mathlib.Core.Bool.{true}
 use mathlib.Core.List.{List, [], _∷_, _++_, append-assoc, map}
 use mathlib.Core.Logic.{inl, inr}
 use mathlib.Core.Option.{some, none}
@@ -9,12 +10,13 @@ use mathlib.Core.Path.{_≡_, refl, sym, ap, _∙_}
 use native.Mathlib.Omega.{arith}
 use Rattle.laws.specs.Choose.{pick}
 use Rattle.laws.specs.Parts.{part}
+use Rattle.protocol.specs.FieldNumbers.{fieldsIn, numberAt, numberIn}
 use Rattle.protocol.specs.Flags.{flagsOf, hasFlag, rawAddressFlag}
-use Rattle.protocol.specs.Layout.{fieldsAt, fieldsIn, layout, numberIn}
-use Rattle.protocol.specs.Options.{connidBytes, connidIn, cqDataBytes, cqDataIn, multiuseBytes, rawAddressBytes}
+use Rattle.protocol.specs.Layout.{has, layout, multiuse, ownFields, placeOf}
+use Rattle.protocol.specs.Options.{connidBytes, connidIn, connidOrZero, cqDataBytes, cqDataIn, rawAddressBytes}
 use Rattle.protocol.specs.Reading.{headerIn, packetIn}
 use Rattle.protocol.specs.RoundTrip.{Numbers}
-use Rattle.protocol.specs.Rules.{Sound}
+use Rattle.protocol.specs.Rules.{ConnidPlace, Sound}
 use Rattle.protocol.specs.Sections.{afterRaw, connidAt, rawSpan}
 use Rattle.protocol.specs.Types.{rowOf}
 use Rattle.protocol.specs.Values.{bytesAt, ownNumbers, values, valuesIn}
@@ -27,12 +29,12 @@ use Rattle.wire.specs.LittleEndian.{leAt}
 use Rattle.laws.proofs.Storing.{part-rest}
 use Rattle.protocol.proofs.Accepted.{ReadAs, WrittenAs, connidFrom, dataFrom, packetOf}
 use Rattle.protocol.proofs.FlagLaws.{connid-flag, cq-data-flag, flags-small, raw-address-flag}
-use Rattle.protocol.proofs.LayoutLaws.{fields-read, lengths-same}
-use Rattle.protocol.proofs.OptionLaws.{after-raw, connid-behind, connid-in-multiuse, connid-length, cq-data-length, cq-data-read, raw-read}
-use Rattle.protocol.proofs.ReadingLaws.{connid-after, connid-at-four}
-use Rattle.protocol.proofs.RowLaws.{ConnidPlace, connid-place, header-bounds}
+use Rattle.protocol.proofs.LayoutLaws.{fields-read, number-read, place-has}
+use Rattle.protocol.proofs.OptionLaws.{after-raw, connid-behind, connid-length, connid-there, cq-data-length, cq-data-read, raw-read}
+use Rattle.protocol.proofs.RowLaws.{connid-after, connid-within, header-bounds, number-placed}
 use Rattle.protocol.proofs.TableRule.{row-kind, sound}
-use Rattle.protocol.proofs.WritingLaws.{length-base, length-before, length-mandatory, length-packet}
+use Rattle.protocol.proofs.TypeWords.{lengths-same}
+use Rattle.protocol.proofs.WritingLaws.{length-base, length-mandatory, length-packet}
 use Rattle.wire.proofs.Laws.{le-behind}
 
 -- the headers of a written packet up to the raw address, up to the CQ data, and all
@@ -45,7 +47,7 @@ toCqData r h raw = toRaw r h raw ++ cqDataBytes (h .«cq_data»)
 abbrev headers : TypeRow → Header → List ℕ → List ℕ
 headers r h raw = toCqData r h raw ++ connidBytes r (h .connid)
 
-own-numbers : (k : ℕ) (r : TypeRow) (v : Fields) → rowOf k ≡ Row r → ownNumbers (rowOf k) v ≡ map (numberIn v) (layout r)
+own-numbers : (k : ℕ) (r : TypeRow) (v : Fields) → rowOf k ≡ Row r → ownNumbers (rowOf k) v ≡ map (numberIn v) (ownFields r)
 unfolding ownNumbers
 own-numbers k r v e = rw e
 
@@ -79,12 +81,13 @@ module _ (h : Header) (raw body out : List ℕ) (r : TypeRow) (w : WrittenAs h r
   unfolding packetBytes mandatoryBytes baseBytes
   flags-read = simp append-assoc (le-behind 2 (flagsOf r h) (r .kind ∷ 4 ∷ []) _ 2 (flags-small r h rule) refl)
 
-  own-read : map (numberIn (fieldsIn (layout r) (fieldsAt r) (packetBytes r h raw body))) (layout r) ≡ map (numberIn (h .fields)) (layout r)
-  unfolding packetBytes mandatoryBytes
-  own-read =
-      let rest = rawAddressBytes (h .«raw_address») raw ++ (cqDataBytes (h .«cq_data») ++ (connidBytes r (h .connid) ++ body)) in
-      simp append-assoc (simp append-assoc at
-      (fields-read (layout r) (h .fields) (baseBytes (r .kind) (flagsOf r h) ++ multiuseBytes r (h .connid)) rest _ (x .fields) (length-before r h)))
+  own-read : map (numberIn (fieldsIn (layout r) 4 (packetBytes r h raw body))) (ownFields r) ≡ map (numberIn (h .fields)) (ownFields r)
+  unfolding packetBytes mandatoryBytes ownFields
+  own-read = simp append-assoc (fields-read (layout r) h (baseBytes (r .kind) (flagsOf r h)) _ 4 x (length-base _ _))
+
+  multiuse-read : has multiuse (layout r) ≡ true → numberAt (layout r) 4 (packetBytes r h raw body) multiuse ≡ connidOrZero (h .connid)
+  unfolding packetBytes mandatoryBytes pick
+  multiuse-read m = simp append-assoc (number-read (layout r) h (baseBytes (r .kind) (flagsOf r h)) _ 4 multiuse x (length-base _ _) m)
 
   address-read : pick (hasFlag (flagsOf r h) rawAddressFlag)
       (some (bytesAt (packetBytes r h raw body) (rawSpan r (flagsOf r h) (packetBytes r h raw body)))) none
@@ -98,14 +101,15 @@ module _ (h : Header) (raw body out : List ℕ) (r : TypeRow) (w : WrittenAs h r
       rw after-address (unfold packetBytes in simp append-assoc (simp append-assoc at
       (cq-data-read (flagsOf r h) (h .«cq_data») (toRaw r h raw) (connidBytes r (h .connid) ++ body) _ (cq-data-flag r h rule) (x .cqData) refl)))
 
-  connid-read : ConnidPlace (r .multiuse) (r .connid)
+  connid-read : ConnidPlace (placeOf r multiuse) (r .connid)
       → connidIn (flagsOf r h) (packetBytes r h raw body) (connidAt r (connidFrom r (flagsOf r h) (packetBytes r h raw body))) ≡ h .connid
   connid-read (inl m) =
       rw (connid-after r _ (m .0), connid-from) (unfold packetBytes in simp append-assoc (simp append-assoc at
       (connid-behind r (flagsOf r h) (h .connid) (toCqData r h raw) body _ (m .1) (connid-flag r h rule) (x .connid) refl)))
   connid-read (inr m) =
-      rw (connid-at-four r _ (m .0)) (unfold packetBytes mandatoryBytes in simp append-assoc
-      (connid-in-multiuse r (flagsOf r h) (h .connid) (baseBytes (r .kind) (flagsOf r h)) _ 4 (m .0) (connid-flag r h rule) (x .connid) (length-base _ _)))
+      let there = place-has (layout r) 4 multiuse (λ z. m .0 (sym (rule .placed multiuse) ∙ z)) in
+      rw (connid-within r _ (m .0)) (connid-there (flagsOf r h) (h .connid) _ _ (connid-flag r h rule)
+      (sym (number-placed r (packetBytes r h raw body) multiuse rule (m .0)) ∙ multiuse-read there))
 
   body-read : part (packetBytes r h raw body) (dataFrom r (flagsOf r h) (packetBytes r h raw body))
       (length (packetBytes r h raw body) - dataFrom r (flagsOf r h) (packetBytes r h raw body))
@@ -115,7 +119,6 @@ module _ (h : Header) (raw body out : List ℕ) (r : TypeRow) (w : WrittenAs h r
   -- the packet is taken, and its values are those that were written
 
   pub written-reads : (limit : ℕ) → length (packetBytes r h raw body) ≤ limit → ReadAs limit (packetBytes r h raw body) r
-  unfolding layout
   written-reads limit l =
       let n : length (packetBytes r h raw body) - dataFrom r (flagsOf r h) (packetBytes r h raw body) ≡ length body = omega (arith, data-from, headers-and-body) in
       record {
@@ -125,7 +128,7 @@ module _ (h : Header) (raw body out : List ℕ) (r : TypeRow) (w : WrittenAs h r
         row = unfold packetBytes mandatoryBytes baseBytes in ap rowOf (row-kind (h .kind) r (w .row)) ∙ w .row;
         flags = rw flags-read (w .flags);
         inside = rw flags-read (omega (arith, data-from, headers-and-body));
-        lengths = rw (flags-read, n) (lengths-same (r .shape) _ _ _ _ own-read ∙ w .lengths);
+        lengths = rw (flags-read, n) (lengths-same _ _ _ (h .kind) r (w .row) own-read ∙ w .lengths);
       }
 
   pub written-values : valuesIn (packetOf r (leAt 2 (packetBytes r h raw body) 2) (packetBytes r h raw body)) (packetBytes r h raw body) ≡ values h raw body
@@ -138,6 +141,6 @@ module _ (h : Header) (raw body out : List ℕ) (r : TypeRow) (w : WrittenAs h r
         own = own i;
         rawAddress = address-read i;
         cqData = cq-read i;
-        connid = connid-read (connid-place r rule) i;
+        connid = connid-read (rule .connidPlace) i;
         body = body-read i;
       })

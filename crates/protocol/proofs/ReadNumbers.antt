@@ -5,8 +5,9 @@ use lib.ListN.{getD}
 use mathlib.Core.Bool.{true}
 use mathlib.Core.List.{List, [], _∷_}
 use mathlib.Core.Path.{_≡_}
+use Rattle.protocol.specs.FieldNumbers.{fieldsIn, numberAt, numberIn}
 use Rattle.protocol.specs.Flags.{connidFlag, cqDataFlag, hasFlag}
-use Rattle.protocol.specs.Layout.{Field, credit-request, fieldsAt, fieldsIn, layout, msg-id, msg-length, numberAt, numberIn, recv-id, recv-length, sameField, seg-length, seg-offset, send-id, tag, width}
+use Rattle.protocol.specs.Layout.{Field, credit-request, layout, msg-id, msg-length, multiuse, padding, recv-id, recv-length, sameField, seg-length, seg-offset, send-id, tag, width}
 use Rattle.protocol.specs.Options.{connidIn, connidOrZero, cqDataIn}
 use Rattle.protocol.specs.Reading.{headerIn, packetIn, readOf}
 use Rattle.protocol.specs.RoundTrip.{Numbers, cqDataOrZero}
@@ -30,6 +31,8 @@ none-small recv-length = lit< tt
 none-small seg-offset = lit< tt
 none-small credit-request = lit< tt
 none-small tag = lit< tt
+none-small multiuse = lit< tt
+none-small padding = lit< tt
 
 module _ (bs : List ℕ) (b : (i : ℕ) → getD bs i 0 < 256) where
   number-small : (gs : List Field) (at : ℕ) (f : Field) → numberAt gs at bs f < 256 ^ width f
@@ -49,6 +52,8 @@ module _ (bs : List ℕ) (b : (i : ℕ) → getD bs i 0 < 256) where
   field-small gs at seg-offset = number-small gs at seg-offset
   field-small gs at credit-request = number-small gs at credit-request
   field-small gs at tag = number-small gs at tag
+  field-small gs at multiuse = none-small multiuse
+  field-small gs at padding = none-small padding
 
   cq-data-small : (f at : ℕ) → cqDataOrZero (cqDataIn f bs at) < 256 ^ 8
   unfolding cqDataIn
@@ -64,7 +69,7 @@ module _ (bs : List ℕ) (b : (i : ℕ) → getD bs i 0 < 256) where
       let (r, a, same) = as-read limit bs p e in
       rw same
       (record {
-        fields = field-small (layout r) (fieldsAt r);
+        fields = field-small (layout r) 4;
         cqData = cq-data-small (leAt 2 bs 2) _;
         connid = connid-small (leAt 2 bs 2) _;
       })

@@ -1,21 +1,21 @@
 -- The rule of the table of packet types: what `Sound` says holds of every row that is found, by one test over the whole table.
 use Prim.Native.Nat.{ℕ, _+_, _%_}
-use borrow.Author.Tests.{leb-true, eqb-true}
+use borrow.Author.Tests.{leb-true, eqb-true, eq-eqb, not-true}
 use lib.Dec.{leb, eqb}
 use lib.ListN.{getD}
-use mathlib.Core.Bool.{Bool, true, false, _||_}
+use mathlib.Core.Bool.{Bool, true, false, not, _&&_, _||_}
 use mathlib.Core.List.{List, [], _∷_, map}
 use mathlib.Core.Logic.{⊎-elim, ⊎-map}
-use mathlib.Core.Path.{_≡_, refl, subst}
+use mathlib.Core.Path.{_≡_, refl, sym, subst, _∙_}
 use native.Mathlib.Omega.{arith}
 use Rattle.laws.specs.Choose.{pick}
-use Rattle.protocol.specs.Layout.{fieldsAt, layout, widths}
-use Rattle.protocol.specs.Rules.{Sound, connidOf, multiuseOf}
+use Rattle.protocol.specs.Layout.{Field, credit-request, distinct, fields, layout, msg-id, msg-length, multiuse, ordinal, padding, placeIn, placeOf, recv-id, recv-length, seg-length, seg-offset, send-id, tag, width, widths}
+use Rattle.protocol.specs.Rules.{ConnidPlace, Sound}
 use Rattle.protocol.specs.Types.{row, rowIn, rowOf, rows}
 use Rattle.protocol.specs.declared.table.Found.the-variants.{Row}
 use Rattle.protocol.specs.declared.table.Shape.the-variants.{Cts}
 use Rattle.protocol.specs.declared.table.TypeRow.{TypeRow}
-use Rattle.laws.proofs.Choosing.{all-true, allTrue, and-left, and-right, or-cases, pick-cases}
+use Rattle.laws.proofs.Choosing.{all-true, allTrue, and-left, and-right, clashing, or-cases, pick-cases}
 
 -- a row that is found in a table has the type that was looked for, and passes a test that all its rows pass
 found-in : (test : TypeRow → Bool) (rs : List TypeRow) (k : ℕ) (r : TypeRow)
@@ -67,27 +67,74 @@ pub by-row : (P : ℕ → TypeRow → Type 0)
 unfolding rowOf
 by-row P a b c d e f g h k r x = each-in P rows (a, (b, (c, (d, (e, (f, (g, (h, tt)))))))) k r x
 
+-- a test that every field passes
+every-field : (test : Field → Bool) → allTrue (map test fields) ≡ true → (f : Field) → test f ≡ true
+every-field test e f = sym (at f) ∙ all-true (map test fields) e (ordinal f)
+  where
+    at : (f : Field) → getD (map test fields) (ordinal f) true ≡ test f
+    at msg-id = refl
+    at recv-id = refl
+    at send-id = refl
+    at msg-length = refl
+    at seg-length = refl
+    at recv-length = refl
+    at seg-offset = refl
+    at credit-request = refl
+    at tag = refl
+    at multiuse = refl
+    at padding = refl
+
 -- the rule as tests
+
+abbrev stands : TypeRow → Field → Bool
+stands r f = eqb (placeIn (layout r) 4 f) (placeOf r f)
+
+abbrev ends : TypeRow → Field → Bool
+ends r f = leb (placeOf r f + width f) (r .header)
+
+abbrev behind : ℕ → ℕ → Bool
+behind place connid = eqb place 0 && leb 4 connid
+
+abbrev within : ℕ → ℕ → Bool
+within place connid = not (eqb place 0) && eqb connid 0
+
+connid-place : (place connid : ℕ) → (behind place connid || within place connid) ≡ true → ConnidPlace place connid
+connid-place p c e =
+    ⊎-map (λ t. (eqb-true p 0 (and-left (eqb p 0) (leb 4 c) t), leb-true 4 c (and-right (eqb p 0) (leb 4 c) t)))
+    (λ t. (
+      λ z. clashing (eqb p 0) (eq-eqb p 0 z) (not-true (eqb p 0) (and-left (not (eqb p 0)) (eqb c 0) t)),
+      eqb-true c 0 (and-right (not (eqb p 0)) (eqb c 0) t),
+    ))
+    (or-cases (behind p c) (within p c) e)
+
 abbrev checks : TypeRow → List Bool
 checks r =
-    eqb (r .header) (fieldsAt r + widths (layout r))
-    ∷ eqb (r .multiuse) (multiuseOf (r .shape))
-    ∷ eqb (r .connid) (connidOf (r .shape))
+    eqb (r .header) (4 + widths (layout r))
+    ∷ allTrue (map (stands r) fields)
+    ∷ distinct (layout r)
+    ∷ allTrue (map (ends r) fields)
+    ∷ leb (r .header) 64
+    ∷ (eqb (r .connid) 0 || (eqb (r .connid) 4 || eqb (r .connid) 8))
+    ∷ (behind (placeOf r multiuse) (r .connid) || within (placeOf r multiuse) (r .connid))
     ∷ eqb (r .must % 4) 0
     ∷ leb (r .must) 12
     ∷ (eqb (r .may) 0x8003 || eqb (r .may) 0x8000)
     ∷ []
 
 pub sound : (k : ℕ) (r : TypeRow) → rowOf k ≡ Row r → Sound r
-unfolding layout pick
+unfolding layout placeIn pick
 sound k r e =
     record {
       header = eqb-true _ _ (holds 0);
-      multiuse = eqb-true _ _ (holds 1);
-      connid = eqb-true _ _ (holds 2);
-      must = eqb-true _ _ (holds 3);
-      small = leb-true _ _ (holds 4);
-      may = ⊎-map (eqb-true _ _) (eqb-true _ _) (or-cases _ _ (holds 5));
+      placed = λ f. eqb-true _ _ (every-field (stands r) (holds 1) f);
+      once = holds 2;
+      inside = λ f. leb-true _ _ (every-field (ends r) (holds 3) f);
+      short = leb-true _ _ (holds 4);
+      connid = ⊎-map (eqb-true _ _) (λ t. ⊎-map (eqb-true _ _) (eqb-true _ _) (or-cases _ _ t)) (or-cases _ _ (holds 5));
+      connidPlace = connid-place (placeOf r multiuse) (r .connid) (holds 6);
+      must = eqb-true _ _ (holds 7);
+      small = leb-true _ _ (holds 8);
+      may = ⊎-map (eqb-true _ _) (eqb-true _ _) (or-cases _ _ (holds 9));
     }
   where
     holds : (i : ℕ) → getD (checks r) i true ≡ true

@@ -4,14 +4,15 @@ use Prim.Native.Nat.{ℕ, _+_, _≤_}
 use borrow.Author.Tests.{eq-eqb}
 use lib.Dec.{eqb}
 use mathlib.Core.Bool.{true, false}
-use mathlib.Core.List.{List, map}
+use mathlib.Core.List.{List, [], _∷_, map}
 use mathlib.Core.Logic.{_⊎_, _↔_, inl, inr, ⊎-elim}
 use mathlib.Core.Path.{_≡_, refl, sym, ap, _∙_}
 use native.Mathlib.Omega.{arith}
 use Rattle.laws.specs.Choose.{pick}
 use Rattle.protocol.specs.ByType.{FlagRule, Known, LengthRule, connidHeader, fieldsTold, headerLength, ownTold, shapeTold, taggedTold}
+use Rattle.protocol.specs.FieldNumbers.{fieldsIn, numberAt, numberIn}
 use Rattle.protocol.specs.InWords.{TypesAreTheTables}
-use Rattle.protocol.specs.Layout.{fieldsAt, fieldsIn, layout, numberAt, numberIn}
+use Rattle.protocol.specs.Layout.{Field, has, layout, msg-length, ownFields, recv-length, seg-length, seg-offset}
 use Rattle.protocol.specs.Lengths.{lengthsFit}
 use Rattle.protocol.specs.Types.{admit, rowOf}
 use Rattle.protocol.specs.declared.table.Found.the-variants.{Row, Unknown}
@@ -19,9 +20,10 @@ use Rattle.protocol.specs.declared.table.Shape.{Shape}
 use Rattle.protocol.specs.declared.table.Shape.the-variants.{Cts, CtsData, Eager, LongCts, Medium}
 use Rattle.protocol.specs.declared.table.TypeRow.{TypeRow}
 use Rattle.protocol.specs.declared.types.Fields.{Fields}
-use Rattle.laws.proofs.Choosing.{clashing}
+use Rattle.laws.proofs.Choosing.{allTrue, clashing}
 use Rattle.laws.proofs.Comparing.{both-tests, eq-words, le-words}
-use Rattle.protocol.proofs.TableRule.{by-row}
+use Rattle.protocol.proofs.LayoutLaws.{map-among}
+use Rattle.protocol.proofs.TableRule.{by-row, row-passes}
 use Rattle.protocol.proofs.WordsHold.{types-are-the-tables}
 
 pub header-in-words : (k : ℕ) (r : TypeRow) → rowOf k ≡ Row r → r .header ≡ headerLength k
@@ -40,13 +42,13 @@ pub connid-in-words : (k : ℕ) (r : TypeRow) → rowOf k ≡ Row r → r .conni
 unfolding pick
 connid-in-words = by-row (λ k r. r .connid ≡ connidHeader k) refl refl refl refl refl refl refl refl
 
-pub fields-in-words : (bs : List ℕ) (k : ℕ) (r : TypeRow) → rowOf k ≡ Row r → fieldsIn (layout r) (fieldsAt r) bs ≡ fieldsTold bs k
+pub fields-in-words : (bs : List ℕ) (k : ℕ) (r : TypeRow) → rowOf k ≡ Row r → fieldsIn (layout r) 4 bs ≡ fieldsTold bs k
 unfolding fieldsIn numberAt layout pick
-fields-in-words bs = by-row (λ k r. fieldsIn (layout r) (fieldsAt r) bs ≡ fieldsTold bs k) refl refl refl refl refl refl refl refl
+fields-in-words bs = by-row (λ k r. fieldsIn (layout r) 4 bs ≡ fieldsTold bs k) refl refl refl refl refl refl refl refl
 
-pub own-in-words : (bs : List ℕ) (k : ℕ) (r : TypeRow) → rowOf k ≡ Row r → map (numberIn (fieldsTold bs k)) (layout r) ≡ ownTold bs k
-unfolding layout pick
-own-in-words bs = by-row (λ k r. map (numberIn (fieldsTold bs k)) (layout r) ≡ ownTold bs k) refl refl refl refl refl refl refl refl
+pub own-in-words : (bs : List ℕ) (k : ℕ) (r : TypeRow) → rowOf k ≡ Row r → map (numberIn (fieldsTold bs k)) (ownFields r) ≡ ownTold bs k
+unfolding ownFields layout pick
+own-in-words bs = by-row (λ k r. map (numberIn (fieldsTold bs k)) (ownFields r) ≡ ownTold bs k) refl refl refl refl refl refl refl refl
 
 -- ---- a type that is not in the table
 
@@ -152,3 +154,29 @@ module _ (v : Fields) (n : ℕ) where
       let a = shape-rule (r .shape) v n in
       let b = type-lengths k r e in
       (λ t. b .0 (a .0 t), λ w. a .1 (b .1 w))
+
+-- ---- the fields that the rule asks for
+
+abbrev asked : Shape → List Field
+asked Cts = recv-length ∷ []
+asked CtsData = seg-length ∷ []
+asked Eager = []
+asked Medium = seg-offset ∷ msg-length ∷ []
+asked LongCts = msg-length ∷ []
+
+asked-same : (s : Shape) (v w : Fields) (n : ℕ) → map (numberIn v) (asked s) ≡ map (numberIn w) (asked s) → lengthsFit s v n ≡ lengthsFit s w n
+unfolding lengthsFit
+asked-same Cts v w n e = cc
+asked-same CtsData v w n e = cc
+asked-same Eager v w n e = refl
+asked-same Medium v w n e = cc
+asked-same LongCts v w n e = cc
+
+-- are the type's own
+pub lengths-same : (v w : Fields) (n k : ℕ) (r : TypeRow) → rowOf k ≡ Row r
+    → map (numberIn v) (ownFields r) ≡ map (numberIn w) (ownFields r)
+    → lengthsFit (r .shape) v n ≡ lengthsFit (r .shape) w n
+unfolding ownFields layout pick
+lengths-same v w n k r row e =
+    let own = row-passes (λ q. allTrue (map (λ f. has f (ownFields q)) (asked (q .shape)))) refl k r row in
+    asked-same (r .shape) v w n (map-among (numberIn v) (numberIn w) (ownFields r) (asked (r .shape)) e own)

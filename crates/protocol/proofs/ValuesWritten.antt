@@ -2,33 +2,56 @@
 use Prim.Native.Nat.{ℕ}
 use lib.ListN.{length}
 use mathlib.Core.Bool.{Bool, true, false}
-use mathlib.Core.List.{List, [], _∷_, map}
+use mathlib.Core.List.{List, [], _∷_, _++_, map}
+use mathlib.Core.Logic.{⊎-elim}
 use mathlib.Core.Option.{Option, some, none}
-use mathlib.Core.Path.{_≡_, refl, sym, ap, _∙_}
+use mathlib.Core.Path.{_≡_, refl, sym, ap, ap₂, _∙_}
 use native.Mathlib.Omega.{arith}
 use Rattle.laws.specs.Choose.{pick}
+use Rattle.protocol.specs.FieldNumbers.{fieldBytes, numberIn, numberOf}
 use Rattle.protocol.specs.Flags.{flagsOf}
-use Rattle.protocol.specs.Layout.{Field, fieldBytes, layout, numberIn}
+use Rattle.protocol.specs.Layout.{Field, credit-request, isOwn, layout, msg-id, msg-length, multiuse, ownFields, padding, recv-id, recv-length, seg-length, seg-offset, select, send-id, tag, width}
 use Rattle.protocol.specs.Lengths.{lengthsFit}
-use Rattle.protocol.specs.Options.{rawAddressBytes}
+use Rattle.protocol.specs.Options.{connidOrZero, rawAddressBytes}
 use Rattle.protocol.specs.Types.{rowOf}
 use Rattle.protocol.specs.Values.{Values, ownNumbers, values}
 use Rattle.protocol.specs.Writing.{mandatoryBytes, packetBytes, writeAs, writeOf, writeTyped}
 use Rattle.protocol.specs.declared.table.Found.{Found}
 use Rattle.protocol.specs.declared.table.Found.the-variants.{Row, Unknown}
 use Rattle.protocol.specs.declared.table.TypeRow.{TypeRow}
-use Rattle.protocol.specs.declared.types.Fields.{Fields}
 use Rattle.protocol.specs.declared.types.Header.{Header}
-use Rattle.protocol.proofs.LayoutLaws.{lengths-same}
+use Rattle.wire.specs.LittleEndian.{leBytes}
+use Rattle.laws.proofs.Choosing.{clashing, tested}
+use Rattle.protocol.proofs.TypeWords.{lengths-same}
 
--- fields with the same numbers have the same bytes
-fields-same : (gs : List Field) (v w : Fields) → map (numberIn v) gs ≡ map (numberIn w) gs → fieldBytes gs v ≡ fieldBytes gs w
-unfolding fieldBytes
-fields-same [] v w e = refl
-fields-same (g ∷ gs) v w e =
-    let x : numberIn v g ≡ numberIn w g = cc in
-    let xs : map (numberIn v) gs ≡ map (numberIn w) gs = cc in
-    rw (x, fields-same gs v w xs)
+-- headers with the same connid and the same numbers of own fields have the same bytes of fields
+module _ (h g : Header) (c : h .connid ≡ g .connid) where
+  number-same : (f : Field) → (isOwn f ≡ true → numberIn (h .fields) f ≡ numberIn (g .fields) f) → numberOf h f ≡ numberOf g f
+  unfolding pick
+  number-same msg-id x = x refl
+  number-same recv-id x = x refl
+  number-same send-id x = x refl
+  number-same msg-length x = x refl
+  number-same seg-length x = x refl
+  number-same recv-length x = x refl
+  number-same seg-offset x = x refl
+  number-same credit-request x = x refl
+  number-same tag x = x refl
+  number-same multiuse x = ap connidOrZero c
+  number-same padding x = refl
+
+  fields-same : (gs : List Field) → map (numberIn (h .fields)) (select isOwn gs) ≡ map (numberIn (g .fields)) (select isOwn gs)
+      → fieldBytes gs h ≡ fieldBytes gs g
+  unfolding fieldBytes pick
+  fields-same [] e = refl
+  fields-same (f ∷ gs) e =
+      ⊎-elim (λ t.
+      let d = rw t at e in
+      let x : numberIn (h .fields) f ≡ numberIn (g .fields) f = cc d in
+      let xs : map (numberIn (h .fields)) (select isOwn gs) ≡ map (numberIn (g .fields)) (select isOwn gs) = cc d in
+      ap₂ _++_ (ap (leBytes (width f)) (number-same f (λ o. x))) (fields-same gs xs))
+      (λ t. ap₂ _++_ (ap (leBytes (width f)) (number-same f (λ o. clashing (isOwn f) o t))) (fields-same gs (rw t at e)))
+      (tested (isOwn f))
 
 -- a raw address that is there or not
 raw-same : (a b : Bool) (x y : List ℕ) → _≡_ {A = Option (List ℕ)} (pick a (some x) none) (pick b (some y) none)
@@ -64,34 +87,33 @@ module _ (h g : Header) (raw raw′ body body′ : List ℕ) (same : values h ra
   unfolding values
   body-same = ap (λ (v : Values). v .body) same
 
-  module _ (r : TypeRow) (own : map (numberIn (h .fields)) (layout r) ≡ map (numberIn (g .fields)) (layout r)) where
+  module _ (r : TypeRow) (row : rowOf (h .kind) ≡ Row r) (own : map (numberIn (h .fields)) (ownFields r) ≡ map (numberIn (g .fields)) (ownFields r)) where
     flags-same : flagsOf r h ≡ flagsOf r g
     unfolding flagsOf
     flags-same = rw (address-same .0, cq-same, connid-same)
 
     fit-same : lengthsFit (r .shape) (h .fields) (length body) ≡ lengthsFit (r .shape) (g .fields) (length body′)
-    unfolding layout
     fit-same =
-        lengths-same (r .shape) _ (h .fields) (g .fields) (length body) own
+        lengths-same (h .fields) (g .fields) (length body) (h .kind) r row own
         ∙ ap (λ (l : List ℕ). lengthsFit (r .shape) (g .fields) (length l)) body-same
 
     bytes-same : packetBytes r h raw body ≡ packetBytes r g raw′ body′
-    unfolding packetBytes mandatoryBytes
-    bytes-same = rw (flags-same, connid-same, cq-same, fields-same (layout r) (h .fields) (g .fields) own, address-same .1, body-same)
+    unfolding packetBytes mandatoryBytes ownFields
+    bytes-same = rw (flags-same, fields-same h g connid-same (layout r) own, connid-same, cq-same, address-same .1, body-same)
 
     row-same : (out : List ℕ) → writeAs r h raw body out ≡ writeAs r g raw′ body′ out
     unfolding writeAs
     row-same out = rw (flags-same, fit-same, bytes-same)
 
-  found-same : (o : Found) (out : List ℕ) → ownNumbers o (h .fields) ≡ ownNumbers o (g .fields)
+  found-same : (o : Found) (out : List ℕ) → rowOf (h .kind) ≡ o → ownNumbers o (h .fields) ≡ ownNumbers o (g .fields)
       → writeTyped o h raw body out ≡ writeTyped o g raw′ body′ out
   unfolding writeTyped ownNumbers
-  found-same Unknown out own = refl
-  found-same (Row r) out own = row-same r own out
+  found-same Unknown out row own = refl
+  found-same (Row r) out row own = row-same r row own out
 
   pub same-written : (out : List ℕ) → writeOf h raw body out ≡ writeOf g raw′ body′ out
   unfolding writeOf
   same-written out =
       let o : rowOf (g .kind) ≡ rowOf (h .kind) = ap rowOf (sym kind-same) in
-      found-same (rowOf (h .kind)) out (own-same ∙ ap (λ (o : Found). ownNumbers o (g .fields)) o)
+      found-same (rowOf (h .kind)) out refl (own-same ∙ ap (λ (o : Found). ownNumbers o (g .fields)) o)
       ∙ ap (λ (k : ℕ). writeTyped (rowOf k) g raw′ body′ out) kind-same

@@ -1,9 +1,9 @@
 -- A packet that was read is written again: each section's bytes are the packet's own, and the blank ones zero.
 use Prim.Native.Nat.{ℕ, _+_, _-_, _≤_, _<_}
 use borrow.Author.Tests.{ne-eqb}
-use lib.Dec.{eqb}
-use lib.ListN.{length, getD, drop, replicate, length-replicate}
-use mathlib.Core.Bool.{true, false}
+use lib.Dec.{eqb, lit<}
+use lib.ListN.{length, getD, drop, replicate, length-replicate, take-append-drop}
+use mathlib.Core.Bool.{Bool, true, false}
 use mathlib.Core.List.{List, [], _∷_, _++_, append-assoc}
 use mathlib.Core.Logic.{inl, inr, ⊎-elim}
 use mathlib.Core.Path.{_≡_, refl, sym, ap, ap₂, _∙_}
@@ -11,11 +11,13 @@ use native.Mathlib.Omega.{arith}
 use Rattle.laws.specs.Choose.{pick}
 use Rattle.laws.specs.Parts.{part, storeAt}
 use Rattle.protocol.specs.ByType.{FlagRule, bitOf, column}
+use Rattle.protocol.specs.FieldNumbers.{fieldsIn, numberAt}
 use Rattle.protocol.specs.Flags.{connidFlag, flagsOf, hasFlag, rawAddressFlag}
-use Rattle.protocol.specs.Layout.{fieldBytes, fieldsAt, fieldsIn, layout, widths}
-use Rattle.protocol.specs.Options.{connidBytes, connidIn, connidOrZero, cqDataBytes, cqDataIn, multiuseBytes, rawAddressBytes}
+use Rattle.protocol.specs.Layout.{credit-request, layout, msg-id, msg-length, multiuse, padding, placeOf, recv-id, recv-length, seg-length, seg-offset, send-id, tag, widths}
+use Rattle.protocol.specs.Options.{connidBytes, connidIn, connidOrZero, cqDataBytes, cqDataIn, rawAddressBytes}
 use Rattle.protocol.specs.Reading.{headerIn, packetIn}
 use Rattle.protocol.specs.RoundTrip.{blanked, blankedAs}
+use Rattle.protocol.specs.Rules.{ConnidPlace, Sound}
 use Rattle.protocol.specs.Sections.{afterRaw, connidAt, connidLength, cqDataLength, rawLength, rawSpan, span}
 use Rattle.protocol.specs.Types.{row, rowOf}
 use Rattle.protocol.specs.Values.{bytesAt}
@@ -28,27 +30,31 @@ use Rattle.protocol.specs.declared.types.Span.{Span}
 use Rattle.protocol.specs.declared.types.Written.{Written}
 use Rattle.wire.specs.LittleEndian.{leAt, leBytes}
 use Rattle.laws.proofs.Choosing.{pick-false, pick-true, tested}
-use Rattle.laws.proofs.Storing.{length-part, length-store, part-add, part-rest, parts-all, store-back, store-front, store-nothing}
+use Rattle.laws.proofs.Storing.{length-part, length-store, part-add, part-drop, part-rest, store-back, store-nothing}
 use Rattle.protocol.proofs.Accepted.{ReadAs, WrittenAs, connidFrom, dataFrom, packetOf, write-as}
 use Rattle.protocol.proofs.FlagLaws.{flags-again}
 use Rattle.protocol.proofs.FlagWords.{flags-in-words}
-use Rattle.protocol.proofs.LayoutLaws.{layout-again}
+use Rattle.protocol.proofs.KeptFields.{NumbersKept, fields-again, isBlank, length-zeroed-fields, zeroedFields}
+use Rattle.protocol.proofs.LayoutLaws.{has-place}
 use Rattle.protocol.proofs.OptionLaws.{cq-data-again, has-connid, has-cq-data, raw-again}
-use Rattle.protocol.proofs.ReadingLaws.{connid-after, connid-at-four}
-use Rattle.protocol.proofs.RowLaws.{ConnidPlace, connid-place}
+use Rattle.protocol.proofs.RowLaws.{connid-after, connid-within, number-placed}
 use Rattle.protocol.proofs.TableRule.{by-row, row-kind, rowAt, sound}
-use Rattle.wire.proofs.Laws.{bytes-again, bytes-again-wide, bytes-none, bytes-zero}
+use Rattle.wire.proofs.Laws.{bytes-again, bytes-again-wide, bytes-none}
 
--- the bytes of a packet that no value is read from: multiuse without its flag, and the padding of a connid
+-- the padding of a connid behind the other headers
 unfoldable blankOf : Connid → TypeRow → Packet → Span
-blankOf Connid.Absent r p = span 4 (r .multiuse)
+blankOf Connid.Absent r p = span 0 0
 blankOf (Connid.Present c) r p = span (p .«data» .at - (r .connid - 4)) (r .connid - 4)
 
--- the packet with these bytes zero
-abbrev zeroed : Connid → TypeRow → Packet → List ℕ → List ℕ
-zeroed c r p bs = storeAt bs (blankOf c r p .at) (replicate (blankOf c r p .size) 0)
+-- the packet with this padding zero
+abbrev padded : Connid → TypeRow → Packet → List ℕ → List ℕ
+padded c r p bs = storeAt bs (blankOf c r p .at) (replicate (blankOf c r p .size) 0)
 
--- the bytes between multiuse and a connid behind the other headers
+-- and the fields that no value is read from
+abbrev zeroed : ℕ → TypeRow → Packet → List ℕ → List ℕ
+zeroed f r p bs = zeroedFields (hasFlag f connidFlag) (layout r) 4 (padded (p .header .connid) r p bs)
+
+-- the bytes between the base header and a connid behind the other headers
 abbrev middle : TypeRow → ℕ → List ℕ → ℕ
 middle r f bs = widths (layout r) + rawLength r f bs + cqDataLength f
 
@@ -59,22 +65,55 @@ base-again [] b h e = absurd (omega arith)
 base-again (x ∷ []) b h e = absurd (omega arith)
 base-again (x ∷ y ∷ l) b h e = rw (bytes-again 2 (x ∷ y ∷ l) 2 b h, e)
 
-length-zeroed : (l : List ℕ) (at n : ℕ) → at + n ≤ length l → length (storeAt l at (replicate n 0)) ≡ length l
-length-zeroed l at n h = length-store l at (replicate n 0) (rw length-replicate h)
-
 module _ (bs : List ℕ) (b : (i : ℕ) → getD bs i 0 < 256) (k : ℕ) (r : TypeRow) (row : rowOf k ≡ Row r) (f : ℕ)
     (fits : dataFrom r f bs ≤ length bs) where
+  rule : Sound r
+  rule = sound k r row
+
+  header-fits : 4 + widths (layout r) ≤ length bs
+  unfolding afterRaw
+  header-fits = omega (arith, rule .header, fits)
+
+  -- the fields, with a connid in multiuse where it is flagged
+  numbers-kept : NumbersKept (hasFlag f connidFlag) (layout r) 4 bs (packetOf r f bs .header)
+  unfolding packetIn headerIn fieldsIn pick
+  numbers-kept msg-id m = refl
+  numbers-kept recv-id m = refl
+  numbers-kept send-id m = refl
+  numbers-kept msg-length m = refl
+  numbers-kept seg-length m = refl
+  numbers-kept recv-length m = refl
+  numbers-kept seg-offset m = refl
+  numbers-kept credit-request m = refl
+  numbers-kept tag m = refl
+  numbers-kept padding m = refl
+  numbers-kept multiuse m = ⊎-elim flagged plain (tested (hasFlag f connidFlag))
+    where
+      place : placeOf r multiuse ≡ 0 → ⊥
+      place z = has-place (layout r) 4 multiuse (lit< tt) m (rule .placed multiuse ∙ z)
+
+      at : ℕ
+      at = connidAt r (connidFrom r f bs)
+
+      flagged : hasFlag f connidFlag ≡ true
+          → connidOrZero (connidIn f bs at) ≡ pick (isBlank (hasFlag f connidFlag) multiuse) 0 (numberAt (layout r) 4 bs multiuse)
+      flagged e =
+          unfold connidIn connidOrZero pick in
+          rw e (ap (leAt 4 bs) (connid-within r (connidFrom r f bs) place) ∙ sym (number-placed r bs multiuse rule place))
+
+      plain : hasFlag f connidFlag ≡ false
+          → connidOrZero (connidIn f bs at) ≡ pick (isBlank (hasFlag f connidFlag) multiuse) 0 (numberAt (layout r) 4 bs multiuse)
+      plain e = unfold connidIn connidOrZero pick in rw e
+
   middle-again : (z : List ℕ)
-      → fieldBytes (layout r) (fieldsIn (layout r) (fieldsAt r) bs)
+      → part bs 4 (widths (layout r))
       ++ (rawAddressBytes (hasFlag f rawAddressFlag) (bytesAt bs (rawSpan r f bs)) ++ (cqDataBytes (cqDataIn f bs (afterRaw r f bs)) ++ z))
-      ≡ part bs (fieldsAt r) (middle r f bs) ++ z
+      ≡ part bs 4 (middle r f bs) ++ z
   unfolding afterRaw
   middle-again z =
-      let s = sound k r row in
-      let n : fieldsAt r + widths (layout r) ≡ r .header = sym (s .header) in
-      let m : fieldsAt r + (widths (layout r) + rawLength r f bs) ≡ r .header + rawLength r f bs = omega arith in
+      let n : 4 + widths (layout r) ≡ r .header = sym (rule .header) in
+      let m : 4 + (widths (layout r) + rawLength r f bs) ≡ r .header + rawLength r f bs = omega arith in
       rw (
-        layout-again k r bs (fieldsAt r) row b (omega arith),
         raw-again bs b r f (omega arith),
         cq-data-again bs b f (afterRaw r f bs) (omega arith),
         part-add,
@@ -83,51 +122,47 @@ module _ (bs : List ℕ) (b : (i : ℕ) → getD bs i 0 < 256) (k : ℕ) (r : Ty
         m,
       ) (simp append-assoc)
 
-  -- the packet as it is written again with the connid c: its own bytes, but for the blank ones
+  -- the packet as it is written again with the connid c behind the other headers: its own bytes, but for the padding
   abbrev Again : Connid → Packet → Type 0
   Again c p =
-      (part bs 0 4
-      ++ (multiuseBytes r c
-      ++ (part bs (fieldsAt r) (middle r f bs) ++ (connidBytes r c ++ drop (p .«data» .at) bs)))
-      ≡ zeroed c r p bs)
+      (part bs 0 4 ++ (part bs 4 (middle r f bs) ++ (connidBytes r c ++ drop (p .«data» .at) bs)) ≡ padded c r p bs)
       × (blankOf c r p .at + blankOf c r p .size ≤ length bs)
 
   module _ (p : Packet) (d : p .«data» .at ≡ dataFrom r f bs) where
-    absent-again : hasFlag f connidFlag ≡ false → Again Connid.Absent p
-    unfolding multiuseBytes connidBytes connidOrZero connidLength afterRaw blankOf pick
-    absent-again e =
-        let s = sound k r row in
-        let x : p .«data» .at ≡ fieldsAt r + middle r f bs = omega (arith, rw e at d) in
-        let zeros : multiuseBytes r Connid.Absent ≡ replicate (r .multiuse) 0 = bytes-zero (r .multiuse) in
-        (rw (x, zeros) (store-front bs 4 (r .multiuse) _ _ (length-replicate (r .multiuse) 0)), omega (arith, rw e at fits))
+    all-again : p .«data» .at ≡ 4 + middle r f bs → part bs 0 4 ++ (part bs 4 (middle r f bs) ++ drop (p .«data» .at) bs) ≡ bs
+    unfolding part
+    all-again x = rw (x, part-drop bs 4 (middle r f bs)) (take-append-drop 4 bs)
 
-    present-again : hasFlag f connidFlag ≡ true → ConnidPlace (r .multiuse) (r .connid)
-        → Again (Connid.Present (leAt 4 bs (connidAt r (connidFrom r f bs)))) p
-    unfolding multiuseBytes connidBytes connidOrZero connidLength afterRaw blankOf pick
-    present-again e (inl m) =
-        let s = sound k r row in
+    absent-again : hasFlag f connidFlag ≡ false → Again Connid.Absent p
+    unfolding connidBytes connidLength afterRaw blankOf pick
+    absent-again e =
+        let x : p .«data» .at ≡ 4 + middle r f bs = omega (arith, rw e at d, rule .header) in
+        (all-again x ∙ sym (store-nothing bs 0), omega arith)
+
+    present-again : (n : ℕ) → hasFlag f connidFlag ≡ true → ConnidPlace (placeOf r multiuse) (r .connid)
+        → n ≡ leAt 4 bs (connidAt r (connidFrom r f bs))
+        → Again (Connid.Present n) p
+    unfolding connidBytes connidLength afterRaw blankOf pick
+    present-again x e (inl m) q =
         let d = rw e at d in
         let fits = rw e at fits in
+        let h = rule .header in
         let i : connidAt r (connidFrom r f bs) ≡ 4 + middle r f bs = connid-after r _ (m .0) ∙ omega arith in
         let n : r .connid ≡ 4 + (r .connid - 4) = omega arith in
-        let c = ap₂ leBytes n (ap (leAt 4 bs) i) ∙ bytes-again-wide 4 (r .connid - 4) bs _ b (omega arith) in
-        let gone : leBytes (r .multiuse) (leAt 4 bs (connidAt r (connidFrom r f bs))) ≡ [] = ap₂ leBytes (m .0) refl ∙ bytes-none _ in
-        let a : 4 + r .multiuse ≡ 4 = omega arith in
+        let c = ap₂ leBytes n (q ∙ ap (leAt 4 bs) i) ∙ bytes-again-wide 4 (r .connid - 4) bs _ b (omega arith) in
         let z : p .«data» .at - (r .connid - 4) ≡ 4 + middle r f bs + 4 = omega arith in
         let y : p .«data» .at ≡ 4 + middle r f bs + 4 + (r .connid - 4) = omega arith in
-        (rw (gone, a, c, z, y) (store-back bs 4 (middle r f bs) 4 _ _ (length-replicate (r .connid - 4) 0)), omega arith)
-    present-again e (inr m) =
-        let s = sound k r row in
-        let x : p .«data» .at ≡ 4 + 4 + middle r f bs = omega (arith, rw e at d) in
-        let c = ap₂ leBytes (m .0) (ap (leAt 4 bs) (connid-at-four r (connidFrom r f bs) (m .0))) ∙ bytes-again 4 bs 4 b (omega (arith, rw e at fits)) in
-        let gone : leBytes (r .connid) (leAt 4 bs (connidAt r (connidFrom r f bs))) ≡ [] = ap₂ leBytes (m .1) refl ∙ bytes-none _ in
-        let a : 4 + r .multiuse ≡ 4 + 4 = omega arith in
+        (rw (c, z, y) (store-back bs 4 (middle r f bs) 4 _ _ (length-replicate (r .connid - 4) 0)), omega arith)
+    present-again x e (inr m) q =
+        let y : p .«data» .at ≡ 4 + middle r f bs = omega (arith, rw e at d, rule .header, m .1) in
+        let gone : leBytes (r .connid) x ≡ [] = ap₂ leBytes (m .1) refl ∙ bytes-none _ in
         let z : replicate {A = ℕ} (r .connid - 4) 0 ≡ [] = ap (λ n. replicate {A = ℕ} (n - 4) 0) (m .1) in
-        (rw (c, gone, a, x, z, store-nothing) (parts-all bs 4 4 (middle r f bs)), omega (arith, rw e at d, rw e at fits))
+        (rw (gone, z, store-nothing) (all-again y), omega (arith, d, fits, m .1))
 
     connid-again : Again (connidIn f bs (connidAt r (connidFrom r f bs))) p
     unfolding connidIn pick
-    connid-again = ⊎-elim (λ e. rw e (present-again e (connid-place r (sound k r row)))) (λ e. rw e (absent-again e)) (tested (hasFlag f connidFlag))
+    connid-again =
+        ⊎-elim (λ e. rw e (present-again _ e (rule .connidPlace) refl)) (λ e. rw e (absent-again e)) (tested (hasFlag f connidFlag))
 
 -- by the type's number: CTSDATA has no raw address and no CQ data before its connid
 module _ (f : ℕ) (bs : List ℕ) where
@@ -143,10 +178,10 @@ module _ (f : ℕ) (bs : List ℕ) where
       omega arith
 
   padding-zeroed : (x k : ℕ) (r : TypeRow) → rowOf k ≡ Row r → hasFlag f connidFlag ≡ true → FlagRule k f
-      → zeroed (Connid.Present x) r (packetOf r f bs) bs ≡ column bs ((4, storeAt bs 28 (replicate 4 0)) ∷ []) k
+      → padded (Connid.Present x) r (packetOf r f bs) bs ≡ column bs ((4, storeAt bs 28 (replicate 4 0)) ∷ []) k
   unfolding blankOf packetIn pick
   padding-zeroed x k r e t =
-      by-row (λ k r. FlagRule k f → zeroed (Connid.Present x) r (packetOf r f bs) bs ≡ column bs ((4, storeAt bs 28 (replicate 4 0)) ∷ []) k)
+      by-row (λ k r. FlagRule k f → padded (Connid.Present x) r (packetOf r f bs) bs ≡ column bs ((4, storeAt bs 28 (replicate 4 0)) ∷ []) k)
       (λ w. store-nothing bs _)
       ctsdata
       (λ w. store-nothing bs _)
@@ -162,26 +197,33 @@ module _ (f : ℕ) (bs : List ℕ) where
       ctsdata : FlagRule 4 f → storeAt bs (dataFrom (rowAt 1) f bs - 4) (replicate 4 0) ≡ storeAt bs 28 (replicate 4 0)
       ctsdata w = ap (λ (m : ℕ). storeAt bs m (replicate 4 0)) (padding-at t w)
 
-  multiuse-zeroed : (k : ℕ) (r : TypeRow) → rowOf k ≡ Row r
-      → zeroed Connid.Absent r (packetOf r f bs) bs ≡ column bs ((3, storeAt bs 4 (replicate 4 0)) ∷ []) k
-  unfolding blankOf pick
-  multiuse-zeroed =
-      by-row (λ k r. zeroed Connid.Absent r (packetOf r f bs) bs ≡ column bs ((3, storeAt bs 4 (replicate 4 0)) ∷ []) k) refl
-      (store-nothing bs 4)
-      (store-nothing bs 4)
-      (store-nothing bs 4)
-      (store-nothing bs 4)
-      (store-nothing bs 4)
-      (store-nothing bs 4)
-      (store-nothing bs 4)
+  -- of the fields, CTS's multiuse alone is blank
+  none-zeroed : (l : List ℕ) (k : ℕ) (r : TypeRow) → rowOf k ≡ Row r → zeroedFields true (layout r) 4 l ≡ l
+  unfolding layout pick
+  none-zeroed l = by-row (λ k r. zeroedFields true (layout r) 4 l ≡ l) refl refl refl refl refl refl refl refl
 
-  zeroed-in-words : (at k : ℕ) (r : TypeRow) → rowOf k ≡ Row r → FlagRule k f
-      → zeroed (connidIn f bs at) r (packetOf r f bs) bs ≡ blankedAs k f bs
-  unfolding connidIn hasFlag
-  zeroed-in-words at k r e w =
-      ⊎-elim (λ t. ap (λ (c : Connid). zeroed c r (packetOf r f bs) bs) (pick-true _ _ t) ∙ padding-zeroed _ k r e t w ∙ sym (pick-true _ _ t))
-      (λ t. ap (λ (c : Connid). zeroed c r (packetOf r f bs) bs) (pick-false _ _ t) ∙ multiuse-zeroed k r e ∙ sym (pick-false _ _ t))
-      (tested (hasFlag f connidFlag))
+  multiuse-zeroed : (l : List ℕ) (k : ℕ) (r : TypeRow) → rowOf k ≡ Row r
+      → zeroedFields false (layout r) 4 l ≡ column l ((3, storeAt l 4 (replicate 4 0)) ∷ []) k
+  unfolding layout pick
+  multiuse-zeroed l =
+      by-row (λ k r. zeroedFields false (layout r) 4 l ≡ column l ((3, storeAt l 4 (replicate 4 0)) ∷ []) k) refl refl refl refl refl refl refl refl
+
+  module _ (k : ℕ) (r : TypeRow) (e : rowOf k ≡ Row r) (w : FlagRule k f) where
+    zeroed-flagged : hasFlag f connidFlag ≡ true → zeroed f r (packetOf r f bs) bs ≡ blankedAs k f bs
+    unfolding packetIn headerIn connidIn hasFlag
+    zeroed-flagged t =
+        ap (λ (u : Bool). zeroedFields u (layout r) 4 (padded (packetOf r f bs .header .connid) r (packetOf r f bs) bs)) t
+        ∙ none-zeroed _ k r e
+        ∙ ap (λ (c : Connid). padded c r (packetOf r f bs) bs) (pick-true _ _ t)
+        ∙ padding-zeroed _ k r e t w
+        ∙ sym (pick-true _ _ t)
+
+    zeroed-plain : hasFlag f connidFlag ≡ false → zeroed f r (packetOf r f bs) bs ≡ blankedAs k f bs
+    unfolding packetIn headerIn connidIn hasFlag blankOf pick
+    zeroed-plain t = rw (t, store-nothing) (multiuse-zeroed bs k r e)
+
+    zeroed-in-words : zeroed f r (packetOf r f bs) bs ≡ blankedAs k f bs
+    zeroed-in-words = ⊎-elim zeroed-flagged zeroed-plain (tested (hasFlag f connidFlag))
 
 -- the packet p that was read from bs
 module _ (limit : ℕ) (bs : List ℕ) (r : TypeRow) (a : ReadAs limit bs r) (b : (i : ℕ) → getD bs i 0 < 256) where
@@ -196,22 +238,32 @@ module _ (limit : ℕ) (bs : List ℕ) (r : TypeRow) (a : ReadAs limit bs r) (b 
   unfolding packetIn headerIn
   flags-written = flags-again r (leAt 2 bs 2) _ (sound (getD bs 0 0) r (a .row)) (a .flags) refl (has-cq-data _ bs _) (has-connid _ bs _)
 
-  packet-zeroed : (packetBytes r (p .header) (bytesAt bs (p .«raw_address»)) (bytesAt bs (p .«data»)) ≡ zeroed (p .header .connid) r p bs)
-      × (length (zeroed (p .header .connid) r p bs) ≡ length bs)
+  packet-zeroed : (packetBytes r (p .header) (bytesAt bs (p .«raw_address»)) (bytesAt bs (p .«data»)) ≡ zeroed (leAt 2 bs 2) r p bs)
+      × (length (zeroed (leAt 2 bs 2) r p bs) ≡ length bs)
   unfolding packetBytes mandatoryBytes packetIn headerIn
   packet-zeroed =
-      let base = ap₂ baseBytes (row-kind (getD bs 0 0) r (a .row)) flags-written ∙ base-again bs b (a .based) (a .version) in
-      let (e, inside) = connid-again bs b (getD bs 0 0) r (a .row) (leAt 2 bs 2) (a .inside) p refl in (
-        simp append-assoc (rw (base, part-rest bs, middle-again bs b (getD bs 0 0) r (a .row) (leAt 2 bs 2) (a .inside)) e),
-        length-zeroed bs _ _ inside,
+      let k = getD bs 0 0 in
+      let f = leAt 2 bs 2 in
+      let base = ap₂ baseBytes (row-kind k r (a .row)) flags-written ∙ base-again bs b (a .based) (a .version) in
+      let (e, inside) = connid-again bs b k r (a .row) f (a .inside) p refl in
+      let room = header-fits bs b k r (a .row) f (a .inside) in
+      let s = sound k r (a .row) in
+      let n : length (padded (p .header .connid) r p bs) ≡ length bs = length-store bs _ _ (rw length-replicate inside) in
+      let again = fields-again (hasFlag f connidFlag) (layout r) (p .header) bs (part bs 0 4)
+      (rawAddressBytes (p .header .«raw_address») (bytesAt bs (p .«raw_address»))
+      ++ (cqDataBytes (p .header .«cq_data») ++ (connidBytes r (p .header .connid) ++ drop (p .«data» .at) bs)))
+      4 (s .once) b room (length-part bs 0 4 (omega (arith, room))) (numbers-kept bs b k r (a .row) f (a .inside)) in (
+        rw (base, part-rest bs) (simp append-assoc
+            (again ∙ ap (zeroedFields (hasFlag f connidFlag) (layout r) 4)
+            (ap (λ (l : List ℕ). part bs 0 4 ++ l) (middle-again bs b k r (a .row) f (a .inside) _) ∙ e))),
+        length-zeroed-fields (hasFlag f connidFlag) (layout r) _ 4 (omega (arith, room, n)) ∙ n,
       )
 
   packet-again : (packetBytes r (p .header) (bytesAt bs (p .«raw_address»)) (bytesAt bs (p .«data»)) ≡ blanked bs)
       × (length (blanked bs) ≡ length bs)
-  unfolding packetIn headerIn
   packet-again =
       let rule = flags-in-words (getD bs 0 0) r (leAt 2 bs 2) (a .row) .0 (a .flags) in
-      let e = zeroed-in-words (leAt 2 bs 2) bs _ (getD bs 0 0) r (a .row) rule in
+      let e = zeroed-in-words (leAt 2 bs 2) bs (getD bs 0 0) r (a .row) rule in
       (packet-zeroed .0 ∙ e, ap length (sym e) ∙ packet-zeroed .1)
 
   written-again : (out : List ℕ) → length bs ≤ 8192 → length bs ≤ length out

@@ -2,11 +2,10 @@
 use Prim.Native.Nat.{ℕ}
 use mathlib.Core.List.{List, []}
 use mathlib.Core.Bool.{false}
-use Rattle.protocol.specs.declared.table.Shape.the-variants.{Cts}
 use Rattle.protocol.specs.declared.types.Connid.{Connid}
 use Rattle.protocol.specs.declared.types.CqData.{CqData}
 use Rattle.protocol.specs.declared.types.Header.{Header}
-use Rattle.protocol.specs.Types.{row}
+use Rattle.protocol.specs.Types.{ctsRow}
 use Rattle.protocol.specs.Writing.{packetBytes}
 
 abbrev pub ctsHeader : ℕ → ℕ → ℕ → Header
@@ -31,4 +30,4 @@ ctsHeader sendId recvId recvLength =
 
 -- its bytes, as the packet writer writes them
 unfoldable pub ctsBytes : ℕ → ℕ → ℕ → List ℕ
-ctsBytes sendId recvId recvLength = packetBytes (row 3 Cts 24 4 0 false false 0x0 0x8000) (ctsHeader sendId recvId recvLength) [] []
+ctsBytes sendId recvId recvLength = packetBytes ctsRow (ctsHeader sendId recvId recvLength) [] []

@@ -1,17 +1,45 @@
--- The fields of each type (01, the table's column "Fields after type 1, version 1, flags 2"). Padding and multiuse are no fields.
-use Prim.Native.Nat.{ℕ, _+_}
-use mathlib.Core.List.{List, [], _∷_, _++_}
-use mathlib.Core.Bool.{Bool}
+-- The fields of a type (01, the table's column "Fields after type 1, version 1, flags 2"), by the places that the type's row gives them.
+use Prim.Native.Nat.{ℕ, _+_, _*_, _/_, _%_, _^_}
+use mathlib.Core.List.{List, [], _∷_, _++_, foldr}
+use mathlib.Core.Bool.{Bool, true, false, not, _&&_, _||_}
 use lib.Dec.{eqb}
 use Rattle.laws.specs.Choose.{pick}
-use Rattle.wire.specs.LittleEndian.{leBytes, leAt}
 use Rattle.protocol.specs.declared.table.TypeRow.{TypeRow}
-use Rattle.protocol.specs.declared.table.Shape.{Shape}
-use Rattle.protocol.specs.declared.table.Shape.the-variants.{Cts, CtsData, Eager, Medium, LongCts}
-use Rattle.protocol.specs.declared.types.Fields.{Fields}
 
 pub data Field : Type 0 where
-  msg-id recv-id send-id msg-length seg-length recv-length seg-offset credit-request tag : Field
+  msg-id recv-id send-id msg-length seg-length recv-length seg-offset credit-request tag multiuse padding : Field
+
+abbrev pub fields : List Field
+fields =
+    msg-id
+    ∷ recv-id
+    ∷ send-id
+    ∷ msg-length
+    ∷ seg-length
+    ∷ recv-length
+    ∷ seg-offset
+    ∷ credit-request
+    ∷ tag
+    ∷ multiuse
+    ∷ padding
+    ∷ []
+
+-- a field's number among them, which is its digit's in a row's places
+abbrev pub ordinal : Field → ℕ
+ordinal msg-id = 0
+ordinal recv-id = 1
+ordinal send-id = 2
+ordinal msg-length = 3
+ordinal seg-length = 4
+ordinal recv-length = 5
+ordinal seg-offset = 6
+ordinal credit-request = 7
+ordinal tag = 8
+ordinal multiuse = 9
+ordinal padding = 10
+
+abbrev pub sameField : Field → Field → Bool
+sameField g f = eqb (ordinal g) (ordinal f)
 
 -- a field's bytes
 abbrev pub width : Field → ℕ
@@ -24,89 +52,62 @@ width recv-length = 8
 width seg-offset = 8
 width credit-request = 4
 width tag = 8
+width multiuse = 4
+width padding = 4
 
--- the fields of a type in their order, but for the tag. The 8 bytes that 000 calls a MEDIUM packet's seg_length are the message's length (docs/DECISIONS.md)
-abbrev pub untagged : Shape → List Field
-untagged Cts = send-id ∷ recv-id ∷ recv-length ∷ []
-untagged CtsData = recv-id ∷ seg-length ∷ seg-offset ∷ []
-untagged Eager = msg-id ∷ []
-untagged Medium = msg-id ∷ msg-length ∷ seg-offset ∷ []
-untagged LongCts = msg-id ∷ msg-length ∷ send-id ∷ credit-request ∷ []
+-- ---- places
 
+-- the digit that puts field f at word w
+abbrev pub word : ℕ → Field → ℕ
+word w f = w * 16 ^ ordinal f
+
+-- the place that the digit with this unit gives
+abbrev pub placeBy : ℕ → ℕ → ℕ
+placeBy places unit = places / unit % 16 * 4
+
+-- where a field of the type stands; 0 where the type has no such field
+abbrev pub placeOf : TypeRow → Field → ℕ
+placeOf r f = placeBy (r .places) (16 ^ ordinal f)
+
+-- ---- the layout
+
+-- those of some fields that pass a test
+abbrev pub select : (Field → Bool) → List Field → List Field
+select test [] = []
+select test (f ∷ fs) = pick (test f) (f ∷ select test fs) (select test fs)
+
+-- the words behind type, version and flags
+abbrev words : List ℕ
+words = 1 ∷ 2 ∷ 3 ∷ 4 ∷ 5 ∷ 6 ∷ 7 ∷ 8 ∷ 9 ∷ 10 ∷ 11 ∷ 12 ∷ 13 ∷ 14 ∷ 15 ∷ []
+
+-- the fields of a type in the order of their places
 unfoldable pub layout : TypeRow → List Field
-layout r = untagged (r .shape) ++ pick (r .tagged) (tag ∷ []) []
+layout r = foldr (λ w gs. select (λ f. eqb (placeOf r f) (4 * w)) fields ++ gs) [] words
 
--- where the first of them stands: after type, version, flags and multiuse
-abbrev pub fieldsAt : TypeRow → ℕ
-fieldsAt r = 4 + r .multiuse
+-- "padding and multiuse are none"
+abbrev pub isOwn : Field → Bool
+isOwn f = not (sameField multiuse f || sameField padding f)
 
-abbrev pub numberIn : Fields → Field → ℕ
-numberIn v msg-id = v .«msg_id»
-numberIn v recv-id = v .«recv_id»
-numberIn v send-id = v .«send_id»
-numberIn v msg-length = v .«msg_length»
-numberIn v seg-length = v .«seg_length»
-numberIn v recv-length = v .«recv_length»
-numberIn v seg-offset = v .«seg_offset»
-numberIn v credit-request = v .«credit_request»
-numberIn v tag = v .tag
-
--- a number for each field, to tell two fields apart
-abbrev pub ordinal : Field → ℕ
-ordinal msg-id = 0
-ordinal recv-id = 1
-ordinal send-id = 2
-ordinal msg-length = 3
-ordinal seg-length = 4
-ordinal recv-length = 5
-ordinal seg-offset = 6
-ordinal credit-request = 7
-ordinal tag = 8
-
-abbrev pub sameField : Field → Field → Bool
-sameField g f = eqb (ordinal g) (ordinal f)
-
--- the bytes of the fields gs with the numbers v
-unfoldable pub fieldBytes : List Field → Fields → List ℕ
-fieldBytes [] v = []
-fieldBytes (g ∷ gs) v = leBytes (width g) (numberIn v g) ++ fieldBytes gs v
-
--- the number of field f in bytes bs that have the fields gs from `at` on; 0 where f is none of them
-unfoldable pub numberAt : List Field → ℕ → List ℕ → Field → ℕ
-numberAt [] at bs f = 0
-numberAt (g ∷ gs) at bs f = pick (sameField g f) (leAt (width f) bs at) (numberAt gs (at + width g) bs f)
-
--- the numbers of all fields, read so
-unfoldable pub fieldsIn : List Field → ℕ → List ℕ → Fields
-fieldsIn gs at bs =
-    record {
-      «msg_id» = numberAt gs at bs msg-id;
-      «recv_id» = numberAt gs at bs recv-id;
-      «send_id» = numberAt gs at bs send-id;
-      «msg_length» = numberAt gs at bs msg-length;
-      «seg_length» = numberAt gs at bs seg-length;
-      «recv_length» = numberAt gs at bs recv-length;
-      «seg_offset» = numberAt gs at bs seg-offset;
-      «credit_request» = numberAt gs at bs credit-request;
-      tag = numberAt gs at bs tag;
-    }
+-- the fields that a type has of its own
+unfoldable pub ownFields : TypeRow → List Field
+ownFields r = select isOwn (layout r)
 
 -- the bytes that fields take together
 abbrev pub widths : List Field → ℕ
 widths [] = 0
 widths (g ∷ gs) = width g + widths gs
 
--- no field has a number
-abbrev pub noFields : Fields
-noFields =
-    record {
-      «msg_id» = 0;
-      «recv_id» = 0;
-      «send_id» = 0;
-      «msg_length» = 0;
-      «seg_length» = 0;
-      «recv_length» = 0;
-      «seg_offset» = 0;
-      «credit_request» = 0;
-      tag = 0;
-    }
+-- where f stands among the fields gs, one behind the other from `at` on; 0 where it is none of them
+unfoldable pub placeIn : List Field → ℕ → Field → ℕ
+placeIn [] at f = 0
+placeIn (g ∷ gs) at f = pick (sameField g f) at (placeIn gs (at + width g) f)
+
+-- f is one of the fields gs
+abbrev pub has : Field → List Field → Bool
+has f [] = false
+has f (g ∷ gs) = sameField g f || has f gs
+
+-- no field stands among gs twice
+abbrev pub distinct : List Field → Bool
+distinct [] = true
+distinct (g ∷ gs) = not (has g gs) && distinct gs

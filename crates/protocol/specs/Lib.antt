@@ -1,6 +1,7 @@
 pub mod Types
 pub mod Flags
 pub mod Layout
+pub mod FieldNumbers
 pub mod Lengths
 pub mod Options
 pub mod Refusals

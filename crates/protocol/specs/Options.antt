@@ -30,9 +30,6 @@ unfoldable pub connidOrZero : Connid → ℕ
 connidOrZero Connid.Absent = 0
 connidOrZero (Connid.Present c) = c
 
-unfoldable pub multiuseBytes : TypeRow → Connid → List ℕ
-multiuseBytes r c = leBytes (r .multiuse) (connidOrZero c)
-
 -- as read at a place, where the flags f say so
 
 unfoldable pub cqDataIn : ℕ → List ℕ → ℕ → CqData

@@ -17,7 +17,8 @@ use Rattle.protocol.specs.declared.sections.Extent.{Extent}
 use Rattle.protocol.specs.declared.sections.Extent.the-variants.{Whole, Cut}
 use Rattle.protocol.specs.Types.{rowOf, admit}
 use Rattle.protocol.specs.Flags.{hasFlag, flagsFit, rawAddressFlag}
-use Rattle.protocol.specs.Layout.{layout, fieldsAt, fieldsIn}
+use Rattle.protocol.specs.FieldNumbers.{fieldsIn}
+use Rattle.protocol.specs.Layout.{layout}
 use Rattle.protocol.specs.Lengths.{lengthsFit}
 use Rattle.protocol.specs.Options.{cqDataIn, connidIn}
 use Rattle.protocol.specs.Sections.{span, extentOf}
@@ -28,7 +29,7 @@ unfoldable pub headerIn : TypeRow → ℕ → List ℕ → Sections → Header
 headerIn r f bs s =
     record {
       kind = r .kind;
-      fields = fieldsIn (layout r) (fieldsAt r) bs;
+      fields = fieldsIn (layout r) 4 bs;
       «raw_address» = hasFlag f rawAddressFlag;
       «cq_data» = cqDataIn f bs (s .«cq_at»);
       connid = connidIn f bs (s .«connid_at»);

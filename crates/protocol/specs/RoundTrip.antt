@@ -11,7 +11,8 @@ use Rattle.laws.specs.Parts.{storeAt}
 use Rattle.protocol.specs.ByType.{bitOf, column}
 use Rattle.protocol.specs.Checks.{gives}
 use Rattle.protocol.specs.InWords.{flagsIn, typeIn}
-use Rattle.protocol.specs.Layout.{Field, width, numberIn}
+use Rattle.protocol.specs.FieldNumbers.{numberIn}
+use Rattle.protocol.specs.Layout.{Field, width}
 use Rattle.protocol.specs.Options.{connidOrZero}
 use Rattle.protocol.specs.Reading.{readOf}
 use Rattle.protocol.specs.Says.{readSays, writtenSays}

@@ -4,38 +4,30 @@ use mathlib.Core.Path.{_≡_}
 use mathlib.Core.Bool.{true}
 use mathlib.Core.Logic.{_⊎_}
 use Rattle.protocol.specs.declared.table.TypeRow.{TypeRow}
-use Rattle.protocol.specs.declared.table.Shape.{Shape}
-use Rattle.protocol.specs.declared.table.Shape.the-variants.{Cts, CtsData, Eager, Medium, LongCts}
 use Rattle.protocol.specs.declared.sections.Sections.{Sections}
 use Rattle.protocol.specs.Flags.{hasFlag, cqDataFlag, connidFlag}
-use Rattle.protocol.specs.Layout.{layout, fieldsAt, widths}
+use Rattle.protocol.specs.Layout.{Field, distinct, layout, multiuse, placeIn, placeOf, width, widths}
 
--- bytes of the multiuse field, which is CTS's alone
-abbrev pub multiuseOf : Shape → ℕ
-multiuseOf Cts = 4
-multiuseOf CtsData = 0
-multiuseOf Eager = 0
-multiuseOf Medium = 0
-multiuseOf LongCts = 0
-
--- bytes of a connid that is not in multiuse: CTSDATA's has padding
-abbrev pub connidOf : Shape → ℕ
-connidOf Cts = 0
-connidOf CtsData = 8
-connidOf Eager = 4
-connidOf Medium = 4
-connidOf LongCts = 4
-
--- the widths at which connid and multiuse are written
+-- the widths at which a connid behind the other optional headers is written
 abbrev pub NumberWidth : ℕ → Type 0
 NumberWidth n = (n ≡ 0) ⊎ ((n ≡ 4) ⊎ (n ≡ 8))
 
+-- a connid stands behind the other optional headers, in so many bytes, or in multiuse, and not in both
+abbrev pub ConnidPlace : ℕ → ℕ → Type 0
+ConnidPlace place connid = ((place ≡ 0) × (4 ≤ connid)) ⊎ ((place ≡ 0 → ⊥) × (connid ≡ 0))
+
 -- what holds of every row of the table
 pub record Sound (r : TypeRow) : Type 0 where
-  -- the mandatory header is the base header, multiuse and the type's own fields
-  pub header : r .header ≡ fieldsAt r + widths (layout r)
-  pub multiuse : r .multiuse ≡ multiuseOf (r .shape)
-  pub connid : r .connid ≡ connidOf (r .shape)
+  -- the mandatory header is the base header and the fields behind it without a gap, each once and where the row says
+  pub header : r .header ≡ 4 + widths (layout r)
+  pub placed : (f : Field) → placeIn (layout r) 4 f ≡ placeOf r f
+  pub once : distinct (layout r) ≡ true
+  -- even a field that the type has not, at 0, would lie inside the header
+  pub inside : (f : Field) → placeOf r f + width f ≤ r .header
+  -- sums of lengths do not overflow
+  pub short : r .header ≤ 64
+  pub connid : NumberWidth (r .connid)
+  pub connidPlace : ConnidPlace (placeOf r multiuse) (r .connid)
   -- the flags that it must have are not those of the optional headers, and the flags that it may have are
   pub must : r .must % 4 ≡ 0
   pub small : r .must ≤ 12

@@ -11,6 +11,7 @@ use Rattle.protocol.specs.declared.sections.Sections.{Sections}
 use Rattle.protocol.specs.declared.sections.Extent.{Extent}
 use Rattle.protocol.specs.declared.sections.Extent.the-variants.{Whole, Cut}
 use Rattle.protocol.specs.Flags.{hasFlag, rawAddressFlag, cqDataFlag, connidFlag}
+use Rattle.protocol.specs.Layout.{multiuse, placeOf}
 
 abbrev pub span : ℕ → ℕ → Span
 span at size = record { at = at; size = size }
@@ -32,9 +33,9 @@ cqDataLength f = pick (hasFlag f cqDataFlag) 8 0
 unfoldable pub connidLength : TypeRow → ℕ → ℕ
 connidLength r f = pick (hasFlag f connidFlag) (r .connid) 0
 
--- the connid stands in multiuse, at 4, where the type has it, and after the CQ data where not
+-- the connid stands in multiuse where the type has it, and after the CQ data where not
 unfoldable pub connidAt : TypeRow → ℕ → ℕ
-connidAt r after = pick (eqb (r .multiuse) 0) after 4
+connidAt r after = pick (eqb (placeOf r multiuse) 0) after (placeOf r multiuse)
 
 -- the sections of a packet whose raw address lies at `raw` and ends before `at`
 abbrev pub sectionsAt : TypeRow → ℕ → Span → ℕ → Sections

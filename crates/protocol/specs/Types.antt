@@ -1,30 +1,36 @@
 -- The table of packet types (01: "One constant table, keyed by type, gives mandatory header lengths").
-use Prim.Native.Nat.{ℕ}
+use Prim.Native.Nat.{ℕ, _+_}
 use mathlib.Core.List.{List, [], _∷_}
 use mathlib.Core.Bool.{Bool, true, false, _||_}
 use lib.Dec.{eqb}
 use Rattle.laws.specs.Choose.{pick}
+use Rattle.protocol.specs.Layout.{credit-request, msg-id, msg-length, multiuse, recv-id, recv-length, seg-length, seg-offset, send-id, tag, word}
 use Rattle.protocol.specs.declared.table.TypeRow.{TypeRow}
 use Rattle.protocol.specs.declared.table.Shape.{Shape}
 use Rattle.protocol.specs.declared.table.Shape.the-variants.{Cts, CtsData, Eager, Medium, LongCts}
 use Rattle.protocol.specs.declared.table.Found.{Found}
 use Rattle.protocol.specs.declared.table.Found.the-variants.{Row, Unknown}
 
--- type, shape; bytes of the mandatory header, of multiuse and of the connid header; tagged, served; flags it must have, flags it may have
+-- type, shape; bytes of the mandatory header, where its fields stand, bytes of the connid header; tagged, served; flags it must have, flags it
+-- may have
 abbrev pub row : ℕ → Shape → ℕ → ℕ → ℕ → Bool → Bool → ℕ → ℕ → TypeRow
-row k s h m c t e must may =
-    record { kind = k; shape = s; header = h; multiuse = m; connid = c; tagged = t; served = e; must = must; may = may }
+row k s h p c t e must may =
+    record { kind = k; shape = s; header = h; places = p; connid = c; tagged = t; served = e; must = must; may = may }
 
+abbrev pub ctsRow : TypeRow
+ctsRow = row 3 Cts 24 (word 1 multiuse + word 2 send-id + word 3 recv-id + word 4 recv-length) 0 false false 0x0 0x8000
+
+-- The 8 bytes that 000 calls a MEDIUM packet's seg_length are the message's length (docs/DECISIONS.md)
 abbrev pub rows : List TypeRow
 rows =
-    row 3 Cts 24 4 0 false false 0x0 0x8000
-    ∷ row 4 CtsData 24 0 8 false true 0x0 0x8000
-    ∷ row 64 Eager 8 0 4 false true 0x4 0x8003
-    ∷ row 65 Eager 16 0 4 true true 0xc 0x8003
-    ∷ row 66 Medium 24 0 4 false true 0x4 0x8003
-    ∷ row 67 Medium 32 0 4 true true 0xc 0x8003
-    ∷ row 68 LongCts 24 0 4 false true 0x4 0x8003
-    ∷ row 69 LongCts 32 0 4 true true 0xc 0x8003
+    ctsRow
+    ∷ row 4 CtsData 24 (word 1 recv-id + word 2 seg-length + word 4 seg-offset) 8 false true 0x0 0x8000
+    ∷ row 64 Eager 8 (word 1 msg-id) 4 false true 0x4 0x8003
+    ∷ row 65 Eager 16 (word 1 msg-id + word 2 tag) 4 true true 0xc 0x8003
+    ∷ row 66 Medium 24 (word 1 msg-id + word 2 msg-length + word 4 seg-offset) 4 false true 0x4 0x8003
+    ∷ row 67 Medium 32 (word 1 msg-id + word 2 msg-length + word 4 seg-offset + word 6 tag) 4 true true 0xc 0x8003
+    ∷ row 68 LongCts 24 (word 1 msg-id + word 2 msg-length + word 4 send-id + word 5 credit-request) 4 false true 0x4 0x8003
+    ∷ row 69 LongCts 32 (word 1 msg-id + word 2 msg-length + word 4 send-id + word 5 credit-request + word 6 tag) 4 true true 0xc 0x8003
     ∷ []
 
 -- the first row of a table with this type

@@ -13,7 +13,8 @@ use Rattle.protocol.specs.declared.types.Fields.{Fields}
 use Rattle.protocol.specs.declared.types.Header.{Header}
 use Rattle.protocol.specs.declared.types.Packet.{Packet}
 use Rattle.protocol.specs.declared.types.Span.{Span}
-use Rattle.protocol.specs.Layout.{layout, numberIn}
+use Rattle.protocol.specs.FieldNumbers.{numberIn}
+use Rattle.protocol.specs.Layout.{ownFields}
 use Rattle.protocol.specs.Types.{rowOf}
 
 pub record Values : Type 0 where
@@ -27,7 +28,7 @@ pub record Values : Type 0 where
 
 unfoldable pub ownNumbers : Found → Fields → List ℕ
 ownNumbers Unknown v = []
-ownNumbers (Row r) v = map (numberIn v) (layout r)
+ownNumbers (Row r) v = map (numberIn v) (ownFields r)
 
 -- the values that a writer is given: the header, the raw address, of which the header says whether it is there, and the data
 unfoldable pub values : Header → List ℕ → List ℕ → Values

@@ -14,9 +14,10 @@ use Rattle.protocol.specs.declared.types.Refusal.{Refusal}
 use Rattle.protocol.specs.declared.types.Written.{Written}
 use Rattle.protocol.specs.Types.{rowOf}
 use Rattle.protocol.specs.Flags.{flagsOf, flagsFit}
-use Rattle.protocol.specs.Layout.{layout, fieldBytes}
+use Rattle.protocol.specs.FieldNumbers.{fieldBytes}
+use Rattle.protocol.specs.Layout.{layout}
 use Rattle.protocol.specs.Lengths.{lengthsFit}
-use Rattle.protocol.specs.Options.{multiuseBytes, rawAddressBytes, cqDataBytes, connidBytes}
+use Rattle.protocol.specs.Options.{rawAddressBytes, cqDataBytes, connidBytes}
 use Rattle.protocol.specs.Refusals.{aboveLimit, badType, badFlags, badLength, noRoom}
 
 -- type 1, version 1, flags 2
@@ -25,7 +26,7 @@ baseBytes kind flags = kind ∷ 4 ∷ leBytes 2 flags
 
 -- the mandatory header
 unfoldable pub mandatoryBytes : TypeRow → Header → List ℕ
-mandatoryBytes r h = baseBytes (r .kind) (flagsOf r h) ++ multiuseBytes r (h .connid) ++ fieldBytes (layout r) (h .fields)
+mandatoryBytes r h = baseBytes (r .kind) (flagsOf r h) ++ fieldBytes (layout r) h
 
 -- the bytes of a packet
 unfoldable pub packetBytes : TypeRow → Header → List ℕ → List ℕ → List ℕ

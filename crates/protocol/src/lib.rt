@@ -1,10 +1,26 @@
 // What a packet of EFA RDM protocol v4 is: its types here, the definitions of reading and writing in
 // specs/, and what is proved of them in proofs/. There is no function: reader and writer stand in `packet`.
+mod flags;
+mod places;
 mod refusals;
 mod sections;
 mod table;
 mod types;
 
+pub use flags::CONNID;
+pub use flags::CQ_DATA;
+pub use flags::RAW_ADDRESS;
+pub use places::CREDIT_REQUEST;
+pub use places::MSG_ID;
+pub use places::MSG_LENGTH;
+pub use places::MULTIUSE;
+pub use places::PADDING;
+pub use places::RECV_ID;
+pub use places::RECV_LENGTH;
+pub use places::SEG_LENGTH;
+pub use places::SEG_OFFSET;
+pub use places::SEND_ID;
+pub use places::TAG;
 pub use refusals::ABOVE_LIMIT;
 pub use refusals::BAD_FLAGS;
 pub use refusals::BAD_LENGTH;

@@ -1,6 +1,6 @@
 // What the table of packet types says of a type.
 
-// The fields that a type has of its own. A tagged type has a tag after them.
+// The kinds of packets, by which the rules on lengths are told apart.
 pub enum Shape {
     Cts,
     CtsData,
@@ -21,8 +21,8 @@ pub struct TypeRow {
     pub may: u16,
     // bytes of the mandatory header
     pub header: usize,
-    // bytes of the multiuse field, which comes before the type's own fields
-    pub multiuse: usize,
+    // where its fields stand: 4 bits a field, in words of 4 bytes; 0: the type has no such field
+    pub places: u64,
     // bytes that the connid takes after the other optional headers, with its padding
     pub connid: usize,
 }

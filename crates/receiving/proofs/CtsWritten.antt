@@ -2,7 +2,6 @@
 use Prim.Native.Nat.{ℕ, _≤_}
 use borrow.Author.Tests.{le-leb}
 use lib.ListN.{length}
-use mathlib.Core.Bool.{false}
 use mathlib.Core.List.{List, []}
 use mathlib.Core.Path.{_≡_, refl, ap, _∙_}
 use native.Mathlib.Omega.{arith}
@@ -10,25 +9,20 @@ use Rattle.laws.specs.Choose.{pick}
 use Rattle.laws.specs.Parts.{storeAt}
 use Rattle.protocol.specs.Cts.{ctsBytes, ctsHeader}
 use Rattle.protocol.specs.Flags.{connidBit, cqDataBit, flagsFit, flagsOf, rawAddressBit}
-use Rattle.protocol.specs.Layout.{fieldBytes, layout}
+use Rattle.protocol.specs.FieldNumbers.{fieldBytes}
+use Rattle.protocol.specs.Layout.{layout}
 use Rattle.protocol.specs.Lengths.{lengthsFit}
-use Rattle.protocol.specs.Options.{connidBytes, cqDataBytes, multiuseBytes, rawAddressBytes}
-use Rattle.protocol.specs.Types.{row, rowIn, rowOf}
+use Rattle.protocol.specs.Options.{connidBytes, cqDataBytes, rawAddressBytes}
+use Rattle.protocol.specs.Types.{ctsRow, rowIn, rowOf}
 use Rattle.protocol.specs.Writing.{baseBytes, mandatoryBytes, packetBytes, writeOf}
-use Rattle.protocol.specs.declared.table.Shape.the-variants.{Cts}
-use Rattle.protocol.specs.declared.table.TypeRow.{TypeRow}
 use Rattle.protocol.specs.declared.types.Written.{Written}
 use Rattle.wire.specs.LittleEndian.{leBytes}
 use Rattle.protocol.proofs.Accepted.{WrittenAs, write-as}
 use Rattle.protocol.specs.Writing as writing
 
 cts-length : (send recv n : ℕ) → length (ctsBytes send recv n) ≡ 24
-unfolding ctsBytes packetBytes mandatoryBytes baseBytes multiuseBytes fieldBytes layout rawAddressBytes cqDataBytes connidBytes leBytes pick
+unfolding ctsBytes packetBytes mandatoryBytes baseBytes fieldBytes layout rawAddressBytes cqDataBytes connidBytes leBytes pick
 cts-length send recv n = refl
-
--- its type's row
-abbrev ctsRow : TypeRow
-ctsRow = row 3 Cts 24 4 0 false false 0x0 0x8000
 
 written-as : (send recv n : ℕ) (out : List ℕ) → 24 ≤ length out → 1 ≤ n → WrittenAs (ctsHeader send recv n) [] [] out ctsRow
 unfolding ctsBytes

@@ -4,7 +4,6 @@ use mathlib.Core.Path.{sym}
 use native.Mathlib.Omega.{arith}
 use Rattle.protocol.specs.Options.{connidBytes}
 use Rattle.laws.proofs.Storing.{store-nothing}
-use Rattle.protocol.proofs.RowLaws.{connid-width}
 use Rattle.wire.proofs.Laws.{length-le}
 use Rattle.packet.proofs.options.write_connid.Statement.{statement}
 use Rattle.packet.proofs.options.write_connid.Tie as tie
@@ -19,7 +18,7 @@ write-number-requires : tie.Need-write-number-requires
 unfolding connidBytes
 write-number-requires c κs =
     let p = c .before .before .before .before .before .pre in
-    (connid-width _ (p .0), rw (c .before .before .connid .given .1, length-le) at (p .1))
+    (p .0 .connid, rw (c .before .before .connid .given .1, length-le) at (p .1))
 
 returns : tie.Need-returns
 unfolding connidBytes

@@ -12,7 +12,7 @@ use Rattle.packet.proofs.writer.total.Statement.{statement}
 use Rattle.packet.proofs.writer.total.Tie as tie
 
 -- the headers without the raw address are short
-head : (c : tie.After-head-length) → c .head-length .result ≤ 48
+head : (c : tie.After-head-length) → c .head-length .result ≤ 80
 head c = rw (c .head-length .ensures) (head-small (c .before .args .row) (c .before .args .flags) (c .before .pre))
 
 head-length-requires : tie.Need-head-length-requires

@@ -1,7 +1,6 @@
--- `packet_words::writing::numbers_fit` meets its contract: the tag holds every word.
+-- `packet_words::writing::numbers_fit` meets its contract.
 use borrow.Author.Tests.{not-true, not-false}
 use Rattle.packet_words.specs.Writing.{numbersFit}
-use Rattle.packet_words.proofs.Fitting.{own-fit}
 use borrow.Author.Needs.{needs}
 use Rattle.packet_words.proofs.writing.numbers_fit.Statement.{statement}
 use Rattle.packet_words.proofs.writing.numbers_fit.Tie as tie
@@ -11,14 +10,24 @@ fields-fit-requires c κs = search needs
 
 returns : tie.Need-returns
 unfolding numbersFit
-returns c = rw (own-fit _ (λ i. c .before .before .shared-slice-known .given i .fits), ← c .before .fields-fit .ensures, not-true (c .before .fields-fit .result) (c .if1 .taken))
+returns c = rw (← c .before .fields-fit .ensures, not-true (c .before .fields-fit .result) (c .if1 .taken))
 
-connid-fits-requires : tie.Need-connid-fits-requires
-connid-fits-requires c κs = search needs
+shared-slice-read-holds : tie.Need-shared-slice-read-holds
+shared-slice-read-holds c = search needs
+
+shared-slice-read-holds-2 : tie.Need-shared-slice-read-holds-2
+shared-slice-read-holds-2 c = search needs
+
+holds-requires : tie.Need-holds-requires
+holds-requires c κs = search needs
 
 returns-2 : tie.Need-returns-2
 unfolding numbersFit
-returns-2 c = rw (own-fit _ (λ i. c .before .before .before .shared-slice-known .given i .fits), ← c .before .before .fields-fit .ensures, not-false (c .before .before .fields-fit .result) (c .before .if1 .left)) (c .connid-fits .ensures)
+returns-2 c =
+    let f = c .before .before .before .before in
+    rw (← f .fields-fit .ensures, not-false (f .fields-fit .result) (c .before .before .before .if1 .left)) (c .holds .ensures)
 
 pub numbers-fit-spec : {M : Type 1} → statement M
-numbers-fit-spec = tie.close (tie.spec fields-fit-requires returns connid-fits-requires returns-2)
+numbers-fit-spec =
+    tie.close
+    (tie.spec fields-fit-requires returns shared-slice-read-holds shared-slice-read-holds-2 holds-requires returns-2)

@@ -1,7 +1,10 @@
 -- `packet_words::writing::write` meets its contract: no type has a number above 255.
 use borrow.Author.Tests.{lt-leb, le-leb}
+use mathlib.Core.Path.{sym, _∙_}
+use native.Mathlib.Omega.{arith}
 use Rattle.laws.specs.Choose.{pick}
 use Rattle.packet_words.specs.Writing.{writeFrom, writeTyped}
+use Rattle.protocol.proofs.TableRule.{sound}
 use Rattle.packet_words.proofs.Rows.{no-type}
 use borrow.Author.Needs.{needs}
 use Rattle.packet_words.proofs.writing.write.Statement.{statement}
@@ -31,7 +34,9 @@ enum-known-row : tie.Need-enum-known-row
 enum-known-row c = search needs
 
 write-as-requires : tie.Need-write-as-requires
-write-as-requires c κs = search needs
+write-as-requires c κs =
+    let w = c .before .before .before in
+    (sound _ _ (sym (w .before .before .find .ensures) ∙ w .row .given .1), omega arith)
 
 returns-3 : tie.Need-returns-3
 unfolding writeFrom writeTyped pick
