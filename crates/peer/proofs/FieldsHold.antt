@@ -29,7 +29,7 @@ use Rattle.laws.proofs.Choosing.{and-right, clashing, or-cases}
 use Rattle.protocol.proofs.Accepted.{ReadAs, as-read, dataFrom, packetOf}
 use Rattle.protocol.proofs.RowLaws.{number-none}
 use Rattle.protocol.proofs.Served.{served-read}
-use Rattle.protocol.proofs.TableRule.{by-row, row-passes, sound}
+use Rattle.protocol.proofs.TableRule.{row-passes, rows-say, sound}
 use Rattle.protocol.proofs.TypeWords.{tagged-in-words}
 
 -- a type that is not tagged has no tag
@@ -41,7 +41,7 @@ plain-untagged k r e x =
 -- a row's shape and tagged give its type's number
 numbered : (k : ℕ) (r : TypeRow) → rowOf k ≡ Row r → typeNumber (r .shape) (r .tagged) ≡ k
 unfolding pick
-numbered = by-row (λ k r. typeNumber (r .shape) (r .tagged) ≡ k) refl refl refl refl refl refl refl refl
+numbered = rows-say (λ k r. typeNumber (r .shape) (r .tagged)) (λ k. k) refl
 
 module _ {g h : Incoming} (p : g ≡ h) where
   id-of : g .id ≡ h .id

@@ -50,6 +50,22 @@ each-in P (q ∷ rs) a k r e =
     (λ h. each-in P rs (a .1) k r (h .1))
     (pick-cases (eqb (q .kind) k) (Row q) (rowIn rs k) (Row r) e)
 
+-- what the rows of a table say, each of its own type, is what is told of the type of a row that is found: one comparison for the whole table
+each-same : {A : Type 0} (says : ℕ → TypeRow → A) (told : ℕ → A) (rs : List TypeRow)
+    → map (λ (r : TypeRow). says (r .kind) r) rs ≡ map (λ (r : TypeRow). told (r .kind)) rs
+    → Each (λ k r. says k r ≡ told k) rs
+each-same says told [] e = tt
+each-same says told (r ∷ rs) e =
+    let here : says (r .kind) r ≡ told (r .kind) = cc in
+    let rest : map (λ (r : TypeRow). says (r .kind) r) rs ≡ map (λ (r : TypeRow). told (r .kind)) rs = cc in
+    (here, each-same says told rs rest)
+
+pub rows-say : {A : Type 0} (says : ℕ → TypeRow → A) (told : ℕ → A)
+    → map (λ (r : TypeRow). says (r .kind) r) rows ≡ map (λ (r : TypeRow). told (r .kind)) rows
+    → (k : ℕ) (r : TypeRow) → rowOf k ≡ Row r → says k r ≡ told k
+unfolding rowOf
+rows-say says told same k r e = each-in (λ k r. says k r ≡ told k) rows (each-same says told rows same) k r e
+
 -- the rows in their order
 abbrev pub rowAt : ℕ → TypeRow
 rowAt i = getD rows i (row 0 Cts 0 0 0 false false 0 0)

@@ -23,32 +23,32 @@ use Rattle.protocol.specs.declared.types.Fields.{Fields}
 use Rattle.laws.proofs.Choosing.{allTrue, clashing}
 use Rattle.laws.proofs.Comparing.{both-tests, eq-words, le-words}
 use Rattle.protocol.proofs.LayoutLaws.{map-among}
-use Rattle.protocol.proofs.TableRule.{by-row, row-passes}
+use Rattle.protocol.proofs.TableRule.{by-row, row-passes, rows-say}
 use Rattle.protocol.proofs.WordsHold.{types-are-the-tables}
 
 pub header-in-words : (k : ℕ) (r : TypeRow) → rowOf k ≡ Row r → r .header ≡ headerLength k
 unfolding pick
-header-in-words = by-row (λ k r. r .header ≡ headerLength k) refl refl refl refl refl refl refl refl
+header-in-words = rows-say (λ k r. r .header) headerLength refl
 
 pub shape-in-words : (k : ℕ) (r : TypeRow) → rowOf k ≡ Row r → r .shape ≡ shapeTold k
 unfolding pick
-shape-in-words = by-row (λ k r. r .shape ≡ shapeTold k) refl refl refl refl refl refl refl refl
+shape-in-words = rows-say (λ k r. r .shape) shapeTold refl
 
 pub tagged-in-words : (k : ℕ) (r : TypeRow) → rowOf k ≡ Row r → r .tagged ≡ taggedTold k
 unfolding pick
-tagged-in-words = by-row (λ k r. r .tagged ≡ taggedTold k) refl refl refl refl refl refl refl refl
+tagged-in-words = rows-say (λ k r. r .tagged) taggedTold refl
 
 pub connid-in-words : (k : ℕ) (r : TypeRow) → rowOf k ≡ Row r → r .connid ≡ connidHeader k
 unfolding pick
-connid-in-words = by-row (λ k r. r .connid ≡ connidHeader k) refl refl refl refl refl refl refl refl
+connid-in-words = rows-say (λ k r. r .connid) connidHeader refl
 
 pub fields-in-words : (bs : List ℕ) (k : ℕ) (r : TypeRow) → rowOf k ≡ Row r → fieldsIn (layout r) 4 bs ≡ fieldsTold bs k
 unfolding fieldsIn numberAt layout pick
-fields-in-words bs = by-row (λ k r. fieldsIn (layout r) 4 bs ≡ fieldsTold bs k) refl refl refl refl refl refl refl refl
+fields-in-words bs = rows-say (λ k r. fieldsIn (layout r) 4 bs) (fieldsTold bs) refl
 
 pub own-in-words : (bs : List ℕ) (k : ℕ) (r : TypeRow) → rowOf k ≡ Row r → map (numberIn (fieldsTold bs k)) (ownFields r) ≡ ownTold bs k
 unfolding ownFields layout pick
-own-in-words bs = by-row (λ k r. map (numberIn (fieldsTold bs k)) (ownFields r) ≡ ownTold bs k) refl refl refl refl refl refl refl refl
+own-in-words bs = rows-say (λ k r. map (numberIn (fieldsTold bs k)) (ownFields r)) (ownTold bs) refl
 
 -- ---- a type that is not in the table
 
