@@ -7,8 +7,11 @@ use protocol::Header;
 use protocol::RAW_ADDRESS;
 use protocol::TypeRow;
 ghost use mathlib.Core.Path.{_≡_};
-ghost use Prim.Native.Nat.{_<_, _≤_};
-ghost use Rattle.protocol.specs.Flags.{hasFlag, flagsFit, flagsOf, rawAddressBit, cqDataBit, connidBit};
+ghost use Prim.Native.Nat.{_<_};
+ghost use Rattle.laws.specs.Choose.{pick};
+ghost use Rattle.protocol.specs.Flags.{hasFlag, flagsFit, rawAddressFlag, cqDataFlag, connidFlag};
+ghost use Rattle.protocol.specs.Optional.{cq-data, flagged, flagsOf, hasConnid, hasCqData, raw-address};
+ghost use Rattle.protocol.specs.Rules.{Sound};
 
 // Whether a flag is set.
 pub(crate) fn has(flags: u16, flag: u16) -> bool
@@ -16,6 +19,19 @@ pub(crate) fn has(flags: u16, flag: u16) -> bool
     ensures { λ r. ⌜ r ≡ hasFlag flags flag ⌝ }
 {
     flags / flag % 2 == 1
+}
+
+// Whether a packet of this type and with these flags has a raw address, or CQ data.
+pub(crate) fn raw_address(row: TypeRow, flags: u16) -> bool
+    ensures { λ r. ⌜ r ≡ flagged row flags raw-address ⌝ }
+{
+    row.request && has(flags, RAW_ADDRESS)
+}
+
+pub(crate) fn cq_data(row: TypeRow, flags: u16) -> bool
+    ensures { λ r. ⌜ r ≡ flagged row flags cq-data ⌝ }
+{
+    row.request && has(flags, CQ_DATA)
 }
 
 // Whether a packet of this type may have these flags.
@@ -27,13 +43,13 @@ pub(crate) fn fit(row: TypeRow, flags: u16) -> bool
 }
 
 fn raw_address_bit(there: bool) -> u16
-    ensures { λ r. ⌜ r ≡ rawAddressBit there ⌝ }
+    ensures { λ r. ⌜ r ≡ pick there rawAddressFlag 0 ⌝ }
 {
     if there { RAW_ADDRESS } else { 0 }
 }
 
 fn cq_data_bit(cq_data: CqData) -> u16
-    ensures { λ r. ⌜ r ≡ cqDataBit «cq_data» ⌝ }
+    ensures { λ r. ⌜ r ≡ pick (hasCqData «cq_data») cqDataFlag 0 ⌝ }
 {
     match cq_data {
         CqData::Absent => 0,
@@ -42,7 +58,7 @@ fn cq_data_bit(cq_data: CqData) -> u16
 }
 
 fn connid_bit(connid: Connid) -> u16
-    ensures { λ r. ⌜ r ≡ connidBit connid ⌝ }
+    ensures { λ r. ⌜ r ≡ pick (hasConnid connid) connidFlag 0 ⌝ }
 {
     match connid {
         Connid::Absent => 0,
@@ -52,7 +68,7 @@ fn connid_bit(connid: Connid) -> u16
 
 // The flags that a packet with these optional headers is written with.
 pub(crate) fn written(row: TypeRow, header: Header) -> u16
-    requires { ⌜ row .must ≤ 12 ⌝ }
+    requires { ⌜ Sound row ⌝ }
     ensures { λ r. ⌜ r ≡ flagsOf row header ⌝ }
 {
     let raw = raw_address_bit(header.raw_address);

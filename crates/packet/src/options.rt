@@ -1,8 +1,5 @@
 // The optional headers, read from a packet and written into one. A writer answers where the next
 // header begins.
-use crate::flags;
-use protocol::CONNID;
-use protocol::CQ_DATA;
 use protocol::Connid;
 use protocol::CqData;
 use protocol::TypeRow;
@@ -11,27 +8,26 @@ ghost use mathlib.Core.Bool.{true};
 ghost use Prim.Native.Nat.{_+_, _≤_, _<_, _^_};
 ghost use lib.ListN.{length};
 ghost use Rattle.laws.specs.Parts.{storeAt};
-ghost use Rattle.protocol.specs.Flags.{hasFlag, cqDataFlag, connidFlag};
 ghost use Rattle.protocol.specs.Options.{rawAddressBytes, cqDataBytes, connidBytes, connidOrZero, cqDataIn, connidIn};
 ghost use Rattle.wire.specs.LittleEndian.{leBytes};
 ghost use Rattle.protocol.specs.Rules.{Sound, NumberWidth};
 
-pub(crate) fn read_cq_data(flags: u16, bytes: &[u8], at: usize) -> CqData
-    requires { ⌜ (hasFlag flags cqDataFlag ≡ true → at + 8 ≤ length (now bytes)) ⌝ }
-    ensures { λ r. ⌜ r ≡ cqDataIn flags (now (bytes .entry)) at ⌝ }
+pub(crate) fn read_cq_data(there: bool, bytes: &[u8], at: usize) -> CqData
+    requires { ⌜ (there ≡ true → at + 8 ≤ length (now bytes)) ⌝ }
+    ensures { λ r. ⌜ r ≡ cqDataIn there (now (bytes .entry)) at ⌝ }
 {
-    if flags::has(flags, CQ_DATA) {
+    if there {
         CqData::Present(wire::read_u64(bytes, at))
     } else {
         CqData::Absent
     }
 }
 
-pub(crate) fn read_connid(flags: u16, bytes: &[u8], at: usize) -> Connid
-    requires { ⌜ (hasFlag flags connidFlag ≡ true → at + 4 ≤ length (now bytes)) ⌝ }
-    ensures { λ r. ⌜ r ≡ connidIn flags (now (bytes .entry)) at ⌝ }
+pub(crate) fn read_connid(there: bool, bytes: &[u8], at: usize) -> Connid
+    requires { ⌜ (there ≡ true → at + 4 ≤ length (now bytes)) ⌝ }
+    ensures { λ r. ⌜ r ≡ connidIn there (now (bytes .entry)) at ⌝ }
 {
-    if flags::has(flags, CONNID) {
+    if there {
         Connid::Present(wire::read_u32(bytes, at))
     } else {
         Connid::Absent

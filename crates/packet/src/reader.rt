@@ -12,12 +12,12 @@ use protocol::BAD_FLAGS;
 use protocol::BAD_LENGTH;
 use protocol::BAD_TYPE;
 use protocol::BAD_VERSION;
+use protocol::CONNID;
 use protocol::CUT_SHORT;
 use protocol::Extent;
 use protocol::Found;
 use protocol::Header;
 use protocol::Packet;
-use protocol::RAW_ADDRESS;
 use protocol::Read;
 use protocol::Refusal;
 use protocol::Sections;
@@ -44,13 +44,13 @@ fn header(row: TypeRow, flags: u16, bytes: &[u8], at: Sections) -> Header
 {
     let fields = layout::read(row, bytes);
     let cq_at = at.cq_at;
-    let cq_data = options::read_cq_data(flags, bytes, cq_at);
+    let cq_data = options::read_cq_data(flags::cq_data(row, flags), bytes, cq_at);
     let connid_at = at.connid_at;
-    let connid = options::read_connid(flags, bytes, connid_at);
+    let connid = options::read_connid(flags::has(flags, CONNID), bytes, connid_at);
     Header {
         kind: row.kind,
         fields,
-        raw_address: flags::has(flags, RAW_ADDRESS),
+        raw_address: flags::raw_address(row, flags),
         cq_data,
         connid,
     }

@@ -2,23 +2,22 @@
 use crate::flags;
 use crate::layout;
 use protocol::CONNID;
-use protocol::CQ_DATA;
 use protocol::Extent;
 use protocol::MULTIUSE;
-use protocol::RAW_ADDRESS;
 use protocol::Sections;
 use protocol::Span;
 use protocol::TypeRow;
 ghost use mathlib.Core.Path.{_≡_};
 ghost use Prim.Native.Nat.{_<_, _^_};
-ghost use Rattle.protocol.specs.Sections.{cqDataLength, connidLength, connidAt, sectionsFrom, extentOf};
+ghost use Rattle.protocol.specs.Sections.{connidAt, extentOf};
+ghost use Rattle.protocol.specs.Steps.{cqDataLength, connidLength, sectionsFrom};
 ghost use Rattle.protocol.specs.Rules.{Sound};
 
 // The bytes that CQ data and connid take where they are flagged.
-pub(crate) fn cq_data_length(flags: u16) -> usize
-    ensures { λ r. ⌜ r ≡ cqDataLength flags ⌝ }
+pub(crate) fn cq_data_length(row: TypeRow, flags: u16) -> usize
+    ensures { λ r. ⌜ r ≡ cqDataLength row flags ⌝ }
 {
-    if flags::has(flags, CQ_DATA) { 8 } else { 0 }
+    if flags::cq_data(row, flags) { 8 } else { 0 }
 }
 
 pub(crate) fn connid_length(row: TypeRow, flags: u16) -> usize
@@ -44,7 +43,7 @@ fn from(row: TypeRow, flags: u16, raw: Span, at: usize, n: usize) -> Extent
     requires { ⌜ at < 2 ^ 48 ⌝ }
     ensures { λ r. ⌜ r ≡ sectionsFrom row flags raw at n ⌝ }
 {
-    let after = at + cq_data_length(flags);
+    let after = at + cq_data_length(row, flags);
     let data_at = after + connid_length(row, flags);
     if n < data_at {
         return Extent::Cut;
@@ -67,7 +66,7 @@ pub(crate) fn find(row: TypeRow, flags: u16, bytes: &[u8]) -> Extent
     if n < at {
         return Extent::Cut;
     }
-    if !flags::has(flags, RAW_ADDRESS) {
+    if !flags::raw_address(row, flags) {
         return from(row, flags, Span { at: 0, size: 0 }, at, n);
     }
     if n - at < 4 {

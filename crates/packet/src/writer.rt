@@ -19,12 +19,15 @@ use protocol::Refusal;
 use protocol::TypeRow;
 use protocol::Written;
 ghost use mathlib.Core.Path.{_≡_};
+ghost use mathlib.Core.Bool.{true};
 ghost use Prim.Native.Nat.{_≤_};
 ghost use lib.ListN.{length};
 ghost use Rattle.laws.specs.Parts.{storeAt};
-ghost use Rattle.protocol.specs.Flags.{flagsOf};
+ghost use Rattle.protocol.specs.Flags.{flagsFit};
+ghost use Rattle.protocol.specs.Optional.{flagsOf};
+ghost use Rattle.protocol.specs.Steps.{headLength};
 ghost use Rattle.protocol.specs.Writing.{baseBytes, mandatoryBytes, packetBytes, writeAs, writeOf};
-ghost use Rattle.protocol.specs.Totals.{headLength, limitedTo, totalOf};
+ghost use Rattle.protocol.specs.Totals.{limitedTo, totalOf};
 ghost use Rattle.protocol.specs.Rules.{Sound};
 
 fn refused(refusal: Refusal) -> Written
@@ -38,20 +41,20 @@ fn head_length(row: TypeRow, flags: u16) -> usize
     requires { ⌜ Sound row ⌝ }
     ensures { λ r. ⌜ r ≡ headLength row flags ⌝ }
 {
-    row.header + sections::cq_data_length(flags) + sections::connid_length(row, flags)
+    row.header + sections::cq_data_length(row, flags) + sections::connid_length(row, flags)
 }
 
 // The length of a packet with these flags and so many bytes of raw address, where it is there, and
 // of data.
-fn total(row: TypeRow, flags: u16, there: bool, raw: usize, size: usize) -> Length
+fn total(row: TypeRow, flags: u16, raw: usize, size: usize) -> Length
     requires { ⌜ Sound row ⌝ }
-    ensures { λ r. ⌜ r ≡ totalOf row flags there raw size ⌝ }
+    ensures { λ r. ⌜ r ≡ totalOf row flags raw size ⌝ }
 {
     let head = head_length(row, flags);
     if LIMIT < size {
         return Length::Above;
     }
-    if !there {
+    if !flags::raw_address(row, flags) {
         return limited(head + size);
     }
     if LIMIT < raw {
@@ -95,6 +98,7 @@ fn put_mandatory(out: &mut [u8], row: TypeRow, header: Header, flags: u16)
 fn put(out: &mut [u8], row: TypeRow, header: Header, flags: u16, raw: &[u8], data: &[u8])
     requires { ⌜ Sound row ⌝ }
     requires { ⌜ flags ≡ flagsOf row header ⌝ }
+    requires { ⌜ flagsFit row (flagsOf row header) ≡ true ⌝ }
     requires { ⌜ length (packetBytes row header (now raw) (now «data»)) ≤ 8192 ⌝ }
     requires { ⌜ length (packetBytes row header (now raw) (now «data»)) ≤ length (now out) ⌝ }
     ensures { λ _. ⌜ now (out .exit) ≡ storeAt (now (out .entry)) 0 (packetBytes row header (now (raw .entry)) (now («data» .entry))) ⌝ }
@@ -123,7 +127,7 @@ fn typed(row: TypeRow, header: Header, raw: &[u8], data: &[u8], out: &mut [u8]) 
     if !lengths::fit(shape, fields, data.len()) {
         return refused(BAD_LENGTH);
     }
-    match total(row, flags, header.raw_address, raw.len(), data.len()) {
+    match total(row, flags, raw.len(), data.len()) {
         Length::Above => refused(ABOVE_LIMIT),
         Length::Bytes(n) => {
             if out.len() < n {

@@ -13,7 +13,8 @@ use Rattle.laws.specs.Choose.{pick}
 use Rattle.laws.specs.Parts.{storeAt}
 use Rattle.protocol.specs.ByType.{CtsOrData, Known, LengthRule}
 use Rattle.protocol.specs.Checks.{Result, gives, refused}
-use Rattle.protocol.specs.Flags.{flagsFit, flagsOf}
+use Rattle.protocol.specs.Flags.{flagsFit}
+use Rattle.protocol.specs.Optional.{flagsOf}
 use Rattle.protocol.specs.InWords.{TypesAreTheTables}
 use Rattle.protocol.specs.Layout.{Field, width}
 use Rattle.protocol.specs.Lengths.{lengthsFit}

@@ -9,7 +9,8 @@ use mathlib.Core.Path.{_≡_, refl, ap, _∙_}
 use native.Mathlib.Omega.{arith}
 use Rattle.laws.specs.Choose.{pick}
 use Rattle.protocol.specs.ByType.{CtsOrData, column}
-use Rattle.protocol.specs.Flags.{connidBit, connidFlag, cqDataBit, cqDataFlag, flagsFit, hasFlag, rawAddressBit, rawAddressFlag}
+use Rattle.protocol.specs.Flags.{connidFlag, cqDataFlag, flagsFit, hasFlag, rawAddressFlag}
+use Rattle.protocol.specs.Optional.{hasConnid, hasCqData}
 use Rattle.protocol.specs.Layout as table
 use Rattle.protocol.specs.Layout.{Field, layout}
 use Rattle.protocol.specs.Types.{rowIn, rowOf, rows}
@@ -55,13 +56,13 @@ allowed a b c r =
 abbrev flagsWith : Bool → Bool → Bool → ℕ → ℕ → TypeRow → ℕ
 flagsWith a b c d i r =
     r .must
-    + rawAddressBit (not a)
-    + cqDataBit (pick b CqData.Absent (CqData.Present d))
-    + connidBit (pick c Connid.Absent (Connid.Present i))
+    + (pick (not a) rawAddressFlag 0
+    + (pick (hasCqData (pick b CqData.Absent (CqData.Present d))) cqDataFlag 0
+    + (pick (hasConnid (pick c Connid.Absent (Connid.Present i))) connidFlag 0 + 0)))
 
 -- the flags fit the type exactly if it may have each
 pub flags-allowed : (a b c : Bool) (d i k : ℕ) (r : TypeRow) → rowOf k ≡ Row r → allowed a b c r ≡ flagsFit r (flagsWith a b c d i r)
-unfolding flagsFit hasFlag rawAddressBit cqDataBit connidBit pick
+unfolding flagsFit hasFlag pick
 flags-allowed true true true d i = row-agree (allowed true true true) (λ q. flagsFit q (flagsWith true true true d i q)) refl
 flags-allowed true true false d i = row-agree (allowed true true false) (λ q. flagsFit q (flagsWith true true false d i q)) refl
 flags-allowed true false true d i = row-agree (allowed true false true) (λ q. flagsFit q (flagsWith true false true d i q)) refl

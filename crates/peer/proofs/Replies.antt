@@ -14,7 +14,7 @@ use Rattle.laws.specs.Choose.{pick}
 use Rattle.protocol.specs.Cts.{ctsBytes}
 use Rattle.protocol.specs.FieldNumbers.{fieldBytes}
 use Rattle.protocol.specs.Layout.{layout}
-use Rattle.protocol.specs.Options.{connidBytes, cqDataBytes, rawAddressBytes}
+use Rattle.protocol.specs.Optional.{sectionsOf}
 use Rattle.protocol.specs.Reading.{readOf}
 use Rattle.protocol.specs.Refusals.{badLength, badSlot, noSlot, overlaps, shortReply}
 use Rattle.protocol.specs.Values.{bytesAt}
@@ -237,7 +237,7 @@ module _ (area limit : ℕ) (p : Peer) (ws : List ℕ) (mem mem′ : ℕ → ℕ
 -- ---- a grant
 
 length-cts : (send recv n : ℕ) → length (ctsBytes send recv n) ≡ 24
-unfolding ctsBytes packetBytes mandatoryBytes baseBytes fieldBytes layout rawAddressBytes cqDataBytes connidBytes leBytes pick
+unfolding ctsBytes packetBytes mandatoryBytes baseBytes fieldBytes layout sectionsOf leBytes pick
 length-cts send recv n = refl
 
 -- a grant's reply is a CTS of 24 bytes, for which there is room

@@ -10,7 +10,8 @@ use Rattle.laws.specs.Choose.{pick}
 use Rattle.laws.specs.Parts.{storeAt}
 use Rattle.protocol.specs.ByType.{fieldsTold}
 use Rattle.protocol.specs.FieldNumbers.{fieldsIn}
-use Rattle.protocol.specs.Flags.{flagsFit, flagsOf}
+use Rattle.protocol.specs.Flags.{flagsFit}
+use Rattle.protocol.specs.Optional.{flagsOf}
 use Rattle.protocol.specs.InWords.{Check, checkAt, headIn, headerCut, noBase, overLimit, readerChecks, refusedAs, wrongFlags, wrongLengths, wrongType, wrongVersion}
 use Rattle.protocol.specs.Layout.{layout}
 use Rattle.protocol.specs.Lengths.{lengthsFit}
@@ -60,7 +61,7 @@ read-as limit bs r a =
 
     fit : lengthsFit (r .shape) (fieldsTold bs k) (length bs - headIn bs) ≡ true
     fit =
-        ap₂ (λ (v : Fields) (m : ℕ). lengthsFit (r .shape) v (length bs - m)) (sym (fields-in-words bs k r (a .row))) (sym (row-head bs r (a .row)))
+        ap₂ (λ (v : Fields) (m : ℕ). lengthsFit (r .shape) v (length bs - m)) (sym (fields-in-words bs k r (a .row))) (sym (row-head bs r (a .row) (a .flags)))
         ∙ a .lengths
 
     pass : (c : Check) → failing true limit bs c ≡ false
@@ -69,7 +70,7 @@ read-as limit bs r a =
     pass wrongVersion = ap not (eq-eqb (getD bs 1 0) 4 (a .version))
     pass wrongType = ap (λ (o : Found). isUnknown (admit true o)) (a .row)
     pass wrongFlags = row-at _ r (λ q. not (flagsFit q (leAt 2 bs 2))) (a .row) ∙ ap not (a .flags)
-    pass headerCut = le-ltb (length bs) (headIn bs) (rw (row-head bs r (a .row)) at (a .inside))
+    pass headerCut = le-ltb (length bs) (headIn bs) (rw (row-head bs r (a .row) (a .flags)) at (a .inside))
     pass wrongLengths = row-at _ r (λ q. not (lengthsFit (q .shape) (fieldsTold bs k) (length bs - headIn bs))) (a .row) ∙ ap not fit
 
 no-packet : (k : Refusal) (p : Packet) → Read.Refused k ≡ Read.Packet p → ⊥
@@ -101,14 +102,17 @@ as-read limit bs p e = accepted (of-row true (rowOf k) _ (row-out _ (pass wrongT
         based = ltb-false (length bs) 4 (pass noBase);
         version = eqb-true _ _ (not-false _ (pass wrongVersion));
         row = x;
-        flags = not-false _ (sym (row-at _ r (λ q. not (flagsFit q (leAt 2 bs 2))) x) ∙ pass wrongFlags);
-        inside = subst (λ (m : ℕ). m ≤ length bs) (sym (row-head bs r x)) (ltb-false _ _ (pass headerCut));
-        lengths = ap₂ (λ (v : Fields) (m : ℕ). lengthsFit (r .shape) v (length bs - m)) (fields-in-words bs k r x) (row-head bs r x)
+        flags = fits;
+        inside = subst (λ (m : ℕ). m ≤ length bs) (sym (row-head bs r x fits)) (ltb-false _ _ (pass headerCut));
+        lengths = ap₂ (λ (v : Fields) (m : ℕ). lengthsFit (r .shape) v (length bs - m)) (fields-in-words bs k r x) (row-head bs r x fits)
             ∙ not-false _ (sym (row-at _ r (λ q. not (lengthsFit (q .shape) (fieldsTold bs k) (length bs - headIn bs))) x) ∙ pass wrongLengths);
       },
       same,
     )
       where
+        fits : flagsFit r (leAt 2 bs 2) ≡ true
+        fits = not-false _ (sym (row-at _ r (λ q. not (flagsFit q (leAt 2 bs 2))) x) ∙ pass wrongFlags)
+
         same : p ≡ packetOf r (leAt 2 bs 2) bs
         same =
             let y : Read.Packet (packetOf r (leAt 2 bs 2) bs) ≡ Read.Packet p =
@@ -134,7 +138,7 @@ write-as h raw body out r a =
     ∙ ap (λ (m : ℕ). record { answer = Written.Length m; out = storeAt out 0 (packetBytes r h raw body) }) (sym size)
   where
     size : length (packetBytes r h raw body) ≡ packetLength h (length raw) (length body)
-    size = length-in-words h raw body r (a .row)
+    size = length-in-words h raw body r (a .row) (a .flags)
 
     pass : (c : WriterCheck) → write-failing h raw body out c ≡ false
     pass noType = ap isUnknown (a .row)
@@ -173,12 +177,13 @@ as-written h raw body out n e = accepted (row-out _ (pass noType))
 
     accepted : (r : TypeRow) × (rowOf (h .kind) ≡ Row r) → (r : TypeRow) × WrittenAs h raw body out r × (n ≡ length (packetBytes r h raw body))
     accepted (r, x) =
-        let size = length-in-words h raw body r x in
+        let fits = not-false _ (sym (row-at _ r (λ q. not (flagsFit q (flagsOf q h))) x) ∙ pass misplacedHeader) in
+        let size = length-in-words h raw body r x fits in
         let answered : total ≡ n = cc (tests .1) in (
           r,
           record {
             row = x;
-            flags = not-false _ (sym (row-at _ r (λ q. not (flagsFit q (flagsOf q h))) x) ∙ pass misplacedHeader);
+            flags = fits;
             lengths = not-false _ (sym (row-at _ r (λ q. not (lengthsFit (q .shape) (h .fields) (length body))) x) ∙ pass brokenLengths);
             allowed = omega (arith, size, ltb-false 8192 (total) (pass overLongest));
             room = omega (arith, size, ltb-false (length out) (total) (pass shortBuffer));

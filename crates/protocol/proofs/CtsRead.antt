@@ -10,10 +10,11 @@ use Rattle.protocol.specs.Checks.{gives}
 use Rattle.protocol.specs.Cts.{ctsBytes, ctsHeader}
 use Rattle.protocol.specs.CtsWords.{CtsReadBack, ReadsAsCts}
 use Rattle.protocol.specs.FieldNumbers.{fieldBytes, numberIn}
-use Rattle.protocol.specs.Flags.{connidBit, cqDataBit, flagsFit, flagsOf, rawAddressBit}
+use Rattle.protocol.specs.Flags.{flagsFit}
 use Rattle.protocol.specs.Layout.{Field, credit-request, layout, msg-id, msg-length, multiuse, ownFields, padding, recv-id, recv-length, seg-length, seg-offset, send-id, tag, width}
 use Rattle.protocol.specs.Lengths.{lengthsFit}
-use Rattle.protocol.specs.Options.{connidBytes, connidOrZero, cqDataBytes, rawAddressBytes}
+use Rattle.protocol.specs.Optional.{flagsOf, sectionsOf}
+use Rattle.protocol.specs.Options.{connidOrZero}
 use Rattle.protocol.specs.Reading.{readOf}
 use Rattle.protocol.specs.RoundTrip.{Numbers}
 use Rattle.protocol.specs.Says.{readSays, writtenSays}
@@ -53,17 +54,17 @@ module _ (sendId recvId recvLength : ℕ) (s : sendId < 2 ^ 32) (r : recvId < 2 
 
   -- as the writer writes it into 24 bytes
   written : writeOf (ctsHeader sendId recvId recvLength) [] [] (replicate 24 0) ≡ record { answer = Written.Length 24; out = bytes }
-  unfolding bytes ctsBytes writeOf writeTyped writeAs writeBytes rowOf rowIn flagsFit flagsOf rawAddressBit cqDataBit connidBit lengthsFit pick storeAt packetBytes mandatoryBytes baseBytes fieldBytes layout rawAddressBytes cqDataBytes connidBytes connidOrZero leBytes
+  unfolding bytes ctsBytes writeOf writeTyped writeAs writeBytes rowOf rowIn flagsFit flagsOf lengthsFit pick storeAt packetBytes mandatoryBytes baseBytes fieldBytes layout sectionsOf connidOrZero leBytes
   written = rw (le-leb 1 recvLength some)
 
   read-back : readSays bytes (readOf true 8192 bytes) ≡ gives (values (ctsHeader sendId recvId recvLength) [] [])
-  unfolding bytes ctsBytes packetBytes mandatoryBytes baseBytes leBytes fieldBytes layout pick rawAddressBytes cqDataBytes connidBytes
+  unfolding bytes ctsBytes packetBytes mandatoryBytes baseBytes leBytes fieldBytes layout pick sectionsOf
   read-back =
       subst (λ (o : Outcome). readSays (take 24 (o .out)) (readOf true 8192 (take 24 (o .out))) ≡ gives (values (ctsHeader sendId recvId recvLength) [] [])) written
       (reads-what-was-written (ctsHeader sendId recvId recvLength) [] [] (replicate 24 0) 8192 24 numbers (omega arith) (ap (λ (o : Outcome). writtenSays (o .answer)) written))
 
   cts-read : ReadsAsCts bytes sendId recvId recvLength
-  unfolding bytes ctsBytes packetBytes mandatoryBytes baseBytes leBytes fieldBytes layout pick rawAddressBytes cqDataBytes connidBytes values ownNumbers ownFields rowOf rowIn leAt leOf part flagsOf rawAddressBit cqDataBit connidBit connidOrZero
+  unfolding bytes ctsBytes packetBytes mandatoryBytes baseBytes leBytes fieldBytes layout pick sectionsOf values ownNumbers ownFields rowOf rowIn leAt leOf part flagsOf connidOrZero
   cts-read = record { size = refl; says = read-back; flags = refl; multiuse = refl }
 
 pub cts-read-back : CtsReadBack

@@ -1,29 +1,21 @@
 -- Flags as bits: those of a written packet are its optional headers', and flags that fit a type are those it must have and these bits.
 use Prim.Native.Nat.{ℕ, zero, suc, _+_, _-_, _*_, _/_, _%_, _^_, _≤_, _<_}
-use borrow.Author.Tests.{eqb-true, eq-eqb}
+use borrow.Author.Tests.{eqb-true, eq-eqb, ne-eqb}
 use lib.Bits.{bitAnd, and-le-l, and-mask, and-block, and-high}
 use lib.Dec.{eqb, lit<, lit≤}
 use lib.Pow.{split}
-use mathlib.Core.Bool.{Bool, true, false}
-use mathlib.Core.Logic.{_⊎_, inl, inr}
+use mathlib.Core.Bool.{Bool, true, false, _&&_}
+use mathlib.Core.Logic.{⊎-elim}
 use mathlib.Core.Path.{_≡_, refl, sym, ap, _∙_}
 use native.Mathlib.Nat.{mod-lt}
 use native.Mathlib.Omega.{arith}
 use Rattle.laws.specs.Choose.{pick}
-use Rattle.protocol.specs.Flags.{connidBit, connidFlag, cqDataBit, cqDataFlag, flagsFit, flagsOf, hasFlag, rawAddressBit, rawAddressFlag}
+use Rattle.protocol.specs.Flags.{flagsFit, hasFlag}
+use Rattle.protocol.specs.Optional.{connid, cq-data, flagged, flagsOf, flagsTaken, hasConnid, hasCqData, raw-address, sectionsOf}
 use Rattle.protocol.specs.Rules.{Sound}
 use Rattle.protocol.specs.declared.table.TypeRow.{TypeRow}
-use Rattle.protocol.specs.declared.types.Connid.{Connid}
-use Rattle.protocol.specs.declared.types.CqData.{CqData}
 use Rattle.protocol.specs.declared.types.Header.{Header}
-
-abbrev pub hasCqData : CqData → Bool
-hasCqData CqData.Absent = false
-hasCqData (CqData.Present d) = true
-
-abbrev pub hasConnid : Connid → Bool
-hasConnid Connid.Absent = false
-hasConnid (Connid.Present c) = true
+use Rattle.laws.proofs.Choosing.{pick-false, pick-true, tested}
 
 abbrev bit : Bool → ℕ
 bit true = 1
@@ -48,48 +40,50 @@ bit-of-flag f k = go (f / k % 2) (mod-lt (f / k) (lit< tt))
     go (suc (suc n)) h = absurd (omega arith)
 
 -- the flags of the optional headers
-raw-address-bit : (t : Bool) → rawAddressBit t ≡ bit t
-unfolding rawAddressBit pick
-raw-address-bit true = refl
-raw-address-bit false = refl
-
-cq-data-bit : (c : CqData) → cqDataBit c ≡ 2 * bit (hasCqData c)
-unfolding cqDataBit
-cq-data-bit CqData.Absent = refl
-cq-data-bit (CqData.Present d) = refl
-
-connid-bit : (c : Connid) → connidBit c ≡ 32768 * bit (hasConnid c)
-unfolding connidBit
-connid-bit Connid.Absent = refl
-connid-bit (Connid.Present c) = refl
+pick-bit : (t : Bool) (n : ℕ) → pick t n 0 ≡ n * bit t
+unfolding pick
+pick-bit true n = omega arith
+pick-bit false n = omega arith
 
 bits-small : (h : Header) → (bit (h .«raw_address») ≤ 1) × (bit (hasCqData (h .«cq_data»)) ≤ 1) × (bit (hasConnid (h .connid)) ≤ 1)
 bits-small h = (bit-small (h .«raw_address»), bit-small (hasCqData (h .«cq_data»)), bit-small (hasConnid (h .connid)))
-
-pub options-small : (h : Header) → rawAddressBit (h .«raw_address») + cqDataBit (h .«cq_data») + connidBit (h .connid) ≤ 0x8003
-options-small h = rw (raw-address-bit, cq-data-bit, connid-bit) (omega (arith, bits-small h))
 
 -- the flags that a packet is written with
 flags-as-bits : (r : TypeRow) (h : Header)
     → flagsOf r h ≡ r .must + bit (h .«raw_address») + 2 * bit (hasCqData (h .«cq_data»)) + 32768 * bit (hasConnid (h .connid))
 unfolding flagsOf
-flags-as-bits r h = rw (raw-address-bit, cq-data-bit, connid-bit)
+flags-as-bits r h = rw (pick-bit (h .«raw_address») 1, pick-bit (hasCqData (h .«cq_data»)) 2, pick-bit (hasConnid (h .connid)) 32768) (omega arith)
 
-module _ (r : TypeRow) (h : Header) (s : Sound r) where
-  pub flags-small : flagsOf r h < 256 ^ 2
-  unfolding flagsOf
-  flags-small = omega (arith, s .small, options-small h)
+pub flags-small : (r : TypeRow) (h : Header) → Sound r → flagsOf r h < 2 ^ 16
+flags-small r h s = omega (arith, flags-as-bits r h, s .small, bits-small h)
 
-  pub raw-address-flag : hasFlag (flagsOf r h) rawAddressFlag ≡ h .«raw_address»
-  raw-address-flag = flag-of-bit _ 1 _ (rw flags-as-bits (omega (arith, bits-small h)))
+-- the flags that a type may have: all of them in a request, the connid's alone in any other
+taken : (r : TypeRow) → Sound r → flagsTaken r ≡ pick (r .request) 0x8003 0x8000
+unfolding flagsTaken sectionsOf pick
+taken r s =
+    ⊎-elim (λ m. let c = ne-eqb (r .connid) 0 (λ z. omega (arith, m .1)) in rw (eq-eqb _ 0 (m .0), c) (⊎-elim (λ e. rw e) (λ e. rw e) (tested (r .request))))
+    (λ m. rw (ne-eqb _ 0 (m .0), eq-eqb (r .connid) 0 (m .1)) (⊎-elim (λ e. rw e) (λ e. rw e) (tested (r .request))))
+    (s .connidPlace)
 
-  pub cq-data-flag : hasFlag (flagsOf r h) cqDataFlag ≡ hasCqData (h .«cq_data»)
-  cq-data-flag = flag-of-bit _ 2 _ (rw flags-as-bits (omega (arith, bits-small h)))
+module _ (r : TypeRow) (s : Sound r) where
+  may-request : r .request ≡ true → r .may ≡ 0x8003
+  may-request e = s .may ∙ taken r s ∙ pick-true _ _ e
 
-  pub connid-flag : hasFlag (flagsOf r h) connidFlag ≡ hasConnid (h .connid)
-  connid-flag =
-      let b : flagsOf r h / 32768 ≡ bit (hasConnid (h .connid)) = rw flags-as-bits (omega (arith, bits-small h)) in
-      flag-of-bit _ 32768 _ (rw b (omega (arith, bits-small h)))
+  may-other : r .request ≡ false → r .may ≡ 0x8000
+  may-other e = s .may ∙ taken r s ∙ pick-false _ _ e
+
+  -- bits 0 and 1 and bit 15 of a number
+  and-options : (f : ℕ) → bitAnd f 0x8003 ≡ f / 32768 % 2 * 32768 + f % 32768 % 4
+  and-options f =
+      let split : f / 32768 * 32768 + f % 32768 ≡ f = omega arith in
+      let b = and-block 15 (f / 32768) 1 (f % 32768) 3 (mod-lt f (lit< tt)) (lit< tt) in
+      rw (split, and-mask (f / 32768) 1, and-mask (f % 32768) 2) at b
+
+  -- a request's own flags are none of its optional headers'
+  must-clear : r .request ≡ true → r .must % 4 ≡ 0
+  must-clear e =
+      let a = sym (and-options (r .must)) ∙ ap (bitAnd (r .must)) (sym (may-request e)) ∙ s .apart in
+      omega (arith, a, s .small)
 
 -- an RTM type takes every optional header
 
@@ -97,7 +91,7 @@ unset : (t : Bool) → bit t ≡ 0 → t ≡ false
 unset true e = absurd (omega arith)
 unset false e = refl
 
-past-options : (f m a b c : ℕ) → f ≡ m + a + 2 * b + 32768 * c → m % 4 ≡ 0 → m ≤ 12 → a ≤ 1 → b ≤ 1 → c ≤ 1
+past-options : (f m a b c : ℕ) → f ≡ m + a + 2 * b + 32768 * c → m % 4 ≡ 0 → m ≤ 32764 → a ≤ 1 → b ≤ 1 → c ≤ 1
     → f - (f / 32768 % 2 * 32768 + f % 32768 % 4) ≡ m
 past-options f m a b c e z s x y w =
     let high : f / 32768 ≡ c = omega arith in
@@ -106,26 +100,24 @@ past-options f m a b c e z s x y w =
     let one : c % 2 ≡ c = omega arith in
     rw (high, low, two, one) (omega arith)
 
-module _ (r : TypeRow) (h : Header) where
-  pub every-option-fits : Sound r → r .may ≡ 0x8003 → flagsFit r (flagsOf r h) ≡ true
+module _ (r : TypeRow) (h : Header) (s : Sound r) where
+  pub every-option-fits : r .request ≡ true → flagsFit r (flagsOf r h) ≡ true
   unfolding flagsFit
-  every-option-fits s m =
+  every-option-fits q =
       let f = flagsOf r h in
-      let split : f / 32768 * 32768 + f % 32768 ≡ f = omega arith in
-      let b = and-block 15 (f / 32768) 1 (f % 32768) 3 (mod-lt f (lit< tt)) (lit< tt) in
-      let b = rw (split, and-mask (f / 32768) 1, and-mask (f % 32768) 2) at b in
-      let c : bitAnd f (r .may) ≡ bitAnd f 0x8003 = ap (bitAnd f) m in
+      let c : bitAnd f (r .may) ≡ f / 32768 % 2 * 32768 + f % 32768 % 4 = ap (bitAnd f) (may-request r s q) ∙ and-options r s f in
       let (x, y, w) = bits-small h in
-      let over = past-options f (r .must) _ _ _ (flags-as-bits r h) (s .must) (s .small) x y w in
-      eq-eqb _ _ (ap (λ (m : ℕ). f - m) (c ∙ b) ∙ over)
+      let over = past-options f (r .must) _ _ _ (flags-as-bits r h) (must-clear r s q) (omega (arith, s .small)) x y w in
+      eq-eqb _ _ (ap (λ (m : ℕ). f - m) c ∙ over)
 
-  -- and CTS and CTSDATA a connid alone
-  module _ (m : r .may ≡ 0x8000) (z : r .must ≡ 0) where
-    left-over : flagsOf r h - bitAnd (flagsOf r h) (r .may) ≡ bit (h .«raw_address») + 2 * bit (hasCqData (h .«cq_data»))
+  -- and any other a connid alone
+  module _ (q : r .request ≡ false) where
+    left-over : flagsOf r h - bitAnd (flagsOf r h) (r .may) ≡ r .must + bit (h .«raw_address») + 2 * bit (hasCqData (h .«cq_data»))
     left-over =
         let b = and-high (flagsOf r h) 1 15 in
-        let c : bitAnd (flagsOf r h) (r .may) ≡ bitAnd (flagsOf r h) 0x8000 = ap (bitAnd (flagsOf r h)) m in
+        let c : bitAnd (flagsOf r h) (r .may) ≡ bitAnd (flagsOf r h) 0x8000 = ap (bitAnd (flagsOf r h)) (may-other r s q) in
         let e = flags-as-bits r h in
+        let top : flagsOf r h / 32768 ≡ bit (hasConnid (h .connid)) = omega (arith, e, s .small, bits-small h) in
         omega (arith, bits-small h)
 
     pub connid-fits : h .«raw_address» ≡ false → hasCqData (h .«cq_data») ≡ false → flagsFit r (flagsOf r h) ≡ true
@@ -140,34 +132,66 @@ module _ (r : TypeRow) (h : Header) where
         let e : flagsOf r h - bitAnd (flagsOf r h) (r .may) ≡ r .must = eqb-true _ _ t in
         (unset _ (omega (arith, left-over)), unset _ (omega (arith, left-over)))
 
+  -- an optional header that is written shows by its flag
+
+  pub connid-flag : flagged r (flagsOf r h) connid ≡ hasConnid (h .connid)
+  unfolding flagged
+  connid-flag =
+      let b : flagsOf r h / 32768 ≡ bit (hasConnid (h .connid)) = rw flags-as-bits (omega (arith, s .small, bits-small h)) in
+      flag-of-bit _ 32768 _ (rw b (omega (arith, bits-small h)))
+
+  module _ (t : flagsFit r (flagsOf r h) ≡ true) where
+    pub raw-address-flag : flagged r (flagsOf r h) raw-address ≡ h .«raw_address»
+    unfolding flagged
+    raw-address-flag =
+        ⊎-elim (λ q. rw q (flag-of-bit _ 1 _ (rw flags-as-bits (omega (arith, must-clear r s q, bits-small h)))))
+        (λ q. rw q (sym (fits-connid q t .0)))
+        (tested (r .request))
+
+    pub cq-data-flag : flagged r (flagsOf r h) cq-data ≡ hasCqData (h .«cq_data»)
+    unfolding flagged
+    cq-data-flag =
+        ⊎-elim (λ q. rw q (flag-of-bit _ 2 _ (rw flags-as-bits (omega (arith, must-clear r s q, bits-small h)))))
+        (λ q. rw q (sym (fits-connid q t .1)))
+        (tested (r .request))
+
 -- flags that fit the type
-flags-fit : (r : TypeRow) (f : ℕ) → Sound r → flagsFit r f ≡ true → f ≡ r .must + f / 1 % 2 + 2 * (f / 2 % 2) + 32768 * (f / 32768 % 2)
-unfolding flagsFit
-flags-fit r f s e = go (s .may)
-  where
-    fit : f - bitAnd f (r .may) ≡ r .must
-    fit = eqb-true _ _ e
+module _ (r : TypeRow) (f : ℕ) (s : Sound r) (t : flagsFit r f ≡ true) where
+  fit : f - bitAnd f (r .may) ≡ r .must
+  unfolding flagsFit
+  fit = eqb-true _ _ t
 
-    go : (r .may ≡ 0x8003) ⊎ (r .may ≡ 0x8000) → f ≡ r .must + f / 1 % 2 + 2 * (f / 2 % 2) + 32768 * (f / 32768 % 2)
-    go (inl m) =
-        let split : f / 32768 * 32768 + f % 32768 ≡ f = omega arith in
-        let b = and-block 15 (f / 32768) 1 (f % 32768) 3 (mod-lt f (lit< tt)) (lit< tt) in
-        let b = rw (split, and-mask (f / 32768) 1, and-mask (f % 32768) 2) at b in
-        let l = and-le-l f 0x8003 in
-        let e = rw m at fit in
-        omega arith
-    go (inr m) =
-        let b = and-high f 1 15 in
-        let l = and-le-l f 0x8000 in
-        let e = rw m at fit in
-        omega arith
+  request-flags : r .request ≡ true → f ≡ r .must + f / 1 % 2 + 2 * (f / 2 % 2) + 32768 * (f / 32768 % 2)
+  request-flags q =
+      let b = and-options r s f in
+      let l = and-le-l f 0x8003 in
+      let e = rw (may-request r s q) at fit in
+      omega arith
 
--- the flags of a packet that was read are written again
-pub flags-again : (r : TypeRow) (f : ℕ) (h : Header) → Sound r
-    → flagsFit r f ≡ true
-    → h .«raw_address» ≡ hasFlag f rawAddressFlag
-    → hasCqData (h .«cq_data») ≡ hasFlag f cqDataFlag
-    → hasConnid (h .connid) ≡ hasFlag f connidFlag
-    → flagsOf r h ≡ f
-flags-again r f h s e a b c =
-    rw (flags-as-bits, a, b, c, bit-of-flag f 1, bit-of-flag f 2, bit-of-flag f 32768) (sym (flags-fit r f s e))
+  other-flags : r .request ≡ false → f ≡ r .must + 32768 * (f / 32768 % 2)
+  other-flags q =
+      let b = and-high f 1 15 in
+      let l = and-le-l f 0x8000 in
+      let e = rw (may-other r s q) at fit in
+      omega arith
+
+  -- the flags of a packet that was read are written again
+  pub flags-again : (h : Header)
+      → h .«raw_address» ≡ flagged r f raw-address
+      → hasCqData (h .«cq_data») ≡ flagged r f cq-data
+      → hasConnid (h .connid) ≡ flagged r f connid
+      → flagsOf r h ≡ f
+  unfolding flagged
+  flags-again h a b c = ⊎-elim request other (tested (r .request))
+    where
+      request : r .request ≡ true → flagsOf r h ≡ f
+      request q =
+          let x : h .«raw_address» ≡ hasFlag f 1 = a ∙ ap (λ (u : Bool). u && hasFlag f 1) q in
+          let y : hasCqData (h .«cq_data») ≡ hasFlag f 2 = b ∙ ap (λ (u : Bool). u && hasFlag f 2) q in
+          rw (flags-as-bits, x, y, c, bit-of-flag f 1, bit-of-flag f 2, bit-of-flag f 32768) (sym (request-flags q))
+
+      other : r .request ≡ false → flagsOf r h ≡ f
+      other q =
+          let x : h .«raw_address» ≡ false = a ∙ ap (λ (u : Bool). u && hasFlag f 1) q in
+          let y : hasCqData (h .«cq_data») ≡ false = b ∙ ap (λ (u : Bool). u && hasFlag f 2) q in
+          rw (flags-as-bits, x, y, c, bit-of-flag f 32768) (omega (arith, other-flags q))

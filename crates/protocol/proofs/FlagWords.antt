@@ -1,6 +1,6 @@
 -- A type's rule on flags is 01's, bit by bit: `flagsFit` passes exactly what `FlagRule` of specs/ByType.antt allows.
 use Prim.Native.Nat.{ℕ, suc, _-_, _^_, _≤_, _<_, min}
-use borrow.Author.Tests.{leb-true, eqb-true, eq-eqb}
+use borrow.Author.Tests.{leb-true, eqb-true, eq-eqb, ne-eqb}
 use lib.Bits.{bitAnd}
 use lib.Dec.{leb, eqb, lit<, lit≤}
 use mathlib.Core.Bool.{true, false, _||_, true≢false}
@@ -9,21 +9,23 @@ use mathlib.Core.Path.{_≡_, refl, sym, ap, _∙_}
 use native.Mathlib.Decide.{decLt, ℕ-discrete}
 use native.Mathlib.Omega.{arith}
 use Rattle.protocol.specs.ByType.{CtsFlags, CtsOrData, FlagRule, Rtm, RtmFlags, Tagged, bitOf}
-use Rattle.protocol.specs.Flags.{flagsFit}
+use Rattle.protocol.specs.Flags.{flagsFit, hasFlag}
+use Rattle.protocol.specs.Optional.{Section, connid, cq-data, flagOf, flagged, raw-address}
+use Rattle.protocol.specs.Rules.{Sound}
 use Rattle.protocol.specs.Types.{rowOf}
 use Rattle.protocol.specs.declared.table.Found.the-variants.{Row}
 use Rattle.protocol.specs.declared.table.TypeRow.{TypeRow}
 use Rattle.laws.proofs.Choosing.{or-cases}
 use Rattle.protocol.proofs.BitWords.{allBelow, bitOf-past, bitOf-without, each-below, same-bits}
-use Rattle.protocol.proofs.TableRule.{by-row, row-passes, sound}
+use Rattle.protocol.proofs.TableRule.{by-row, rowAt, sound}
 
 -- "must have .., may have .., and no other": each flag that the type may not have is set exactly if it must have it
 abbrev ByBits : ℕ → ℕ → ℕ → Type 0
 ByBits must may f = (i : ℕ) → bitOf may i ≡ 0 → bitOf f i ≡ bitOf must i
 
-bit-by-bit : (k : ℕ) (r : TypeRow) (f : ℕ) → rowOf k ≡ Row r → (flagsFit r f ≡ true) ↔ ByBits (r .must) (r .may) f
+bit-by-bit : (r : TypeRow) (f : ℕ) → Sound r → (flagsFit r f ≡ true) ↔ ByBits (r .must) (r .may) f
 unfolding flagsFit
-bit-by-bit k r f e = (
+bit-by-bit r f s = (
   λ t i m.
       let fit : f - bitAnd f (r .may) ≡ r .must = eqb-true _ _ t in
       omega (arith, bitOf-without i f (r .may), ap (λ (x : ℕ). bitOf x i) fit),
@@ -31,15 +33,14 @@ bit-by-bit k r f e = (
 )
   where
     -- no flag is both one that it must and one that it may have
-    apart : (i : ℕ) → Dec (i < 16) → min (bitOf (r .must) i) (bitOf (r .may) i) ≡ 0
-    apart i (yes l) =
-        eqb-true _ _ (each-below 16 (λ i. eqb (min (bitOf (r .must) i) (bitOf (r .may) i)) 0)
-        (row-passes (λ q. allBelow 16 (λ i. eqb (min (bitOf (q .must) i) (bitOf (q .may) i)) 0)) refl k r e) i l)
-    apart i (no l) = omega (arith, bitOf-past 16 (r .must) i (omega (arith, sound k r e .small)) (omega (arith, l)))
+    apart : (i : ℕ) → min (bitOf (r .must) i) (bitOf (r .may) i) ≡ 0
+    apart i =
+        let none : r .must - bitAnd (r .must) (r .may) ≡ r .must = omega (arith, s .apart) in
+        omega (arith, ap (λ (x : ℕ). bitOf x i) none, bitOf-without i (r .must) (r .may))
 
     bits : ByBits (r .must) (r .may) f → (i : ℕ) → Dec (bitOf (r .may) i ≡ 0) → bitOf (f - bitAnd f (r .may)) i ≡ bitOf (r .must) i
     bits b i (yes m) = omega (arith, bitOf-without i f (r .may), b i m)
-    bits b i (no m) = omega (arith, bitOf-without i f (r .may), apart i (decLt i 16), m)
+    bits b i (no m) = omega (arith, bitOf-without i f (r .may), apart i, m)
 
 -- the bits of the flags that a type may have
 rtm-free : (i : ℕ) → bitOf 0x8003 i ≡ 0 → (i ≡ 2) ⊎ ((i ≡ 3) ⊎ ((4 ≤ i) × (i ≡ 15 → ⊥)))
@@ -150,4 +151,26 @@ rule-by-bits f =
     tagged k l t = through (tagged-words k f t) (rtm-rule k f l)
 
 pub flags-in-words : (k : ℕ) (r : TypeRow) (f : ℕ) → rowOf k ≡ Row r → (flagsFit r f ≡ true) ↔ FlagRule k f
-flags-in-words k r f e = through (bit-by-bit k r f e) (rule-by-bits f k r e)
+flags-in-words k r f e = through (bit-by-bit r f (sound k r e)) (rule-by-bits f k r e)
+
+-- so a section is there exactly if its flag is set
+pub flagged-by-flag : (f k : ℕ) (r : TypeRow) → rowOf k ≡ Row r → FlagRule k f → (s : Section) → flagged r f s ≡ hasFlag f (flagOf s)
+flagged-by-flag f =
+    by-row (λ k r. FlagRule k f → (s : Section) → flagged r f s ≡ hasFlag f (flagOf s)) (λ w. plain (rowAt 0) refl (w .0 (inl refl)))
+    (λ w. plain (rowAt 1) refl (w .0 (inr refl)))
+    (λ w. request (rowAt 2) refl)
+    (λ w. request (rowAt 3) refl)
+    (λ w. request (rowAt 4) refl)
+    (λ w. request (rowAt 5) refl)
+    (λ w. request (rowAt 6) refl)
+    (λ w. request (rowAt 7) refl)
+  where
+    plain : (r : TypeRow) → r .request ≡ false → CtsFlags f → (s : Section) → flagged r f s ≡ hasFlag f (flagOf s)
+    plain r q w raw-address = unfold flagged hasFlag in rw q (sym (ne-eqb (bitOf f 0) 1 (λ x. omega (arith, w 0 (λ y. omega arith)))))
+    plain r q w cq-data = unfold flagged hasFlag in rw q (sym (ne-eqb (bitOf f 1) 1 (λ x. omega (arith, w 1 (λ y. omega arith)))))
+    plain r q w connid = unfold flagged in refl
+
+    request : (r : TypeRow) → r .request ≡ true → (s : Section) → flagged r f s ≡ hasFlag f (flagOf s)
+    request r q raw-address = unfold flagged in rw q
+    request r q cq-data = unfold flagged in rw q
+    request r q connid = unfold flagged in refl

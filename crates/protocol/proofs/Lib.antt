@@ -5,6 +5,7 @@ pub mod LayoutLaws
 pub mod KeptFields
 pub mod PutLaws
 pub mod OptionLaws
+pub mod StepLaws
 pub mod ReadingLaws
 pub mod WritingLaws
 pub mod BitWords

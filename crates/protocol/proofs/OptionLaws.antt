@@ -9,11 +9,13 @@ use mathlib.Core.Path.{_≡_, refl}
 use native.Mathlib.Omega.{arith}
 use Rattle.laws.specs.Choose.{pick}
 use Rattle.laws.specs.Parts.{part}
-use Rattle.protocol.specs.Flags.{connidFlag, cqDataFlag, flagsOf, hasFlag, rawAddressFlag}
+use Rattle.protocol.specs.Flags.{flagsFit}
+use Rattle.protocol.specs.Optional.{cq-data, flagged, flagsOf, hasConnid, hasCqData, raw-address}
 use Rattle.protocol.specs.Options.{connidBytes, connidIn, connidOrZero, cqDataBytes, cqDataIn, rawAddressBytes}
 use Rattle.protocol.specs.RoundTrip.{cqDataOrZero}
 use Rattle.protocol.specs.Rules.{Sound}
-use Rattle.protocol.specs.Sections.{afterRaw, connidLength, cqDataLength, rawLength, rawSpan}
+use Rattle.protocol.specs.Sections.{rawSpan}
+use Rattle.protocol.specs.Steps.{afterRaw, connidLength, cqDataLength, rawLength}
 use Rattle.protocol.specs.Values.{bytesAt}
 use Rattle.protocol.specs.declared.table.TypeRow.{TypeRow}
 use Rattle.protocol.specs.declared.types.Connid.{Connid}
@@ -22,7 +24,7 @@ use Rattle.protocol.specs.declared.types.Header.{Header}
 use Rattle.wire.specs.LittleEndian.{leAt, leBytes}
 use Rattle.laws.proofs.Choosing.{tested}
 use Rattle.laws.proofs.Storing.{length-part, part-add, part-middle}
-use Rattle.protocol.proofs.FlagLaws.{connid-flag, cq-data-flag, hasConnid, hasCqData}
+use Rattle.protocol.proofs.FlagLaws.{connid-flag, cq-data-flag}
 use Rattle.wire.proofs.Laws.{bytes-again, le-behind, le-behind-wide, length-le}
 
 -- how long they are
@@ -43,9 +45,9 @@ length-connid r Connid.Absent = refl
 length-connid r (Connid.Present c) = rw length-le
 
 module _ (r : TypeRow) (h : Header) (s : Sound r) where
-  pub cq-data-length : cqDataLength (flagsOf r h) ≡ length (cqDataBytes (h .«cq_data»))
+  pub cq-data-length : flagsFit r (flagsOf r h) ≡ true → cqDataLength r (flagsOf r h) ≡ length (cqDataBytes (h .«cq_data»))
   unfolding cqDataLength
-  cq-data-length = rw (length-cq-data, cq-data-flag r h s)
+  cq-data-length t = rw (length-cq-data, cq-data-flag r h s t)
 
   pub connid-length : connidLength r (flagsOf r h) ≡ length (connidBytes r (h .connid))
   unfolding connidLength
@@ -63,61 +65,63 @@ module _ (r : TypeRow) (f : ℕ) (raw m c : List ℕ) (p : length m ≡ r .heade
       let q : length (m ++ leBytes 4 (length raw)) ≡ r .header + 4 = rw (length-append, length-le, p) in
       rw (append-assoc, ← append-assoc m (leBytes 4 (length raw)) (raw ++ c)) (part-middle (m ++ leBytes 4 (length raw)) raw c _ _ q refl)
 
-  pub after-raw : (there : Bool) → hasFlag f rawAddressFlag ≡ there → length (rawAddressBytes there raw) < 256 ^ 4
+  pub after-raw : (there : Bool) → flagged r f raw-address ≡ there → length (rawAddressBytes there raw) < 256 ^ 4
       → afterRaw r f (m ++ (rawAddressBytes there raw ++ c)) ≡ r .header + length (rawAddressBytes there raw)
   unfolding afterRaw pick
   after-raw true e x = rw (e, raw-size x, length-raw true raw)
   after-raw false e x = rw (e, length-raw false raw)
 
-  pub raw-read : (there : Bool) → hasFlag f rawAddressFlag ≡ there → length (rawAddressBytes there raw) < 256 ^ 4
-      → pick (hasFlag f rawAddressFlag) (some (bytesAt (m ++ (rawAddressBytes there raw ++ c)) (rawSpan r f (m ++ (rawAddressBytes there raw ++ c))))) none
+  pub raw-read : (there : Bool) → flagged r f raw-address ≡ there → length (rawAddressBytes there raw) < 256 ^ 4
+      → pick (flagged r f raw-address) (some (bytesAt (m ++ (rawAddressBytes there raw ++ c)) (rawSpan (flagged r f raw-address) (m ++ (rawAddressBytes there raw ++ c)) (r .header)))) none
       ≡ pick there (some raw) none
   unfolding rawSpan pick
   raw-read true e x = rw (e, raw-size x, raw-part)
   raw-read false e x = rw e
 
 -- CQ data that were written
-pub cq-data-read : (f : ℕ) (q : CqData) (a c : List ℕ) (at : ℕ)
-    → hasFlag f cqDataFlag ≡ hasCqData q
+pub cq-data-read : (there : Bool) (q : CqData) (a c : List ℕ) (at : ℕ)
+    → there ≡ hasCqData q
     → cqDataOrZero q < 256 ^ 8
     → length a ≡ at
-    → cqDataIn f (a ++ (cqDataBytes q ++ c)) at ≡ q
+    → cqDataIn there (a ++ (cqDataBytes q ++ c)) at ≡ q
 unfolding cqDataIn cqDataBytes pick
-cq-data-read f CqData.Absent a c at e x p = rw e
-cq-data-read f (CqData.Present d) a c at e x p = rw (e, le-behind 8 d a c at x p)
+cq-data-read there CqData.Absent a c at e x p = rw e
+cq-data-read there (CqData.Present d) a c at e x p = rw (e, le-behind 8 d a c at x p)
 
 -- a connid that was written behind the other optional headers
-pub connid-behind : (r : TypeRow) (f : ℕ) (q : Connid) (a c : List ℕ) (at : ℕ)
+pub connid-behind : (r : TypeRow) (there : Bool) (q : Connid) (a c : List ℕ) (at : ℕ)
     → 4 ≤ r .connid
-    → hasFlag f connidFlag ≡ hasConnid q
+    → there ≡ hasConnid q
     → connidOrZero q < 256 ^ 4
     → length a ≡ at
-    → connidIn f (a ++ (connidBytes r q ++ c)) at ≡ q
+    → connidIn there (a ++ (connidBytes r q ++ c)) at ≡ q
 unfolding connidIn connidBytes connidOrZero pick
-connid-behind r f Connid.Absent a c at w e x p = rw e
-connid-behind r f (Connid.Present d) a c at w e x p =
+connid-behind r there Connid.Absent a c at w e x p = rw e
+connid-behind r there (Connid.Present d) a c at w e x p =
     let n : r .connid ≡ 4 + (r .connid - 4) = omega arith in
     rw (e, n, le-behind-wide 4 (r .connid - 4) d a c at x p)
 
 -- a connid in multiuse
-pub connid-there : (f : ℕ) (q : Connid) (bs : List ℕ) (at : ℕ) → hasFlag f connidFlag ≡ hasConnid q → leAt 4 bs at ≡ connidOrZero q → connidIn f bs at ≡ q
+pub connid-there : (there : Bool) (q : Connid) (bs : List ℕ) (at : ℕ) → there ≡ hasConnid q → leAt 4 bs at ≡ connidOrZero q → connidIn there bs at ≡ q
 unfolding connidIn connidOrZero pick
-connid-there f Connid.Absent bs at e x = rw e
-connid-there f (Connid.Present d) bs at e x = rw (e, x)
+connid-there there Connid.Absent bs at e x = rw e
+connid-there there (Connid.Present d) bs at e x = rw (e, x)
 
--- an optional header that was read is there where its flag is
-pub has-cq-data : (f : ℕ) (bs : List ℕ) (at : ℕ) → hasCqData (cqDataIn f bs at) ≡ hasFlag f cqDataFlag
+-- an optional header that was read is there where it was said to be
+pub has-cq-data : (there : Bool) (bs : List ℕ) (at : ℕ) → hasCqData (cqDataIn there bs at) ≡ there
 unfolding cqDataIn pick
-has-cq-data f bs at = ⊎-elim (λ e. rw e) (λ e. rw e) (tested (hasFlag f cqDataFlag))
+has-cq-data true bs at = refl
+has-cq-data false bs at = refl
 
-pub has-connid : (f : ℕ) (bs : List ℕ) (at : ℕ) → hasConnid (connidIn f bs at) ≡ hasFlag f connidFlag
+pub has-connid : (there : Bool) (bs : List ℕ) (at : ℕ) → hasConnid (connidIn there bs at) ≡ there
 unfolding connidIn pick
-has-connid f bs at = ⊎-elim (λ e. rw e) (λ e. rw e) (tested (hasFlag f connidFlag))
+has-connid true bs at = refl
+has-connid false bs at = refl
 
 -- the bytes of an optional header that was read
 module _ (bs : List ℕ) (b : (i : ℕ) → getD bs i 0 < 256) where
   pub raw-again : (r : TypeRow) (f : ℕ) → r .header + rawLength r f bs ≤ length bs
-      → rawAddressBytes (hasFlag f rawAddressFlag) (bytesAt bs (rawSpan r f bs)) ≡ part bs (r .header) (rawLength r f bs)
+      → rawAddressBytes (flagged r f raw-address) (bytesAt bs (rawSpan (flagged r f raw-address) bs (r .header))) ≡ part bs (r .header) (rawLength r f bs)
   unfolding rawAddressBytes rawSpan pick part
   raw-again r f h =
       ⊎-elim (λ e.
@@ -125,8 +129,9 @@ module _ (bs : List ℕ) (b : (i : ℕ) → getD bs i 0 < 256) where
       let m = length-part bs (r .header + 4) (leAt 4 bs (r .header)) (omega arith) in
       rw (e, part-add, m, bytes-again 4 bs (r .header) b (omega arith)))
       (λ e. rw e)
-      (tested (hasFlag f rawAddressFlag))
+      (tested (flagged r f raw-address))
 
-  pub cq-data-again : (f at : ℕ) → at + cqDataLength f ≤ length bs → cqDataBytes (cqDataIn f bs at) ≡ part bs at (cqDataLength f)
+  pub cq-data-again : (r : TypeRow) (f at : ℕ) → at + cqDataLength r f ≤ length bs
+      → cqDataBytes (cqDataIn (flagged r f cq-data) bs at) ≡ part bs at (cqDataLength r f)
   unfolding cqDataBytes cqDataIn cqDataLength pick part
-  cq-data-again f at h = ⊎-elim (λ e. rw e (bytes-again 8 bs at b (rw e at h))) (λ e. rw e) (tested (hasFlag f cqDataFlag))
+  cq-data-again r f at h = ⊎-elim (λ e. rw e (bytes-again 8 bs at b (rw e at h))) (λ e. rw e) (tested (flagged r f cq-data))

@@ -5,7 +5,7 @@ use lib.Dec.{ltb, eqb, lit<}
 use lib.ListN.{length, getD}
 use mathlib.Core.Bool.{Bool, true, false, not, _||_}
 use mathlib.Core.List.{List, [], _∷_}
-use mathlib.Core.Logic.{_↔_}
+use mathlib.Core.Logic.{_↔_, ⊎-elim}
 use mathlib.Core.Path.{_≡_, refl, sym, ap, ap₂, _∙_, subst}
 use native.Mathlib.Omega.{arith}
 use Rattle.laws.specs.Choose.{pick}
@@ -15,9 +15,11 @@ use Rattle.protocol.specs.Flags.{flagsFit, hasFlag}
 use Rattle.protocol.specs.InWords.{Check, Fails, ReadIfNoneFails, RefusedByFirstToFail, TypesAreTheTables, checkAt, flagsIn, headIn, headerCut, noBase, overLimit, readerChecks, refusedAs, typeIn, wrongFlags, wrongLengths, wrongType, wrongVersion}
 use Rattle.protocol.specs.Lengths.{lengthsFit}
 use Rattle.protocol.specs.Reading.{headerIn, packetIn, readFlags, readLengths, readOf, readSections, readTyped}
-use Rattle.protocol.specs.Refusals.{aboveLimit, badFlags, badLength, badType, badVersion, cutShort, refusal}
+use Rattle.protocol.specs.Refusals.{aboveLimit, badLength, badType, badVersion, cutShort, refusal}
 use Rattle.protocol.specs.Says.{readSays}
-use Rattle.protocol.specs.Sections.{afterRaw, connidLength, cqDataLength, extentOf, sectionsFrom}
+use Rattle.protocol.specs.Optional.{connid, cq-data, raw-address}
+use Rattle.protocol.specs.Sections.{extentOf}
+use Rattle.protocol.specs.Steps.{afterRaw, connidLength, cqDataLength, sectionsFrom}
 use Rattle.protocol.specs.Types.{admit, row, rowOf}
 use Rattle.protocol.specs.Values.{Values, valuesIn}
 use Rattle.protocol.specs.declared.sections.Extent.the-variants.{Cut}
@@ -28,18 +30,22 @@ use Rattle.protocol.specs.declared.table.TypeRow.{TypeRow}
 use Rattle.protocol.specs.declared.types.Fields.{Fields}
 use Rattle.protocol.specs.declared.types.Packet.{Packet}
 use Rattle.protocol.specs.declared.types.Read.{Read}
-use Rattle.laws.proofs.Choosing.{clashing, pick-ap}
+use Rattle.laws.proofs.Choosing.{clashing, pick-ap, tested}
 use Rattle.protocol.proofs.WholePacket.{dataFrom, packetOf}
 use Rattle.protocol.proofs.FirstFailing.{given-if-none, judged, judged-ap, refused-by-first}
 use Rattle.protocol.proofs.FoundRow.{isUnknown, ofRow, pick-not, row-in, row-out}
-use Rattle.protocol.proofs.FlagWords.{flags-in-words}
+use Rattle.protocol.proofs.FlagWords.{flagged-by-flag, flags-in-words}
+use Rattle.protocol.proofs.StepLaws.{extent-in-steps}
+use Rattle.protocol.proofs.TableRule.{sound}
 use Rattle.protocol.proofs.TypeWords.{connid-in-words, fields-in-words, header-in-words, lengths-in-words, unknown-flags, unknown-lengths}
 use Rattle.protocol.proofs.WordsHold.{types-are-the-tables}
 
 -- where a packet's headers end by its row, and by its type number
-pub row-head : (bs : List ℕ) (r : TypeRow) → rowOf (typeIn bs) ≡ Row r → dataFrom r (flagsIn bs) bs ≡ headIn bs
+pub row-head : (bs : List ℕ) (r : TypeRow) → rowOf (typeIn bs) ≡ Row r → flagsFit r (flagsIn bs) ≡ true → dataFrom r (flagsIn bs) bs ≡ headIn bs
 unfolding afterRaw cqDataLength connidLength hasFlag
-row-head bs r e = rw (header-in-words (typeIn bs) r e, connid-in-words (typeIn bs) r e)
+row-head bs r e t =
+    let there = flagged-by-flag (flagsIn bs) (typeIn bs) r e (flags-in-words (typeIn bs) r (flagsIn bs) e .0 t) in
+    rw (there raw-address, there cq-data, there connid, header-in-words (typeIn bs) r e, connid-in-words (typeIn bs) r e)
 
 -- each check stands in the list
 pub placed : (c : Check) → (i : ℕ) × (i < 7) × (checkAt i ≡ c)
@@ -71,17 +77,19 @@ module _ (all : Bool) (limit : ℕ) (bs : List ℕ) where
   failsAs o wrongLengths = ofRow o (λ r. not (lengthsFit (r .shape) (fieldsTold bs k) (length bs - headIn bs)))
 
   abbrev pub passedAs : Found → Packet
-  passedAs Unknown = packetOf (row 0 Cts 0 0 0 false false 0 0) f bs
+  passedAs Unknown = packetOf (row 0 Cts 0 0 0 false false false 0 0) f bs
   passedAs (Row r) = packetOf r f bs
 
   abbrev judgedAs : Found → List Check → Read
   judgedAs o = judged (failsAs o) (λ c. Read.Refused (refusal (refusedAs c))) (Read.Packet (passedAs o))
 
-  sections-judged : (r : TypeRow) → rowOf k ≡ Row r → readSections r f bs (extentOf r f bs) ≡ judgedAs (Row r) (headerCut ∷ wrongLengths ∷ [])
-  unfolding extentOf sectionsFrom readSections readLengths packetIn headerIn
-  sections-judged r e =
-      pick-ap (readSections r f bs) (ltb (length bs) (dataFrom r f bs)) Cut _
-      ∙ ap₂ whole (row-head bs r e) (fields-in-words bs k r e)
+  sections-judged : (r : TypeRow) → rowOf k ≡ Row r → flagsFit r f ≡ true
+      → readSections r f bs (extentOf r f bs) ≡ judgedAs (Row r) (headerCut ∷ wrongLengths ∷ [])
+  unfolding sectionsFrom readSections readLengths packetIn headerIn
+  sections-judged r e t =
+      ap (readSections r f bs) (extent-in-steps r f bs (sound k r e))
+      ∙ pick-ap (readSections r f bs) (ltb (length bs) (dataFrom r f bs)) Cut _
+      ∙ ap₂ whole (row-head bs r e t) (fields-in-words bs k r e)
       ∙ ap (λ (x : Read). pick (ltb (length bs) (headIn bs)) (Read.Refused cutShort) x) (pick-not (lengthsFit _ _ _) _ _)
     where
       whole : ℕ → Fields → Read
@@ -98,9 +106,7 @@ module _ (all : Bool) (limit : ℕ) (bs : List ℕ) where
       rest = judgedAs (Row r) (wrongFlags ∷ headerCut ∷ wrongLengths ∷ [])
 
       go : (t : Bool) → readTyped (pick t (Row r) Unknown) bs ≡ pick (isUnknown (pick t (Row r) Unknown)) (Read.Refused badType) rest
-      go true =
-          unfold pick in
-          (pick-not (flagsFit r f) _ _ ∙ ap (λ (x : Read). pick (not (flagsFit r f)) (Read.Refused badFlags) x) (sections-judged r e))
+      go true = unfold pick in ⊎-elim (λ t. rw t (sections-judged r e t)) (λ t. rw t) (tested (flagsFit r f))
       go false = unfold pick in refl
 
   pub is-judged : readOf all limit bs ≡ judgedAs (rowOf k) readerChecks

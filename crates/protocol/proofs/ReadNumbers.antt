@@ -2,11 +2,10 @@
 use Prim.Native.Nat.{ℕ, _+_, _^_, _<_}
 use lib.Dec.{lit<}
 use lib.ListN.{getD}
-use mathlib.Core.Bool.{true}
+use mathlib.Core.Bool.{Bool, true}
 use mathlib.Core.List.{List, [], _∷_}
 use mathlib.Core.Path.{_≡_}
 use Rattle.protocol.specs.FieldNumbers.{fieldsIn, numberAt, numberIn}
-use Rattle.protocol.specs.Flags.{connidFlag, cqDataFlag, hasFlag}
 use Rattle.protocol.specs.Layout.{Field, credit-request, layout, msg-id, msg-length, multiuse, padding, recv-id, recv-length, sameField, seg-length, seg-offset, send-id, tag, width}
 use Rattle.protocol.specs.Options.{connidIn, connidOrZero, cqDataIn}
 use Rattle.protocol.specs.Reading.{headerIn, packetIn, readOf}
@@ -15,7 +14,6 @@ use Rattle.protocol.specs.declared.types.Connid.{Connid}
 use Rattle.protocol.specs.declared.types.CqData.{CqData}
 use Rattle.protocol.specs.declared.types.Packet.{Packet}
 use Rattle.protocol.specs.declared.types.Read.{Read}
-use Rattle.wire.specs.LittleEndian.{leAt}
 use Rattle.laws.proofs.Choosing.{pick-either}
 use Rattle.protocol.proofs.Accepted.{as-read}
 use Rattle.wire.proofs.Laws.{le-at-fits}
@@ -55,13 +53,13 @@ module _ (bs : List ℕ) (b : (i : ℕ) → getD bs i 0 < 256) where
   field-small gs at multiuse = none-small multiuse
   field-small gs at padding = none-small padding
 
-  cq-data-small : (f at : ℕ) → cqDataOrZero (cqDataIn f bs at) < 256 ^ 8
+  cq-data-small : (there : Bool) (at : ℕ) → cqDataOrZero (cqDataIn there bs at) < 256 ^ 8
   unfolding cqDataIn
-  cq-data-small f at = pick-either (λ (q : CqData). cqDataOrZero q < 256 ^ 8) (hasFlag f cqDataFlag) (le-at-fits 8 bs at b) (lit< tt)
+  cq-data-small there at = pick-either (λ (q : CqData). cqDataOrZero q < 256 ^ 8) there (le-at-fits 8 bs at b) (lit< tt)
 
-  connid-small : (f at : ℕ) → connidOrZero (connidIn f bs at) < 256 ^ 4
+  connid-small : (there : Bool) (at : ℕ) → connidOrZero (connidIn there bs at) < 256 ^ 4
   unfolding connidIn connidOrZero
-  connid-small f at = pick-either (λ (q : Connid). connidOrZero q < 256 ^ 4) (hasFlag f connidFlag) (le-at-fits 4 bs at b) (lit< tt)
+  connid-small there at = pick-either (λ (q : Connid). connidOrZero q < 256 ^ 4) there (le-at-fits 4 bs at b) (lit< tt)
 
   pub read-numbers : (limit : ℕ) (p : Packet) → readOf true limit bs ≡ Read.Packet p → Numbers (p .header)
   unfolding packetIn headerIn
@@ -70,6 +68,6 @@ module _ (bs : List ℕ) (b : (i : ℕ) → getD bs i 0 < 256) where
       rw same
       (record {
         fields = field-small (layout r) 4;
-        cqData = cq-data-small (leAt 2 bs 2) _;
-        connid = connid-small (leAt 2 bs 2) _;
+        cqData = cq-data-small _ _;
+        connid = connid-small _ _;
       })

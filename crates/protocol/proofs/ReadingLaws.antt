@@ -5,32 +5,34 @@ use lib.Dec.{ltb}
 use lib.ListN.{length}
 use mathlib.Core.List.{List}
 use mathlib.Core.Logic.{⊎-elim}
-use mathlib.Core.Path.{_≡_}
+use mathlib.Core.Path.{_≡_, sym, _∙_}
 use native.Mathlib.Omega.{arith}
 use Rattle.laws.specs.Choose.{pick}
-use Rattle.protocol.specs.Flags.{connidFlag, cqDataFlag, hasFlag}
 use Rattle.protocol.specs.Layout.{multiuse}
 use Rattle.protocol.specs.Rules.{Inside, Sound}
-use Rattle.protocol.specs.Sections.{afterRaw, connidLength, cqDataLength, extentOf, rawSpan, sectionsAt, sectionsFrom}
+use Rattle.protocol.specs.Optional.{connid, cq-data, flagged, raw-address}
+use Rattle.protocol.specs.Sections.{extentOf, rawSpan}
+use Rattle.protocol.specs.Steps.{afterRaw, connidLength, cqDataLength, sectionsAt, sectionsFrom}
 use Rattle.protocol.specs.declared.sections.Extent.the-variants.{Cut, Whole}
 use Rattle.protocol.specs.declared.sections.Sections.{Sections}
 use Rattle.protocol.specs.declared.table.TypeRow.{TypeRow}
 use Rattle.protocol.specs.declared.types.Span.{Span}
 use Rattle.laws.proofs.Choosing.{pick-cases, pick-small, pick-true}
 use Rattle.protocol.proofs.RowLaws.{connid-after, connid-small, connid-within}
+use Rattle.protocol.proofs.StepLaws.{extent-in-steps}
 
 -- CQ data and connid are short
-pub options-short : (r : TypeRow) (f : ℕ) → Sound r → cqDataLength f + connidLength r f ≤ 16
+pub options-short : (r : TypeRow) (f : ℕ) → Sound r → cqDataLength r f + connidLength r f ≤ 16
 unfolding cqDataLength connidLength
-options-short r f s = omega (arith, pick-small (hasFlag f cqDataFlag) 8, connid-small r (hasFlag f connidFlag) s)
+options-short r f s = omega (arith, pick-small (flagged r f cq-data) 8, connid-small r (flagged r f connid) s)
 
 -- a packet that ends before its raw address does is cut short
 pub cut-before : (r : TypeRow) (f : ℕ) (raw : Span) (at n : ℕ) → n < at → sectionsFrom r f raw at n ≡ Cut
 unfolding sectionsFrom pick
-cut-before r f raw at n h = rw (lt-ltb n (at + cqDataLength f + connidLength r f) (omega arith))
+cut-before r f raw at n h = rw (lt-ltb n (at + cqDataLength r f + connidLength r f) (omega arith))
 
 module _ (r : TypeRow) (f : ℕ) (raw : Span) (at n : ℕ) (s : Sound r) (h : r .header ≤ at) where
-  sections-inside : at + cqDataLength f + connidLength r f ≤ n → Inside r f (sectionsAt r f raw at) n
+  sections-inside : at + cqDataLength r f + connidLength r f ≤ n → Inside r f (sectionsAt r f raw at) n
   unfolding cqDataLength connidLength
   sections-inside k =
       record {
@@ -48,9 +50,10 @@ module _ (r : TypeRow) (f : ℕ) (raw : Span) (at n : ℕ) (s : Sound r) (h : r 
   from-inside t e =
       ⊎-elim (λ w. let z : _≡_ {A = ℕ} 0 1 = cc in absurd (omega arith))
       (λ w. let q : sectionsAt r f raw at ≡ t = cc in rw (← q) (sections-inside (ltb-false n _ (w .0))))
-      (pick-cases (ltb n (at + cqDataLength f + connidLength r f)) Cut (Whole (sectionsAt r f raw at)) (Whole t) e)
+      (pick-cases (ltb n (at + cqDataLength r f + connidLength r f)) Cut (Whole (sectionsAt r f raw at)) (Whole t) e)
 
 -- the sections that are found lie inside the packet
 pub extent-inside : (r : TypeRow) (f : ℕ) (bs : List ℕ) (t : Sections) → Sound r → extentOf r f bs ≡ Whole t → Inside r f t (length bs)
-unfolding extentOf afterRaw
-extent-inside r f bs t s e = from-inside r f (rawSpan r f bs) (afterRaw r f bs) (length bs) s (omega arith) t e
+unfolding afterRaw
+extent-inside r f bs t s e =
+    from-inside r f (rawSpan (flagged r f raw-address) bs (r .header)) (afterRaw r f bs) (length bs) s (omega arith) t (sym (extent-in-steps r f bs s) ∙ e)

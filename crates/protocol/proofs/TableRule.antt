@@ -1,7 +1,8 @@
 -- The rule of the table of packet types: what `Sound` says holds of every row that is found, by one test over the whole table.
-use Prim.Native.Nat.{ℕ, _+_, _%_}
-use borrow.Author.Tests.{leb-true, eqb-true, eq-eqb, not-true}
-use lib.Dec.{leb, eqb}
+use Prim.Native.Nat.{ℕ, _+_, _^_}
+use borrow.Author.Tests.{leb-true, ltb-true, eqb-true, eq-eqb, not-true}
+use lib.Bits.{bitAnd}
+use lib.Dec.{leb, ltb, eqb}
 use lib.ListN.{getD}
 use mathlib.Core.Bool.{Bool, true, false, not, _&&_, _||_}
 use mathlib.Core.List.{List, [], _∷_, map}
@@ -10,6 +11,7 @@ use mathlib.Core.Path.{_≡_, refl, sym, subst, _∙_}
 use native.Mathlib.Omega.{arith}
 use Rattle.laws.specs.Choose.{pick}
 use Rattle.protocol.specs.Layout.{Field, credit-request, distinct, fields, layout, msg-id, msg-length, multiuse, ordinal, padding, placeIn, placeOf, recv-id, recv-length, seg-length, seg-offset, send-id, tag, width, widths}
+use Rattle.protocol.specs.Optional.{flagSum, flagsTaken, sections, sectionsOf}
 use Rattle.protocol.specs.Rules.{ConnidPlace, Sound}
 use Rattle.protocol.specs.Types.{row, rowIn, rowOf, rows}
 use Rattle.protocol.specs.declared.table.Found.the-variants.{Row}
@@ -68,7 +70,7 @@ rows-say says told same k r e = each-in (λ k r. says k r ≡ told k) rows (each
 
 -- the rows in their order
 abbrev pub rowAt : ℕ → TypeRow
-rowAt i = getD rows i (row 0 Cts 0 0 0 false false 0 0)
+rowAt i = getD rows i (row 0 Cts 0 0 0 false false false 0 0)
 
 pub by-row : (P : ℕ → TypeRow → Type 0)
     → P 3 (rowAt 0)
@@ -132,13 +134,13 @@ checks r =
     ∷ leb (r .header) 64
     ∷ (eqb (r .connid) 0 || (eqb (r .connid) 4 || eqb (r .connid) 8))
     ∷ (behind (placeOf r multiuse) (r .connid) || within (placeOf r multiuse) (r .connid))
-    ∷ eqb (r .must % 4) 0
-    ∷ leb (r .must) 12
-    ∷ (eqb (r .may) 0x8003 || eqb (r .may) 0x8000)
+    ∷ eqb (bitAnd (r .must) (r .may)) 0
+    ∷ eqb (r .may) (flagsTaken r)
+    ∷ ltb (r .must + flagSum sections) (2 ^ 16)
     ∷ []
 
 pub sound : (k : ℕ) (r : TypeRow) → rowOf k ≡ Row r → Sound r
-unfolding layout placeIn pick
+unfolding layout placeIn flagsTaken sectionsOf pick
 sound k r e =
     record {
       header = eqb-true _ _ (holds 0);
@@ -148,9 +150,9 @@ sound k r e =
       short = leb-true _ _ (holds 4);
       connid = ⊎-map (eqb-true _ _) (λ t. ⊎-map (eqb-true _ _) (eqb-true _ _) (or-cases _ _ t)) (or-cases _ _ (holds 5));
       connidPlace = connid-place (placeOf r multiuse) (r .connid) (holds 6);
-      must = eqb-true _ _ (holds 7);
-      small = leb-true _ _ (holds 8);
-      may = ⊎-map (eqb-true _ _) (eqb-true _ _) (or-cases _ _ (holds 9));
+      apart = eqb-true _ _ (holds 7);
+      may = eqb-true _ _ (holds 8);
+      small = ltb-true _ _ (holds 9);
     }
   where
     holds : (i : ℕ) → getD (checks r) i true ≡ true

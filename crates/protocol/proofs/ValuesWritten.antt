@@ -9,10 +9,10 @@ use mathlib.Core.Path.{_≡_, refl, sym, ap, ap₂, _∙_}
 use native.Mathlib.Omega.{arith}
 use Rattle.laws.specs.Choose.{pick}
 use Rattle.protocol.specs.FieldNumbers.{fieldBytes, numberIn, numberOf}
-use Rattle.protocol.specs.Flags.{flagsOf}
+use Rattle.protocol.specs.Optional.{Section, connid, cq-data, flagsOf, raw-address, sectionsOf}
 use Rattle.protocol.specs.Layout.{Field, credit-request, isOwn, layout, msg-id, msg-length, multiuse, ownFields, padding, recv-id, recv-length, seg-length, seg-offset, select, send-id, tag, width}
 use Rattle.protocol.specs.Lengths.{lengthsFit}
-use Rattle.protocol.specs.Options.{connidOrZero, rawAddressBytes}
+use Rattle.protocol.specs.Options.{connidBytes, connidOrZero, cqDataBytes, rawAddressBytes, sectionBytes, sectionsBytes}
 use Rattle.protocol.specs.Types.{rowOf}
 use Rattle.protocol.specs.Values.{Values, ownNumbers, values}
 use Rattle.protocol.specs.Writing.{mandatoryBytes, packetBytes, writeAs, writeOf, writeTyped}
@@ -97,9 +97,18 @@ module _ (h g : Header) (raw raw′ body body′ : List ℕ) (same : values h ra
         lengths-same (h .fields) (g .fields) (length body) (h .kind) r row own
         ∙ ap (λ (l : List ℕ). lengthsFit (r .shape) (g .fields) (length l)) body-same
 
+    section-same : (x : Section) → sectionBytes r h raw x ≡ sectionBytes r g raw′ x
+    section-same raw-address = address-same .1
+    section-same cq-data = ap cqDataBytes cq-same
+    section-same connid = ap (connidBytes r) connid-same
+
+    sections-same : (xs : List Section) → sectionsBytes r h raw xs ≡ sectionsBytes r g raw′ xs
+    sections-same [] = refl
+    sections-same (x ∷ xs) = ap₂ _++_ (section-same x) (sections-same xs)
+
     bytes-same : packetBytes r h raw body ≡ packetBytes r g raw′ body′
     unfolding packetBytes mandatoryBytes ownFields
-    bytes-same = rw (flags-same, fields-same h g connid-same (layout r) own, connid-same, cq-same, address-same .1, body-same)
+    bytes-same = rw (flags-same, fields-same h g connid-same (layout r) own, sections-same (sectionsOf r), body-same)
 
     row-same : (out : List ℕ) → writeAs r h raw body out ≡ writeAs r g raw′ body′ out
     unfolding writeAs

@@ -1,7 +1,6 @@
 -- A packet that was read is written again: each section's bytes are the packet's own, and the blank ones zero.
 use Prim.Native.Nat.{ℕ, _+_, _-_, _≤_, _<_}
-use borrow.Author.Tests.{ne-eqb}
-use lib.Dec.{eqb, lit<}
+use lib.Dec.{lit<}
 use lib.ListN.{length, getD, drop, replicate, length-replicate, take-append-drop}
 use mathlib.Core.Bool.{Bool, true, false}
 use mathlib.Core.List.{List, [], _∷_, _++_, append-assoc}
@@ -10,15 +9,17 @@ use mathlib.Core.Path.{_≡_, refl, sym, ap, ap₂, _∙_}
 use native.Mathlib.Omega.{arith}
 use Rattle.laws.specs.Choose.{pick}
 use Rattle.laws.specs.Parts.{part, storeAt}
-use Rattle.protocol.specs.ByType.{FlagRule, bitOf, column}
+use Rattle.protocol.specs.ByType.{column}
 use Rattle.protocol.specs.FieldNumbers.{fieldsIn, numberAt}
-use Rattle.protocol.specs.Flags.{connidFlag, flagsOf, hasFlag, rawAddressFlag}
+use Rattle.protocol.specs.Flags.{hasFlag}
+use Rattle.protocol.specs.Optional.{connid, cq-data, flagged, flagsOf, raw-address}
 use Rattle.protocol.specs.Layout.{credit-request, layout, msg-id, msg-length, multiuse, padding, placeOf, recv-id, recv-length, seg-length, seg-offset, send-id, tag, widths}
 use Rattle.protocol.specs.Options.{connidBytes, connidIn, connidOrZero, cqDataBytes, cqDataIn, rawAddressBytes}
 use Rattle.protocol.specs.Reading.{headerIn, packetIn}
 use Rattle.protocol.specs.RoundTrip.{blanked, blankedAs}
 use Rattle.protocol.specs.Rules.{ConnidPlace, Sound}
-use Rattle.protocol.specs.Sections.{afterRaw, connidAt, connidLength, cqDataLength, rawLength, rawSpan, span}
+use Rattle.protocol.specs.Sections.{connidAt, rawSpan, span}
+use Rattle.protocol.specs.Steps.{afterRaw, connidLength, cqDataLength, rawLength}
 use Rattle.protocol.specs.Types.{row, rowOf}
 use Rattle.protocol.specs.Values.{bytesAt}
 use Rattle.protocol.specs.Writing.{baseBytes, mandatoryBytes, packetBytes, writeOf}
@@ -29,15 +30,15 @@ use Rattle.protocol.specs.declared.types.Packet.{Packet}
 use Rattle.protocol.specs.declared.types.Span.{Span}
 use Rattle.protocol.specs.declared.types.Written.{Written}
 use Rattle.wire.specs.LittleEndian.{leAt, leBytes}
-use Rattle.laws.proofs.Choosing.{pick-false, pick-true, tested}
+use Rattle.laws.proofs.Choosing.{pick-true, tested}
 use Rattle.laws.proofs.Storing.{length-part, length-store, part-add, part-drop, part-rest, store-back, store-nothing}
 use Rattle.protocol.proofs.Accepted.{ReadAs, WrittenAs, connidFrom, dataFrom, packetOf, write-as}
 use Rattle.protocol.proofs.FlagLaws.{flags-again}
-use Rattle.protocol.proofs.FlagWords.{flags-in-words}
 use Rattle.protocol.proofs.KeptFields.{NumbersKept, fields-again, isBlank, length-zeroed-fields, zeroedFields}
 use Rattle.protocol.proofs.LayoutLaws.{has-place}
 use Rattle.protocol.proofs.OptionLaws.{cq-data-again, has-connid, has-cq-data, raw-again}
 use Rattle.protocol.proofs.RowLaws.{connid-after, connid-within, number-placed}
+use Rattle.protocol.proofs.StepLaws.{packet-in-steps}
 use Rattle.protocol.proofs.TableRule.{by-row, row-kind, rowAt, sound}
 use Rattle.wire.proofs.Laws.{bytes-again, bytes-again-wide, bytes-none}
 
@@ -52,11 +53,11 @@ padded c r p bs = storeAt bs (blankOf c r p .at) (replicate (blankOf c r p .size
 
 -- and the fields that no value is read from
 abbrev zeroed : ℕ → TypeRow → Packet → List ℕ → List ℕ
-zeroed f r p bs = zeroedFields (hasFlag f connidFlag) (layout r) 4 (padded (p .header .connid) r p bs)
+zeroed f r p bs = zeroedFields (flagged r f connid) (layout r) 4 (padded (p .header .connid) r p bs)
 
 -- the bytes between the base header and a connid behind the other headers
 abbrev middle : TypeRow → ℕ → List ℕ → ℕ
-middle r f bs = widths (layout r) + rawLength r f bs + cqDataLength f
+middle r f bs = widths (layout r) + rawLength r f bs + cqDataLength r f
 
 -- type, version and flags
 base-again : (bs : List ℕ) → ((i : ℕ) → getD bs i 0 < 256) → 4 ≤ length bs → getD bs 1 0 ≡ 4 → baseBytes (getD bs 0 0) (leAt 2 bs 2) ≡ part bs 0 4
@@ -75,7 +76,7 @@ module _ (bs : List ℕ) (b : (i : ℕ) → getD bs i 0 < 256) (k : ℕ) (r : Ty
   header-fits = omega (arith, rule .header, fits)
 
   -- the fields, with a connid in multiuse where it is flagged
-  numbers-kept : NumbersKept (hasFlag f connidFlag) (layout r) 4 bs (packetOf r f bs .header)
+  numbers-kept : NumbersKept (flagged r f connid) (layout r) 4 bs (packetOf r f bs .header)
   unfolding packetIn headerIn fieldsIn pick
   numbers-kept msg-id m = refl
   numbers-kept recv-id m = refl
@@ -87,7 +88,7 @@ module _ (bs : List ℕ) (b : (i : ℕ) → getD bs i 0 < 256) (k : ℕ) (r : Ty
   numbers-kept credit-request m = refl
   numbers-kept tag m = refl
   numbers-kept padding m = refl
-  numbers-kept multiuse m = ⊎-elim flagged plain (tested (hasFlag f connidFlag))
+  numbers-kept multiuse m = ⊎-elim there plain (tested (flagged r f connid))
     where
       place : placeOf r multiuse ≡ 0 → ⊥
       place z = has-place (layout r) 4 multiuse (lit< tt) m (rule .placed multiuse ∙ z)
@@ -95,19 +96,19 @@ module _ (bs : List ℕ) (b : (i : ℕ) → getD bs i 0 < 256) (k : ℕ) (r : Ty
       at : ℕ
       at = connidAt r (connidFrom r f bs)
 
-      flagged : hasFlag f connidFlag ≡ true
-          → connidOrZero (connidIn f bs at) ≡ pick (isBlank (hasFlag f connidFlag) multiuse) 0 (numberAt (layout r) 4 bs multiuse)
-      flagged e =
+      there : flagged r f connid ≡ true
+          → connidOrZero (connidIn (flagged r f connid) bs at) ≡ pick (isBlank (flagged r f connid) multiuse) 0 (numberAt (layout r) 4 bs multiuse)
+      there e =
           unfold connidIn connidOrZero pick in
           rw e (ap (leAt 4 bs) (connid-within r (connidFrom r f bs) place) ∙ sym (number-placed r bs multiuse rule place))
 
-      plain : hasFlag f connidFlag ≡ false
-          → connidOrZero (connidIn f bs at) ≡ pick (isBlank (hasFlag f connidFlag) multiuse) 0 (numberAt (layout r) 4 bs multiuse)
+      plain : flagged r f connid ≡ false
+          → connidOrZero (connidIn (flagged r f connid) bs at) ≡ pick (isBlank (flagged r f connid) multiuse) 0 (numberAt (layout r) 4 bs multiuse)
       plain e = unfold connidIn connidOrZero pick in rw e
 
   middle-again : (z : List ℕ)
       → part bs 4 (widths (layout r))
-      ++ (rawAddressBytes (hasFlag f rawAddressFlag) (bytesAt bs (rawSpan r f bs)) ++ (cqDataBytes (cqDataIn f bs (afterRaw r f bs)) ++ z))
+      ++ (rawAddressBytes (flagged r f raw-address) (bytesAt bs (rawSpan (flagged r f raw-address) bs (r .header))) ++ (cqDataBytes (cqDataIn (flagged r f cq-data) bs (afterRaw r f bs)) ++ z))
       ≡ part bs 4 (middle r f bs) ++ z
   unfolding afterRaw
   middle-again z =
@@ -115,7 +116,7 @@ module _ (bs : List ℕ) (b : (i : ℕ) → getD bs i 0 < 256) (k : ℕ) (r : Ty
       let m : 4 + (widths (layout r) + rawLength r f bs) ≡ r .header + rawLength r f bs = omega arith in
       rw (
         raw-again bs b r f (omega arith),
-        cq-data-again bs b f (afterRaw r f bs) (omega arith),
+        cq-data-again bs b r f (afterRaw r f bs) (omega arith),
         part-add,
         part-add,
         n,
@@ -133,13 +134,13 @@ module _ (bs : List ℕ) (b : (i : ℕ) → getD bs i 0 < 256) (k : ℕ) (r : Ty
     unfolding part
     all-again x = rw (x, part-drop bs 4 (middle r f bs)) (take-append-drop 4 bs)
 
-    absent-again : hasFlag f connidFlag ≡ false → Again Connid.Absent p
+    absent-again : flagged r f connid ≡ false → Again Connid.Absent p
     unfolding connidBytes connidLength afterRaw blankOf pick
     absent-again e =
         let x : p .«data» .at ≡ 4 + middle r f bs = omega (arith, rw e at d, rule .header) in
         (all-again x ∙ sym (store-nothing bs 0), omega arith)
 
-    present-again : (n : ℕ) → hasFlag f connidFlag ≡ true → ConnidPlace (placeOf r multiuse) (r .connid)
+    present-again : (n : ℕ) → flagged r f connid ≡ true → ConnidPlace (placeOf r multiuse) (r .connid)
         → n ≡ leAt 4 bs (connidAt r (connidFrom r f bs))
         → Again (Connid.Present n) p
     unfolding connidBytes connidLength afterRaw blankOf pick
@@ -159,43 +160,31 @@ module _ (bs : List ℕ) (b : (i : ℕ) → getD bs i 0 < 256) (k : ℕ) (r : Ty
         let z : replicate {A = ℕ} (r .connid - 4) 0 ≡ [] = ap (λ n. replicate {A = ℕ} (n - 4) 0) (m .1) in
         (rw (gone, z, store-nothing) (all-again y), omega (arith, d, fits, m .1))
 
-    connid-again : Again (connidIn f bs (connidAt r (connidFrom r f bs))) p
+    connid-again : Again (connidIn (flagged r f connid) bs (connidAt r (connidFrom r f bs))) p
     unfolding connidIn pick
     connid-again =
-        ⊎-elim (λ e. rw e (present-again _ e (rule .connidPlace) refl)) (λ e. rw e (absent-again e)) (tested (hasFlag f connidFlag))
+        ⊎-elim (λ e. rw e (present-again _ e (rule .connidPlace) refl)) (λ e. rw e (absent-again e)) (tested (flagged r f connid))
 
 -- by the type's number: CTSDATA has no raw address and no CQ data before its connid
 module _ (f : ℕ) (bs : List ℕ) where
-  bit-off : (i n : ℕ) → bitOf f i ≡ 0 → pick (eqb (bitOf f i) 1) n 0 ≡ 0
-  bit-off i n e = pick-false n 0 (ne-eqb (bitOf f i) 1 (λ x. omega arith))
+  padding-at : flagged (rowAt 1) f connid ≡ true → dataFrom (rowAt 1) f bs - 4 ≡ 28
+  unfolding afterRaw cqDataLength connidLength flagged pick
+  padding-at t = rw t
 
-  padding-at : hasFlag f connidFlag ≡ true → FlagRule 4 f → dataFrom (rowAt 1) f bs - 4 ≡ 28
-  unfolding afterRaw cqDataLength connidLength hasFlag
-  padding-at t w =
-      let a = bit-off 0 (4 + leAt 4 bs 24) (w .0 (inr refl) 0 (λ x. omega arith)) in
-      let b = bit-off 1 8 (w .0 (inr refl) 1 (λ x. omega arith)) in
-      let c = pick-true {A = ℕ} 8 0 t in
-      omega arith
-
-  padding-zeroed : (x k : ℕ) (r : TypeRow) → rowOf k ≡ Row r → hasFlag f connidFlag ≡ true → FlagRule k f
+  padding-zeroed : (x k : ℕ) (r : TypeRow) → rowOf k ≡ Row r → flagged r f connid ≡ true
       → padded (Connid.Present x) r (packetOf r f bs) bs ≡ column bs ((4, storeAt bs 28 (replicate 4 0)) ∷ []) k
   unfolding blankOf packetIn pick
-  padding-zeroed x k r e t =
-      by-row (λ k r. FlagRule k f → padded (Connid.Present x) r (packetOf r f bs) bs ≡ column bs ((4, storeAt bs 28 (replicate 4 0)) ∷ []) k)
-      (λ w. store-nothing bs _)
-      ctsdata
-      (λ w. store-nothing bs _)
-      (λ w. store-nothing bs _)
-      (λ w. store-nothing bs _)
-      (λ w. store-nothing bs _)
-      (λ w. store-nothing bs _)
-      (λ w. store-nothing bs _)
-      k
-      r
-      e
-    where
-      ctsdata : FlagRule 4 f → storeAt bs (dataFrom (rowAt 1) f bs - 4) (replicate 4 0) ≡ storeAt bs 28 (replicate 4 0)
-      ctsdata w = ap (λ (m : ℕ). storeAt bs m (replicate 4 0)) (padding-at t w)
+  padding-zeroed x =
+      by-row (λ k r. flagged r f connid ≡ true
+      → padded (Connid.Present x) r (packetOf r f bs) bs ≡ column bs ((4, storeAt bs 28 (replicate 4 0)) ∷ []) k)
+      (λ t. store-nothing bs _)
+      (λ t. ap (λ (m : ℕ). storeAt bs m (replicate 4 0)) (padding-at t))
+      (λ t. store-nothing bs _)
+      (λ t. store-nothing bs _)
+      (λ t. store-nothing bs _)
+      (λ t. store-nothing bs _)
+      (λ t. store-nothing bs _)
+      (λ t. store-nothing bs _)
 
   -- of the fields, CTS's multiuse alone is blank
   none-zeroed : (l : List ℕ) (k : ℕ) (r : TypeRow) → rowOf k ≡ Row r → zeroedFields true (layout r) 4 l ≡ l
@@ -208,22 +197,22 @@ module _ (f : ℕ) (bs : List ℕ) where
   multiuse-zeroed l =
       by-row (λ k r. zeroedFields false (layout r) 4 l ≡ column l ((3, storeAt l 4 (replicate 4 0)) ∷ []) k) refl refl refl refl refl refl refl refl
 
-  module _ (k : ℕ) (r : TypeRow) (e : rowOf k ≡ Row r) (w : FlagRule k f) where
-    zeroed-flagged : hasFlag f connidFlag ≡ true → zeroed f r (packetOf r f bs) bs ≡ blankedAs k f bs
-    unfolding packetIn headerIn connidIn hasFlag
+  module _ (k : ℕ) (r : TypeRow) (e : rowOf k ≡ Row r) where
+    zeroed-flagged : flagged r f connid ≡ true → zeroed f r (packetOf r f bs) bs ≡ blankedAs k f bs
+    unfolding packetIn headerIn connidIn flagged hasFlag
     zeroed-flagged t =
         ap (λ (u : Bool). zeroedFields u (layout r) 4 (padded (packetOf r f bs .header .connid) r (packetOf r f bs) bs)) t
         ∙ none-zeroed _ k r e
         ∙ ap (λ (c : Connid). padded c r (packetOf r f bs) bs) (pick-true _ _ t)
-        ∙ padding-zeroed _ k r e t w
+        ∙ padding-zeroed _ k r e t
         ∙ sym (pick-true _ _ t)
 
-    zeroed-plain : hasFlag f connidFlag ≡ false → zeroed f r (packetOf r f bs) bs ≡ blankedAs k f bs
-    unfolding packetIn headerIn connidIn hasFlag blankOf pick
+    zeroed-plain : flagged r f connid ≡ false → zeroed f r (packetOf r f bs) bs ≡ blankedAs k f bs
+    unfolding packetIn headerIn connidIn flagged hasFlag blankOf pick
     zeroed-plain t = rw (t, store-nothing) (multiuse-zeroed bs k r e)
 
     zeroed-in-words : zeroed f r (packetOf r f bs) bs ≡ blankedAs k f bs
-    zeroed-in-words = ⊎-elim zeroed-flagged zeroed-plain (tested (hasFlag f connidFlag))
+    zeroed-in-words = ⊎-elim zeroed-flagged zeroed-plain (tested (flagged r f connid))
 
 -- the packet p that was read from bs
 module _ (limit : ℕ) (bs : List ℕ) (r : TypeRow) (a : ReadAs limit bs r) (b : (i : ℕ) → getD bs i 0 < 256) where
@@ -236,11 +225,11 @@ module _ (limit : ℕ) (bs : List ℕ) (r : TypeRow) (a : ReadAs limit bs r) (b 
 
   flags-written : flagsOf r (p .header) ≡ leAt 2 bs 2
   unfolding packetIn headerIn
-  flags-written = flags-again r (leAt 2 bs 2) _ (sound (getD bs 0 0) r (a .row)) (a .flags) refl (has-cq-data _ bs _) (has-connid _ bs _)
+  flags-written = flags-again r (leAt 2 bs 2) (sound (getD bs 0 0) r (a .row)) (a .flags) _ refl (has-cq-data _ bs _) (has-connid _ bs _)
 
   packet-zeroed : (packetBytes r (p .header) (bytesAt bs (p .«raw_address»)) (bytesAt bs (p .«data»)) ≡ zeroed (leAt 2 bs 2) r p bs)
       × (length (zeroed (leAt 2 bs 2) r p bs) ≡ length bs)
-  unfolding packetBytes mandatoryBytes packetIn headerIn
+  unfolding mandatoryBytes packetIn headerIn
   packet-zeroed =
       let k = getD bs 0 0 in
       let f = leAt 2 bs 2 in
@@ -249,21 +238,20 @@ module _ (limit : ℕ) (bs : List ℕ) (r : TypeRow) (a : ReadAs limit bs r) (b 
       let room = header-fits bs b k r (a .row) f (a .inside) in
       let s = sound k r (a .row) in
       let n : length (padded (p .header .connid) r p bs) ≡ length bs = length-store bs _ _ (rw length-replicate inside) in
-      let again = fields-again (hasFlag f connidFlag) (layout r) (p .header) bs (part bs 0 4)
+      let again = fields-again (flagged r f connid) (layout r) (p .header) bs (part bs 0 4)
       (rawAddressBytes (p .header .«raw_address») (bytesAt bs (p .«raw_address»))
       ++ (cqDataBytes (p .header .«cq_data») ++ (connidBytes r (p .header .connid) ++ drop (p .«data» .at) bs)))
       4 (s .once) b room (length-part bs 0 4 (omega (arith, room))) (numbers-kept bs b k r (a .row) f (a .inside)) in (
-        rw (base, part-rest bs) (simp append-assoc
-            (again ∙ ap (zeroedFields (hasFlag f connidFlag) (layout r) 4)
+        packet-in-steps r (p .header) _ _ s (rw flags-written (a .flags)) ∙ rw (base, part-rest bs) (simp append-assoc
+            (again ∙ ap (zeroedFields (flagged r f connid) (layout r) 4)
             (ap (λ (l : List ℕ). part bs 0 4 ++ l) (middle-again bs b k r (a .row) f (a .inside) _) ∙ e))),
-        length-zeroed-fields (hasFlag f connidFlag) (layout r) _ 4 (omega (arith, room, n)) ∙ n,
+        length-zeroed-fields (flagged r f connid) (layout r) _ 4 (omega (arith, room, n)) ∙ n,
       )
 
   packet-again : (packetBytes r (p .header) (bytesAt bs (p .«raw_address»)) (bytesAt bs (p .«data»)) ≡ blanked bs)
       × (length (blanked bs) ≡ length bs)
   packet-again =
-      let rule = flags-in-words (getD bs 0 0) r (leAt 2 bs 2) (a .row) .0 (a .flags) in
-      let e = zeroed-in-words (leAt 2 bs 2) bs (getD bs 0 0) r (a .row) rule in
+      let e = zeroed-in-words (leAt 2 bs 2) bs (getD bs 0 0) r (a .row) in
       (packet-zeroed .0 ∙ e, ap length (sym e) ∙ packet-zeroed .1)
 
   written-again : (out : List ℕ) → length bs ≤ 8192 → length bs ≤ length out

@@ -12,7 +12,8 @@ use Rattle.laws.specs.Choose.{pick}
 use Rattle.laws.specs.Parts.{storeAt}
 use Rattle.protocol.specs.ByType.{CtsOrData, Known, LengthRule, Rtm}
 use Rattle.protocol.specs.Checks.{gives, refused}
-use Rattle.protocol.specs.Flags.{flagsFit, flagsOf}
+use Rattle.protocol.specs.Flags.{flagsFit}
+use Rattle.protocol.specs.Optional.{flagsOf, hasCqData}
 use Rattle.protocol.specs.InWords.{TypesAreTheTables}
 use Rattle.protocol.specs.Lengths.{lengthsFit}
 use Rattle.protocol.specs.Options.{connidBytes, cqDataBytes}
@@ -31,7 +32,7 @@ use Rattle.protocol.specs.declared.types.Header.{Header}
 use Rattle.protocol.specs.declared.types.Written.{Written}
 use Rattle.laws.proofs.Choosing.{clashing, tested}
 use Rattle.protocol.proofs.FirstFailing.{given-if-none, judged, judged-ap, FirstIn, first-or-none, none-of, of-first, refused-by-first}
-use Rattle.protocol.proofs.FlagLaws.{connid-fits, every-option-fits, fits-connid, hasCqData}
+use Rattle.protocol.proofs.FlagLaws.{connid-fits, every-option-fits, fits-connid}
 use Rattle.protocol.proofs.OptionLaws.{length-raw}
 use Rattle.protocol.proofs.FoundRow.{is-unknown, isUnknown, ofRow, pick-not, row-in, row-out}
 use Rattle.protocol.proofs.TableRule.{by-row, rowAt, sound}
@@ -52,14 +53,14 @@ unfolding connidBytes
 connid-takes k r Connid.Absent e = refl
 connid-takes k r (Connid.Present c) e = rw length-le (connid-in-words k r e)
 
-pub length-in-words : (h : Header) (raw body : List ℕ) (r : TypeRow) → rowOf (h .kind) ≡ Row r
+pub length-in-words : (h : Header) (raw body : List ℕ) (r : TypeRow) → rowOf (h .kind) ≡ Row r → flagsFit r (flagsOf r h) ≡ true
     → length (packetBytes r h raw body) ≡ packetLength h (length raw) (length body)
-length-in-words h raw body r e =
+length-in-words h raw body r e t =
     let a = header-in-words (h .kind) r e in
     let b = length-raw (h .«raw_address») raw in
     let c = cq-data-takes (h .«cq_data») in
     let d = connid-takes (h .kind) r (h .connid) e in
-    omega (arith, length-packet r h raw body (sound (h .kind) r e))
+    omega (arith, length-packet r h raw body (sound (h .kind) r e) t)
 
 -- ---- an optional header that the type can't have
 
@@ -74,8 +75,8 @@ Fitting h k false = CtsOrData k × (Neither h → ⊥)
 fitting : (h : Header) (k : ℕ) (r : TypeRow) → rowOf k ≡ Row r → Fitting h k (flagsFit r (flagsOf r h))
 fitting h k r e =
     by-row (λ k r. Sound r → Fitting h k (flagsFit r (flagsOf r h)))
-    (λ s. cts 3 (rowAt 0) refl refl (inl refl))
-    (λ s. cts 4 (rowAt 1) refl refl (inr refl))
+    (λ s. cts 3 (rowAt 0) s refl (inl refl))
+    (λ s. cts 4 (rowAt 1) s refl (inr refl))
     (λ s. rtm 64 (rowAt 2) s refl (lit≤ tt, lit≤ tt))
     (λ s. rtm 65 (rowAt 3) s refl (lit≤ tt, lit≤ tt))
     (λ s. rtm 66 (rowAt 4) s refl (lit≤ tt, lit≤ tt))
@@ -83,15 +84,15 @@ fitting h k r e =
     (λ s. rtm 68 (rowAt 6) s refl (lit≤ tt, lit≤ tt))
     (λ s. rtm 69 (rowAt 7) s refl (lit≤ tt, lit≤ tt)) k r e (sound k r e)
   where
-    cts : (k : ℕ) (r : TypeRow) → r .may ≡ 0x8000 → r .must ≡ 0 → CtsOrData k → Fitting h k (flagsFit r (flagsOf r h))
-    cts k r m z c = go (flagsFit r (flagsOf r h)) refl
+    cts : (k : ℕ) (r : TypeRow) → Sound r → r .request ≡ false → CtsOrData k → Fitting h k (flagsFit r (flagsOf r h))
+    cts k r s q c = go (flagsFit r (flagsOf r h)) refl
       where
         go : (t : Bool) → flagsFit r (flagsOf r h) ≡ t → Fitting h k t
-        go true x = λ d. fits-connid r h m z x
-        go false x = (c, λ n. clashing _ (connid-fits r h m z (n .0) (n .1)) x)
+        go true x = λ d. fits-connid r h s q x
+        go false x = (c, λ n. clashing _ (connid-fits r h s q (n .0) (n .1)) x)
 
-    rtm : (k : ℕ) (r : TypeRow) → Sound r → r .may ≡ 0x8003 → Rtm k → Fitting h k (flagsFit r (flagsOf r h))
-    rtm k r s m l = subst (Fitting h k) (sym (every-option-fits r h s m)) (λ c. absurd (⊎-elim (λ x. omega arith) (λ x. omega arith) c))
+    rtm : (k : ℕ) (r : TypeRow) → Sound r → r .request ≡ true → Rtm k → Fitting h k (flagsFit r (flagsOf r h))
+    rtm k r s q l = subst (Fitting h k) (sym (every-option-fits r h s q)) (λ c. absurd (⊎-elim (λ x. omega arith) (λ x. omega arith) c))
 
 misplaced : (h : Header) → CtsOrData (h .kind) → (Neither h → ⊥) → Misplaced h
 misplaced h c n = (c, go (tested (h .«raw_address»)) (h .«cq_data») refl)
@@ -144,9 +145,10 @@ module _ (h : Header) (raw body out : List ℕ) where
   abbrev judgedAs : Found → List WriterCheck → Outcome
   judgedAs o = judged (failsAs o) refusing (written o)
 
-  bytes-judged : (r : TypeRow) → rowOf k ≡ Row r → writeBytes (packetBytes r h raw body) out ≡ judgedAs (Row r) (overLongest ∷ shortBuffer ∷ [])
+  bytes-judged : (r : TypeRow) → rowOf k ≡ Row r → flagsFit r (flagsOf r h) ≡ true
+      → writeBytes (packetBytes r h raw body) out ≡ judgedAs (Row r) (overLongest ∷ shortBuffer ∷ [])
   unfolding writeBytes
-  bytes-judged r e = ap sized (length-in-words h raw body r e)
+  bytes-judged r e t = ap sized (length-in-words h raw body r e t)
     where
       sized : ℕ → Outcome
       sized m =
@@ -158,10 +160,10 @@ module _ (h : Header) (raw body out : List ℕ) where
   typed-judged Unknown e = unfold pick in refl
   typed-judged (Row r) e =
       unfold pick in
-      (pick-not (flagsFit r (flagsOf r h)) _ _
-      ∙ ap (λ (x : Outcome). pick (not (flagsFit r (flagsOf r h))) (refusing misplacedHeader) x)
-      (pick-not (lengthsFit (r .shape) (h .fields) (length body)) _ _
-      ∙ ap (λ (x : Outcome). pick (not (lengthsFit (r .shape) (h .fields) (length body))) (refusing brokenLengths) x) (bytes-judged r e)))
+      ⊎-elim (λ t. rw t (pick-not (lengthsFit (r .shape) (h .fields) (length body)) _ _
+      ∙ ap (λ (x : Outcome). pick (not (lengthsFit (r .shape) (h .fields) (length body))) (refusing brokenLengths) x) (bytes-judged r e t)))
+      (λ t. rw t)
+      (tested (flagsFit r (flagsOf r h)))
 
   pub write-judged : writeOf h raw body out ≡ judgedAs (rowOf k) writerChecks
   unfolding writeOf

@@ -3,25 +3,29 @@ use Prim.Native.Nat.{ℕ, _+_, _^_, _≤_, _<_}
 use borrow.Author.Tests.{ltb-true, ltb-false, lt-ltb}
 use lib.Dec.{ltb}
 use lib.ListN.{length, length-append}
-use mathlib.Core.Bool.{Bool, true, false}
+use mathlib.Core.Bool.{true, false}
 use mathlib.Core.List.{List}
 use mathlib.Core.Logic.{⊎-elim}
 use mathlib.Core.Path.{_≡_, sym, ap}
 use native.Mathlib.Omega.{arith}
 use Rattle.laws.specs.Choose.{pick}
-use Rattle.protocol.specs.Flags.{flagsOf}
+use Rattle.protocol.specs.Flags.{flagsFit}
+use Rattle.protocol.specs.Optional.{flagged, flagsOf, raw-address, sectionsOf}
 use Rattle.protocol.specs.Options.{connidBytes, cqDataBytes, rawAddressBytes}
 use Rattle.protocol.specs.Rules.{Sound}
-use Rattle.protocol.specs.Totals.{headLength, limitedTo, totalOf}
+use Rattle.protocol.specs.Steps.{headLength}
+use Rattle.protocol.specs.Totals.{limitedTo, sizes, totalOf}
 use Rattle.protocol.specs.Writing.{baseBytes, mandatoryBytes, packetBytes}
 use Rattle.protocol.specs.declared.table.TypeRow.{TypeRow}
 use Rattle.protocol.specs.declared.types.Header.{Header}
 use Rattle.protocol.specs.declared.types.Length.the-variants.{Above, Bytes}
-use Rattle.laws.proofs.Choosing.{pick-cases, pick-true}
+use Rattle.laws.proofs.Choosing.{pick-cases, pick-false, pick-true}
+use Rattle.protocol.proofs.FlagLaws.{raw-address-flag}
 use Rattle.protocol.proofs.LayoutLaws.{length-fields}
 use Rattle.protocol.proofs.OptionLaws.{connid-length, cq-data-length, length-raw}
 use Rattle.protocol.proofs.ReadingLaws.{options-short}
 use Rattle.protocol.proofs.RowLaws.{header-bounds}
+use Rattle.protocol.proofs.StepLaws.{packet-in-steps, sizes-in-steps}
 use Rattle.wire.proofs.Laws.{length-le}
 
 pub head-small : (r : TypeRow) (f : ℕ) → Sound r → headLength r f ≤ 80
@@ -38,30 +42,36 @@ pub length-mandatory : (r : TypeRow) (h : Header) → Sound r → length (mandat
 unfolding mandatoryBytes
 length-mandatory r h s = rw (length-append, length-base, length-fields) (sym (s .header))
 
-raw-sum : (there : Bool) (raw : List ℕ) (k q d n : ℕ)
-    → pick there (k + q + d + 4 + length raw + n) (k + q + d + n) ≡ k + length (rawAddressBytes there raw) + q + d + n
-unfolding pick
-raw-sum true raw k q d n = rw length-raw (omega arith)
-raw-sum false raw k q d n = rw length-raw (omega arith)
-
-module _ (r : TypeRow) (h : Header) (raw body : List ℕ) (s : Sound r) where
+module _ (r : TypeRow) (h : Header) (raw body : List ℕ) (s : Sound r) (t : flagsFit r (flagsOf r h) ≡ true) where
   pub length-packet : length (packetBytes r h raw body)
       ≡ r .header
       + length (rawAddressBytes (h .«raw_address») raw)
       + length (cqDataBytes (h .«cq_data»))
       + length (connidBytes r (h .connid))
       + length body
-  unfolding packetBytes
-  length-packet = simp length-append (omega (arith, length-mandatory r h s))
+  length-packet = rw (packet-in-steps r h raw body s t) (simp length-append (omega (arith, length-mandatory r h s)))
 
   -- the raw address of a packet that the limit allows has a size that fits
   pub raw-fits : length (packetBytes r h raw body) ≤ 8192 → h .«raw_address» ≡ true → length raw < 2 ^ 32
   raw-fits k e = omega (arith, length-packet, length-raw (h .«raw_address») raw, pick-true {A = ℕ} (4 + length raw) 0 e)
 
   -- what the writer computes is the packet's length
-  pub total-is : totalOf r (flagsOf r h) (h .«raw_address») (length raw) (length body) ≡ limitedTo (length (packetBytes r h raw body))
+  pub total-is : totalOf r (flagsOf r h) (length raw) (length body) ≡ limitedTo (length (packetBytes r h raw body))
+  unfolding totalOf
+  total-is =
+      let sum : r .header + sizes r (flagsOf r h) (length raw) (sectionsOf r) + length body ≡ length (packetBytes r h raw body) =
+      rw (sizes-in-steps, raw-address-flag r h s t, cq-data-length r h s t, connid-length r h s, length-packet, length-raw) (omega arith) in
+      ap limitedTo sum
+
+-- and it is a sum of the headers without the raw address, the raw address, where it is there, and the data
+module _ (r : TypeRow) (f raw size : ℕ) where
+  pub total-with : flagged r f raw-address ≡ true → totalOf r f raw size ≡ limitedTo (headLength r f + 4 + raw + size)
   unfolding totalOf headLength
-  total-is = rw (cq-data-length r h s, connid-length r h s, length-packet) (ap limitedTo (raw-sum (h .«raw_address») raw (r .header) _ _ (length body)))
+  total-with e = ap limitedTo (omega (arith, sizes-in-steps r f raw, pick-true {A = ℕ} (4 + raw) 0 e))
+
+  pub total-without : flagged r f raw-address ≡ false → totalOf r f raw size ≡ limitedTo (headLength r f + size)
+  unfolding totalOf headLength
+  total-without e = ap limitedTo (omega (arith, sizes-in-steps r f raw, pick-false {A = ℕ} (4 + raw) 0 e))
 
 -- what the limit answers
 

@@ -2,10 +2,12 @@ pub mod Types
 pub mod Flags
 pub mod Layout
 pub mod FieldNumbers
+pub mod Optional
 pub mod Lengths
 pub mod Options
 pub mod Refusals
 pub mod Sections
+pub mod Steps
 pub mod Reading
 pub mod Writing
 pub mod Totals

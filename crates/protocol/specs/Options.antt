@@ -1,7 +1,7 @@
 -- The optional headers (01: "After an RTM's mandatory header come, where flagged, raw address (size 4, then size bytes), CQ data 8,
 -- connid 4, in that order"; "CTSDATA: .. with CONNID_HDR also connid 4, padding 4"; "a flagged multiuse is the connid").
 use Prim.Native.Nat.{ℕ}
-use mathlib.Core.List.{List, [], _++_}
+use mathlib.Core.List.{List, [], _∷_, _++_}
 use mathlib.Core.Bool.{Bool}
 use lib.ListN.{length}
 use Rattle.laws.specs.Choose.{pick}
@@ -9,7 +9,8 @@ use Rattle.wire.specs.LittleEndian.{leBytes, leAt}
 use Rattle.protocol.specs.declared.table.TypeRow.{TypeRow}
 use Rattle.protocol.specs.declared.types.CqData.{CqData}
 use Rattle.protocol.specs.declared.types.Connid.{Connid}
-use Rattle.protocol.specs.Flags.{hasFlag, cqDataFlag, connidFlag}
+use Rattle.protocol.specs.declared.types.Header.{Header}
+use Rattle.protocol.specs.Optional.{Section, cq-data, connid, raw-address}
 
 -- as bytes
 
@@ -30,10 +31,21 @@ unfoldable pub connidOrZero : Connid → ℕ
 connidOrZero Connid.Absent = 0
 connidOrZero (Connid.Present c) = c
 
--- as read at a place, where the flags f say so
+-- of a section
+abbrev pub sectionBytes : TypeRow → Header → List ℕ → Section → List ℕ
+sectionBytes r h raw raw-address = rawAddressBytes (h .«raw_address») raw
+sectionBytes r h raw cq-data = cqDataBytes (h .«cq_data»)
+sectionBytes r h raw connid = connidBytes r (h .connid)
 
-unfoldable pub cqDataIn : ℕ → List ℕ → ℕ → CqData
-cqDataIn f bs at = pick (hasFlag f cqDataFlag) (CqData.Present (leAt 8 bs at)) CqData.Absent
+-- of some sections, one behind the other
+abbrev pub sectionsBytes : TypeRow → Header → List ℕ → List Section → List ℕ
+sectionsBytes r h raw [] = []
+sectionsBytes r h raw (s ∷ ss) = sectionBytes r h raw s ++ sectionsBytes r h raw ss
 
-unfoldable pub connidIn : ℕ → List ℕ → ℕ → Connid
-connidIn f bs at = pick (hasFlag f connidFlag) (Connid.Present (leAt 4 bs at)) Connid.Absent
+-- as read at a place, where they are there
+
+unfoldable pub cqDataIn : Bool → List ℕ → ℕ → CqData
+cqDataIn there bs at = pick there (CqData.Present (leAt 8 bs at)) CqData.Absent
+
+unfoldable pub connidIn : Bool → List ℕ → ℕ → Connid
+connidIn there bs at = pick there (Connid.Present (leAt 4 bs at)) Connid.Absent

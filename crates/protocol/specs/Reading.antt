@@ -16,10 +16,11 @@ use Rattle.protocol.specs.declared.sections.Sections.{Sections}
 use Rattle.protocol.specs.declared.sections.Extent.{Extent}
 use Rattle.protocol.specs.declared.sections.Extent.the-variants.{Whole, Cut}
 use Rattle.protocol.specs.Types.{rowOf, admit}
-use Rattle.protocol.specs.Flags.{hasFlag, flagsFit, rawAddressFlag}
+use Rattle.protocol.specs.Flags.{flagsFit}
 use Rattle.protocol.specs.FieldNumbers.{fieldsIn}
 use Rattle.protocol.specs.Layout.{layout}
 use Rattle.protocol.specs.Lengths.{lengthsFit}
+use Rattle.protocol.specs.Optional.{connid, cq-data, flagged, raw-address}
 use Rattle.protocol.specs.Options.{cqDataIn, connidIn}
 use Rattle.protocol.specs.Sections.{span, extentOf}
 use Rattle.protocol.specs.Refusals.{aboveLimit, cutShort, badVersion, badType, badFlags, badLength}
@@ -30,9 +31,9 @@ headerIn r f bs s =
     record {
       kind = r .kind;
       fields = fieldsIn (layout r) 4 bs;
-      «raw_address» = hasFlag f rawAddressFlag;
-      «cq_data» = cqDataIn f bs (s .«cq_at»);
-      connid = connidIn f bs (s .«connid_at»);
+      «raw_address» = flagged r f raw-address;
+      «cq_data» = cqDataIn (flagged r f cq-data) bs (s .«cq_at»);
+      connid = connidIn (flagged r f connid) bs (s .«connid_at»);
     }
 
 unfoldable pub packetIn : TypeRow → ℕ → List ℕ → Sections → Packet

@@ -1,11 +1,13 @@
 -- The rule of the table of packet types, and what the inner functions of reader and writer ask of their callers.
-use Prim.Native.Nat.{ℕ, _+_, _%_, _≤_}
+use Prim.Native.Nat.{ℕ, _+_, _^_, _≤_, _<_}
 use mathlib.Core.Path.{_≡_}
 use mathlib.Core.Bool.{true}
 use mathlib.Core.Logic.{_⊎_}
+use lib.Bits.{bitAnd}
 use Rattle.protocol.specs.declared.table.TypeRow.{TypeRow}
 use Rattle.protocol.specs.declared.sections.Sections.{Sections}
-use Rattle.protocol.specs.Flags.{hasFlag, cqDataFlag, connidFlag}
+use Rattle.protocol.specs.Optional.{cq-data, flagSum, flagged, flagsTaken, sections}
+use Rattle.protocol.specs.Optional as Optional
 use Rattle.protocol.specs.Layout.{Field, distinct, layout, multiuse, placeIn, placeOf, width, widths}
 
 -- the widths at which a connid behind the other optional headers is written
@@ -28,14 +30,15 @@ pub record Sound (r : TypeRow) : Type 0 where
   pub short : r .header ≤ 64
   pub connid : NumberWidth (r .connid)
   pub connidPlace : ConnidPlace (placeOf r multiuse) (r .connid)
-  -- the flags that it must have are not those of the optional headers, and the flags that it may have are
-  pub must : r .must % 4 ≡ 0
-  pub small : r .must ≤ 12
-  pub may : (r .may ≡ 0x8003) ⊎ (r .may ≡ 0x8000)
+  -- the flags that it must have and those that it may have are apart, and the latter are those of its optional headers
+  pub apart : bitAnd (r .must) (r .may) ≡ 0
+  pub may : r .may ≡ flagsTaken r
+  -- the flags of all optional headers can be added in 16 bits
+  pub small : r .must + flagSum sections < 2 ^ 16
 
 -- the sections s of a packet of n bytes lie inside it
 pub record Inside (r : TypeRow) (f : ℕ) (s : Sections) (n : ℕ) : Type 0 where
   pub header : r .header ≤ n
-  pub cq : hasFlag f cqDataFlag ≡ true → s .«cq_at» + 8 ≤ n
-  pub connid : hasFlag f connidFlag ≡ true → s .«connid_at» + 4 ≤ n
+  pub cq : flagged r f cq-data ≡ true → s .«cq_at» + 8 ≤ n
+  pub connid : flagged r f Optional.connid ≡ true → s .«connid_at» + 4 ≤ n
   pub body : s .«data_at» ≤ n

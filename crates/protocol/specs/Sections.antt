@@ -1,6 +1,7 @@
 -- Where a packet's optional headers and its data lie, and whether the packet ends before its headers do.
 use Prim.Native.Nat.{ℕ, _+_}
-use mathlib.Core.List.{List}
+use mathlib.Core.List.{List, [], _∷_}
+use mathlib.Core.Bool.{Bool, false, _||_}
 use lib.Dec.{ltb, eqb}
 use lib.ListN.{length}
 use Rattle.laws.specs.Choose.{pick}
@@ -10,46 +11,66 @@ use Rattle.protocol.specs.declared.types.Span.{Span}
 use Rattle.protocol.specs.declared.sections.Sections.{Sections}
 use Rattle.protocol.specs.declared.sections.Extent.{Extent}
 use Rattle.protocol.specs.declared.sections.Extent.the-variants.{Whole, Cut}
-use Rattle.protocol.specs.Flags.{hasFlag, rawAddressFlag, cqDataFlag, connidFlag}
+use Rattle.protocol.specs.Flags.{hasFlag}
 use Rattle.protocol.specs.Layout.{multiuse, placeOf}
+use Rattle.protocol.specs.Optional.{Section, connid, cq-data, flagOf, flagged, raw-address, sectionsOf}
+
+-- the bytes that a section takes, where a raw address has n
+abbrev pub sizeOf : TypeRow → ℕ → Section → ℕ
+sizeOf r n raw-address = 4 + n
+sizeOf r n cq-data = 8
+sizeOf r n connid = r .connid
+
+-- where the sections ss end that begin at `at`, those whose flag is set; a raw address begins with its size
+abbrev pub endOf : TypeRow → ℕ → List ℕ → ℕ → List Section → ℕ
+endOf r f bs at [] = at
+endOf r f bs at (s ∷ ss) = endOf r f bs (at + pick (hasFlag f (flagOf s)) (sizeOf r (leAt 4 bs at) s) 0) ss
+
+abbrev ordinal : Section → ℕ
+ordinal raw-address = 0
+ordinal cq-data = 1
+ordinal connid = 2
+
+abbrev pub sameSection : Section → Section → Bool
+sameSection s t = eqb (ordinal s) (ordinal t)
+
+abbrev pub isAmong : Section → List Section → Bool
+isAmong s [] = false
+isAmong s (t ∷ ts) = sameSection s t || isAmong s ts
+
+-- the sections before s
+abbrev pub until : Section → List Section → List Section
+until s [] = []
+until s (t ∷ ts) = pick (sameSection s t) [] (t ∷ until s ts)
+
+-- a section begins where those before it end, the first behind the mandatory header; there too one that the type has not
+unfoldable pub beginOf : TypeRow → ℕ → List ℕ → Section → ℕ
+beginOf r f bs s = endOf r f bs (r .header) (pick (isAmong s (sectionsOf r)) (until s (sectionsOf r)) [])
+
+-- the data begin where the last ends
+unfoldable pub dataAt : TypeRow → ℕ → List ℕ → ℕ
+dataAt r f bs = endOf r f bs (r .header) (sectionsOf r)
 
 abbrev pub span : ℕ → ℕ → Span
 span at size = record { at = at; size = size }
 
--- the raw address follows its size, which follows the mandatory header
-unfoldable pub rawSpan : TypeRow → ℕ → List ℕ → Span
-rawSpan r f bs = pick (hasFlag f rawAddressFlag) (span (r .header + 4) (leAt 4 bs (r .header))) (span 0 0)
+-- the raw address at `at` follows its size
+unfoldable pub rawSpan : Bool → List ℕ → ℕ → Span
+rawSpan there bs at = pick there (span (at + 4) (leAt 4 bs at)) (span 0 0)
 
--- the bytes that it takes, with its size
-abbrev pub rawLength : TypeRow → ℕ → List ℕ → ℕ
-rawLength r f bs = pick (hasFlag f rawAddressFlag) (4 + leAt 4 bs (r .header)) 0
-
-unfoldable pub afterRaw : TypeRow → ℕ → List ℕ → ℕ
-afterRaw r f bs = r .header + rawLength r f bs
-
-unfoldable pub cqDataLength : ℕ → ℕ
-cqDataLength f = pick (hasFlag f cqDataFlag) 8 0
-
-unfoldable pub connidLength : TypeRow → ℕ → ℕ
-connidLength r f = pick (hasFlag f connidFlag) (r .connid) 0
-
--- the connid stands in multiuse where the type has it, and after the CQ data where not
+-- the connid stands in multiuse where the type has it, and is a section where not
 unfoldable pub connidAt : TypeRow → ℕ → ℕ
-connidAt r after = pick (eqb (placeOf r multiuse) 0) after (placeOf r multiuse)
+connidAt r at = pick (eqb (placeOf r multiuse) 0) at (placeOf r multiuse)
 
--- the sections of a packet whose raw address lies at `raw` and ends before `at`
-abbrev pub sectionsAt : TypeRow → ℕ → Span → ℕ → Sections
-sectionsAt r f raw at =
+unfoldable pub sectionsIn : TypeRow → ℕ → List ℕ → Sections
+sectionsIn r f bs =
     record {
-      raw = raw;
-      «cq_at» = at;
-      «connid_at» = connidAt r (at + cqDataLength f);
-      «data_at» = at + cqDataLength f + connidLength r f;
+      raw = rawSpan (flagged r f raw-address) bs (beginOf r f bs raw-address);
+      «cq_at» = beginOf r f bs cq-data;
+      «connid_at» = connidAt r (beginOf r f bs connid);
+      «data_at» = dataAt r f bs;
     }
 
--- the same of a packet of n bytes; "packet ends inside a header" if it does
-unfoldable pub sectionsFrom : TypeRow → ℕ → Span → ℕ → ℕ → Extent
-sectionsFrom r f raw at n = pick (ltb n (at + cqDataLength f + connidLength r f)) Cut (Whole (sectionsAt r f raw at))
-
+-- "packet ends inside a header" if it does
 unfoldable pub extentOf : TypeRow → ℕ → List ℕ → Extent
-extentOf r f bs = sectionsFrom r f (rawSpan r f bs) (afterRaw r f bs) (length bs)
+extentOf r f bs = pick (ltb (length bs) (dataAt r f bs)) Cut (Whole (sectionsIn r f bs))

@@ -13,11 +13,12 @@ use Rattle.protocol.specs.declared.types.Header.{Header}
 use Rattle.protocol.specs.declared.types.Refusal.{Refusal}
 use Rattle.protocol.specs.declared.types.Written.{Written}
 use Rattle.protocol.specs.Types.{rowOf}
-use Rattle.protocol.specs.Flags.{flagsOf, flagsFit}
+use Rattle.protocol.specs.Flags.{flagsFit}
 use Rattle.protocol.specs.FieldNumbers.{fieldBytes}
 use Rattle.protocol.specs.Layout.{layout}
 use Rattle.protocol.specs.Lengths.{lengthsFit}
-use Rattle.protocol.specs.Options.{rawAddressBytes, cqDataBytes, connidBytes}
+use Rattle.protocol.specs.Optional.{flagsOf, sectionsOf}
+use Rattle.protocol.specs.Options.{sectionsBytes}
 use Rattle.protocol.specs.Refusals.{aboveLimit, badType, badFlags, badLength, noRoom}
 
 -- type 1, version 1, flags 2
@@ -28,14 +29,9 @@ baseBytes kind flags = kind ∷ 4 ∷ leBytes 2 flags
 unfoldable pub mandatoryBytes : TypeRow → Header → List ℕ
 mandatoryBytes r h = baseBytes (r .kind) (flagsOf r h) ++ fieldBytes (layout r) h
 
--- the bytes of a packet
+-- the bytes of a packet: the mandatory header, the optional headers that its type may have, the data
 unfoldable pub packetBytes : TypeRow → Header → List ℕ → List ℕ → List ℕ
-packetBytes r h raw body =
-    mandatoryBytes r h
-    ++ rawAddressBytes (h .«raw_address») raw
-    ++ cqDataBytes (h .«cq_data»)
-    ++ connidBytes r (h .connid)
-    ++ body
+packetBytes r h raw body = mandatoryBytes r h ++ sectionsBytes r h raw (sectionsOf r) ++ body
 
 -- what a call of the writer leaves: its answer, and the lent buffer
 pub record Outcome : Type 0 where

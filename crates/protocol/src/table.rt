@@ -16,6 +16,8 @@ pub struct TypeRow {
     pub tagged: bool,
     // whether the receive engine takes such packets
     pub served: bool,
+    // whether raw address (flag 0x1) and CQ data (flag 0x2) may follow
+    pub request: bool,
     // flags that a packet of the type has, and flags that it may have besides
     pub must: u16,
     pub may: u16,

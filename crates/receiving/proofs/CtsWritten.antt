@@ -8,11 +8,11 @@ use native.Mathlib.Omega.{arith}
 use Rattle.laws.specs.Choose.{pick}
 use Rattle.laws.specs.Parts.{storeAt}
 use Rattle.protocol.specs.Cts.{ctsBytes, ctsHeader}
-use Rattle.protocol.specs.Flags.{connidBit, cqDataBit, flagsFit, flagsOf, rawAddressBit}
+use Rattle.protocol.specs.Flags.{flagsFit}
 use Rattle.protocol.specs.FieldNumbers.{fieldBytes}
 use Rattle.protocol.specs.Layout.{layout}
 use Rattle.protocol.specs.Lengths.{lengthsFit}
-use Rattle.protocol.specs.Options.{connidBytes, cqDataBytes, rawAddressBytes}
+use Rattle.protocol.specs.Optional.{flagsOf, sectionsOf}
 use Rattle.protocol.specs.Types.{ctsRow, rowIn, rowOf}
 use Rattle.protocol.specs.Writing.{baseBytes, mandatoryBytes, packetBytes, writeOf}
 use Rattle.protocol.specs.declared.types.Written.{Written}
@@ -21,7 +21,7 @@ use Rattle.protocol.proofs.Accepted.{WrittenAs, write-as}
 use Rattle.protocol.specs.Writing as writing
 
 cts-length : (send recv n : ℕ) → length (ctsBytes send recv n) ≡ 24
-unfolding ctsBytes packetBytes mandatoryBytes baseBytes fieldBytes layout rawAddressBytes cqDataBytes connidBytes leBytes pick
+unfolding ctsBytes packetBytes mandatoryBytes baseBytes fieldBytes layout sectionsOf leBytes pick
 cts-length send recv n = refl
 
 written-as : (send recv n : ℕ) (out : List ℕ) → 24 ≤ length out → 1 ≤ n → WrittenAs (ctsHeader send recv n) [] [] out ctsRow
@@ -29,7 +29,7 @@ unfolding ctsBytes
 written-as send recv n out room one =
     record {
       row = unfold rowOf rowIn pick in refl;
-      flags = unfold flagsFit flagsOf rawAddressBit cqDataBit connidBit pick in refl;
+      flags = unfold flagsFit flagsOf pick in refl;
       lengths = unfold lengthsFit in le-leb 1 n one;
       allowed = omega (arith, cts-length send recv n);
       room = omega (arith, cts-length send recv n);

@@ -1,6 +1,6 @@
 -- `packet::flags::cq_data_bit` meets its contract.
 use borrow.Author.Needs.{needs}
-use Rattle.protocol.specs.Flags.{cqDataBit}
+use Rattle.laws.specs.Choose.{pick}
 use Rattle.packet.proofs.flags.cq_data_bit.Statement.{statement}
 use Rattle.packet.proofs.flags.cq_data_bit.Tie as tie
 
@@ -11,11 +11,11 @@ enum-told-2 : tie.Need-enum-told-2
 enum-told-2 c = search needs
 
 returns : tie.Need-returns
-unfolding cqDataBit
+unfolding pick
 returns c = rw (c .enum-told .given .1)
 
 returns-2 : tie.Need-returns-2
-unfolding cqDataBit
+unfolding pick
 returns-2 c = rw (c .enum-told2 .given .1)
 
 pub cq-data-bit-spec : {M : Type 1} → statement M

@@ -1,15 +1,14 @@
 -- `packet::flags::raw_address_bit` meets its contract.
 use Rattle.laws.specs.Choose.{pick}
-use Rattle.protocol.specs.Flags.{rawAddressBit}
 use Rattle.packet.proofs.flags.raw_address_bit.Statement.{statement}
 use Rattle.packet.proofs.flags.raw_address_bit.Tie as tie
 
 returns : tie.Need-returns
-unfolding rawAddressBit pick
+unfolding pick
 returns c = rw (c .if1 .taken)
 
 returns-2 : tie.Need-returns-2
-unfolding rawAddressBit pick
+unfolding pick
 returns-2 c = rw (c .if1 .left)
 
 pub raw-address-bit-spec : {M : Type 1} → statement M

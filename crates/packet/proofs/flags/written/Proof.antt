@@ -1,8 +1,8 @@
--- `packet::flags::written` meets its contract. The sum does not wrap: the flags of the optional headers are at most 0x8003 together.
+-- `packet::flags::written` meets its contract. The sum does not wrap: the rule of the table leaves room for the flags of all optional headers.
 use borrow.Author.Needs.{needs}
 use native.Mathlib.Omega.{arith}
-use Rattle.protocol.specs.Flags.{flagsOf}
-use Rattle.protocol.proofs.FlagLaws.{options-small}
+use Rattle.protocol.specs.Optional.{flagsOf}
+use Rattle.protocol.proofs.FlagLaws.{flags-small}
 use Rattle.packet.proofs.flags.written.Statement.{statement}
 use Rattle.packet.proofs.flags.written.Tie as tie
 
@@ -16,13 +16,16 @@ connid-bit-requires : tie.Need-connid-bit-requires
 connid-bit-requires c κs = search needs
 
 add-result : tie.Need-add-result
-add-result c = omega (arith, options-small (c .before .before .before .before .args .header))
+unfolding flagsOf
+add-result c = let s = c .before .before .before .before in omega (arith, flags-small (s .args .row) (s .args .header) (s .pre))
 
 add-result-2 : tie.Need-add-result-2
-add-result-2 c = omega (arith, options-small (c .before .before .before .before .args .header))
+unfolding flagsOf
+add-result-2 c = let s = c .before .before .before .before in omega (arith, flags-small (s .args .row) (s .args .header) (s .pre))
 
 add-result-3 : tie.Need-add-result-3
-add-result-3 c = omega (arith, options-small (c .before .before .before .before .args .header))
+unfolding flagsOf
+add-result-3 c = let s = c .before .before .before .before in omega (arith, flags-small (s .args .row) (s .args .header) (s .pre))
 
 returns : tie.Need-returns
 unfolding flagsOf
@@ -32,6 +35,7 @@ returns c =
       c .before .before .cq-data-bit .ensures,
       c .before .before .before .raw-address-bit .ensures,
     )
+    (omega arith)
 
 pub written-spec : {M : Type 1} → statement M
 written-spec =

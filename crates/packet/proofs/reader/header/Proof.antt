@@ -1,5 +1,7 @@
 -- `packet::reader::header` meets its contract.
 use borrow.Author.Needs.{needs}
+use mathlib.Core.Path.{sym, _∙_}
+use Rattle.protocol.specs.Optional.{flagged}
 use Rattle.protocol.specs.Reading.{headerIn}
 use Rattle.packet.proofs.reader.header.Statement.{statement}
 use Rattle.packet.proofs.reader.header.Tie as tie
@@ -7,26 +9,42 @@ use Rattle.packet.proofs.reader.header.Tie as tie
 read-requires : tie.Need-read-requires
 read-requires c κs = search needs
 
-read-cq-data-requires : tie.Need-read-cq-data-requires
-read-cq-data-requires c κs = search needs
+cq-data-requires : tie.Need-cq-data-requires
+cq-data-requires c κs = search needs
 
-read-connid-requires : tie.Need-read-connid-requires
-read-connid-requires c κs = search needs
+read-cq-data-requires : tie.Need-read-cq-data-requires
+read-cq-data-requires c κs = λ e. c .before .before .before .pre .1 .cq (sym (c .cq-data .ensures) ∙ e)
 
 has-requires : tie.Need-has-requires
 has-requires c κs = search needs
 
+read-connid-requires : tie.Need-read-connid-requires
+unfolding flagged
+read-connid-requires c κs = λ e. c .before .before .before .before .before .pre .1 .connid (sym (c .has .ensures) ∙ e)
+
+raw-address-requires : tie.Need-raw-address-requires
+raw-address-requires c κs = search needs
+
 returns : tie.Need-returns
-unfolding headerIn
+unfolding headerIn flagged
 returns c =
     rw (
-      c .has .ensures,
+      c .raw-address .ensures,
       c .before .read-connid .ensures,
-      c .before .before .read-cq-data .ensures,
-      c .before .before .before .read .ensures,
+      c .before .before .has .ensures,
+      c .before .before .before .read-cq-data .ensures,
+      c .before .before .before .before .cq-data .ensures,
+      c .before .before .before .before .before .read .ensures,
     )
 
 pub header-spec : {M : Type 1} → statement M
 header-spec =
     tie.close
-    (tie.spec read-requires read-cq-data-requires read-connid-requires has-requires returns)
+    (tie.spec
+    read-requires
+    cq-data-requires
+    read-cq-data-requires
+    has-requires
+    read-connid-requires
+    raw-address-requires
+    returns)

@@ -1,7 +1,8 @@
 -- `packet::sections::connid_length` meets its contract.
 use borrow.Author.Needs.{needs}
 use Rattle.laws.specs.Choose.{pick}
-use Rattle.protocol.specs.Sections.{connidLength}
+use Rattle.protocol.specs.Optional.{flagged}
+use Rattle.protocol.specs.Steps.{connidLength}
 use Rattle.packet.proofs.sections.connid_length.Statement.{statement}
 use Rattle.packet.proofs.sections.connid_length.Tie as tie
 
@@ -9,11 +10,11 @@ has-requires : tie.Need-has-requires
 has-requires c κs = search needs
 
 returns : tie.Need-returns
-unfolding connidLength pick
+unfolding connidLength flagged pick
 returns c = rw (← c .before .has .ensures, c .if1 .taken)
 
 returns-2 : tie.Need-returns-2
-unfolding connidLength pick
+unfolding connidLength flagged pick
 returns-2 c = rw (← c .before .has .ensures, c .if1 .left)
 
 pub connid-length-spec : {M : Type 1} → statement M

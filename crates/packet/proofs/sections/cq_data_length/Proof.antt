@@ -1,20 +1,20 @@
 -- `packet::sections::cq_data_length` meets its contract.
 use borrow.Author.Needs.{needs}
 use Rattle.laws.specs.Choose.{pick}
-use Rattle.protocol.specs.Sections.{cqDataLength}
+use Rattle.protocol.specs.Steps.{cqDataLength}
 use Rattle.packet.proofs.sections.cq_data_length.Statement.{statement}
 use Rattle.packet.proofs.sections.cq_data_length.Tie as tie
 
-has-requires : tie.Need-has-requires
-has-requires c κs = search needs
+cq-data-requires : tie.Need-cq-data-requires
+cq-data-requires c κs = search needs
 
 returns : tie.Need-returns
 unfolding cqDataLength pick
-returns c = rw (← c .before .has .ensures, c .if1 .taken)
+returns c = rw (← c .before .cq-data .ensures, c .if1 .taken)
 
 returns-2 : tie.Need-returns-2
 unfolding cqDataLength pick
-returns-2 c = rw (← c .before .has .ensures, c .if1 .left)
+returns-2 c = rw (← c .before .cq-data .ensures, c .if1 .left)
 
 pub cq-data-length-spec : {M : Type 1} → statement M
-cq-data-length-spec = tie.close (tie.spec has-requires returns returns-2)
+cq-data-length-spec = tie.close (tie.spec cq-data-requires returns returns-2)

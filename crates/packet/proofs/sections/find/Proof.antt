@@ -2,22 +2,26 @@
 use borrow.Author.Needs.{needs}
 use borrow.Author.Tests.{not-true, not-false}
 use lib.ListN.{length}
-use mathlib.Core.Path.{sym}
+use mathlib.Core.Path.{sym, _∙_}
 use native.Mathlib.Nat.{add-assoc, add-zero}
 use native.Mathlib.Omega.{arith}
 use Rattle.laws.specs.Choose.{pick}
-use Rattle.protocol.specs.Sections.{afterRaw, extentOf, rawSpan}
+use Rattle.protocol.specs.Sections.{rawSpan}
+use Rattle.protocol.specs.Steps.{afterRaw}
 use Rattle.protocol.proofs.ReadingLaws.{cut-before}
 use Rattle.protocol.proofs.RowLaws.{header-bounds}
+use Rattle.protocol.proofs.StepLaws.{extent-in-steps}
 use Rattle.packet.proofs.sections.find.Statement.{statement}
 use Rattle.packet.proofs.sections.find.Tie as tie
 
 returns : tie.Need-returns
-unfolding extentOf afterRaw
-returns c = sym (cut-before _ _ _ _ _ (omega arith))
+unfolding afterRaw
+returns c =
+    let s = c .before .before in
+    sym (extent-in-steps (s .args .row) (s .args .flags) (s .args .bytes .now) (s .pre) ∙ cut-before _ _ _ _ _ (omega arith))
 
-has-requires : tie.Need-has-requires
-has-requires c κs = search needs
+raw-address-requires : tie.Need-raw-address-requires
+raw-address-requires c κs = search needs
 
 from-requires : tie.Need-from-requires
 from-requires c κs =
@@ -25,17 +29,19 @@ from-requires c κs =
     (s .pre, omega (arith, header-bounds (s .args .row) (s .pre)))
 
 returns-2 : tie.Need-returns-2
-unfolding extentOf rawSpan afterRaw pick
+unfolding rawSpan afterRaw pick
 returns-2 c =
     let f = c .before .before in
-    rw (c .from .ensures, ← f .has .ensures, not-true (f .has .result) (c .before .if2 .taken), add-zero)
+    let s = f .before .before .before in
+    rw (c .from .ensures, extent-in-steps (s .args .row) (s .args .flags) (s .args .bytes .now) (s .pre), ← f .raw-address .ensures, not-true (f .raw-address .result) (c .before .if2 .taken), add-zero)
 
 returns-3 : tie.Need-returns-3
-unfolding extentOf afterRaw pick
+unfolding afterRaw pick
 returns-3 c =
     let f = c .before .before in
-    let a = f .before .before .before .args in
-    rw (← f .has .ensures, not-false (f .has .result) (c .before .if2 .left))
+    let s = f .before .before .before in
+    let a = s .args in
+    rw (extent-in-steps (a .row) (a .flags) (a .bytes .now) (s .pre), ← f .raw-address .ensures, not-false (f .raw-address .result) (c .before .if2 .left))
     (sym (cut-before (a .row) (a .flags) _ _ (length (a .bytes .now)) (omega arith)))
 
 read-u32-requires : tie.Need-read-u32-requires
@@ -56,18 +62,19 @@ from-requires-2 c κs =
     (s .pre, omega (arith, header-bounds (s .args .row) (s .pre)))
 
 returns-4 : tie.Need-returns-4
-unfolding extentOf rawSpan afterRaw pick
+unfolding rawSpan afterRaw pick
 returns-4 c =
     let f = c .before .before .before .before in
-    let e = not-false (f .has .result) (c .before .before .before .if2 .left) in
-    rw (c .from2 .ensures, ← f .has .ensures, e, c .before .read-u32 .ensures, add-assoc)
+    let e = not-false (f .raw-address .result) (c .before .before .before .if2 .left) in
+    let s = f .before .before .before in
+    rw (c .from2 .ensures, extent-in-steps (s .args .row) (s .args .flags) (s .args .bytes .now) (s .pre), ← f .raw-address .ensures, e, c .before .read-u32 .ensures, add-assoc)
 
 pub find-spec : {M : Type 1} → statement M
 find-spec =
     tie.close
     (tie.spec
     returns
-    has-requires
+    raw-address-requires
     from-requires
     returns-2
     returns-3

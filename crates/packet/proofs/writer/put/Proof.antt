@@ -5,8 +5,9 @@ use lib.ListN.{length, length-append}
 use mathlib.Core.List.{_++_}
 use native.Mathlib.Omega.{arith}
 use Rattle.protocol.specs.Options.{connidBytes, cqDataBytes, rawAddressBytes}
-use Rattle.protocol.specs.Writing.{mandatoryBytes, packetBytes}
+use Rattle.protocol.specs.Writing.{mandatoryBytes}
 use Rattle.laws.proofs.Storing.{store-next}
+use Rattle.protocol.proofs.StepLaws.{packet-in-steps}
 use Rattle.protocol.proofs.WritingLaws.{length-mandatory, length-packet, raw-fits}
 use Rattle.packet.proofs.writer.put.Statement.{statement}
 use Rattle.packet.proofs.writer.put.Tie as tie
@@ -19,7 +20,7 @@ room : (c : tie.Start) → let a = c .args in
     + length (connidBytes (a .row) (a .header .connid))
     + length (a .«data» .now)
     ≤ length (a .out .now)
-room c = let a = c .args in rw (← length-packet (a .row) (a .header) (a .raw .now) (a .«data» .now) (c .pre .0)) (c .pre .1 .1 .1)
+room c = let a = c .args in rw (← length-packet (a .row) (a .header) (a .raw .now) (a .«data» .now) (c .pre .0) (c .pre .1 .1 .0)) (c .pre .1 .1 .1 .1)
 
 put-mandatory-requires : tie.Need-put-mandatory-requires
 put-mandatory-requires c κs =
@@ -30,7 +31,7 @@ write-raw-address-requires : tie.Need-write-raw-address-requires
 write-raw-address-requires c κs =
     let s = c .before .before .before .before .before .before .before .before in
     let a = s .args in
-    (omega (arith, room s), raw-fits (a .row) (a .header) (a .raw .now) (a .«data» .now) (s .pre .0) (s .pre .1 .1 .0))
+    (omega (arith, room s), raw-fits (a .row) (a .header) (a .raw .now) (a .«data» .now) (s .pre .0) (s .pre .1 .1 .0) (s .pre .1 .1 .1 .0))
 
 write-cq-data-requires : tie.Need-write-cq-data-requires
 write-cq-data-requires c κs = omega (arith, room (c .before .before .before .before .before .before .before .before .before .before .before .before))
@@ -50,7 +51,6 @@ same-length : tie.Need-same-length
 same-length c = search needs
 
 returns : tie.Need-returns
-unfolding packetBytes
 returns c =
     let w5 = c .before .before in
     let w4 = w5 .before .before .before .before in
@@ -71,6 +71,7 @@ returns c =
     let n4 = length-append (head ++ raw ++ cq) id in
     let n5 = room s in
     rw (
+      packet-in-steps r h (s .args .raw .now) (s .args .«data» .now) (s .pre .0) (s .pre .1 .1 .0),
       w5 .write-bytes .ensures .1,
       w4 .write-connid .ensures .1,
       w3 .write-cq-data .ensures .1,

@@ -2,7 +2,7 @@
 use borrow.Author.Needs.{needs}
 use native.Mathlib.Omega.{arith}
 use Rattle.protocol.specs.FieldNumbers.{fieldBytes}
-use Rattle.protocol.specs.Flags.{flagsOf}
+use Rattle.protocol.specs.Optional.{flagsOf}
 use Rattle.protocol.specs.Layout.{layout}
 use Rattle.protocol.specs.Writing.{baseBytes, mandatoryBytes}
 use Rattle.laws.proofs.Storing.{store-next}

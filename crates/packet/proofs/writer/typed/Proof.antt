@@ -3,9 +3,12 @@ use Prim.Native.Nat.{_≤_}
 use borrow.Author.Needs.{needs}
 use borrow.Author.Tests.{not-true, not-false, lt-ltb, le-ltb}
 use lib.ListN.{length}
+use mathlib.Core.Bool.{true}
 use mathlib.Core.Path.{_≡_, sym, _∙_}
 use native.Mathlib.Omega.{arith}
 use Rattle.laws.specs.Choose.{pick}
+use Rattle.protocol.specs.Flags.{flagsFit}
+use Rattle.protocol.specs.Optional.{flagsOf}
 use Rattle.protocol.specs.Totals.{limitedTo}
 use Rattle.protocol.specs.Writing.{packetBytes, writeAs, writeBytes}
 use Rattle.protocol.proofs.WritingLaws.{limited-above, limited-bytes, total-is}
@@ -24,6 +27,13 @@ passed c =
     let e2 = not-false (f2 .fit2 .result) (c .if2 .left) in
     rw (← f1 .before .written .ensures, ← f1 .fit .ensures, e1, ← f2 .fit2 .ensures, e2)
 
+-- the flags fit the type
+fitting : (c : tie.Else2) → let a = c .before .before .before .before .before .before .before .before .before .args in
+    flagsFit (a .row) (flagsOf (a .row) (a .header)) ≡ true
+fitting c =
+    let f = c .before .before .before .before in
+    rw (← f .before .written .ensures) (sym (f .fit .ensures) ∙ not-false (f .fit .result) (c .before .before .before .if1 .left))
+
 -- `total` answers the packet's length, if the limit allows it
 answered : (c : tie.After-total) → let a = c .before .before .before .before .before .before .before .before .before .before .args in
     limitedTo (length (packetBytes (a .row) (a .header) (a .raw .now) (a .«data» .now))) ≡ c .total .result
@@ -31,7 +41,7 @@ answered c =
     let w = c .before .before .before .before .before .before in
     let s = w .before .before .before .before in
     let a = s .args in
-    sym (total-is (a .row) (a .header) (a .raw .now) (a .«data» .now) (s .pre)) ∙ sym (rw (w .written .ensures) at (c .total .ensures))
+    sym (total-is (a .row) (a .header) (a .raw .now) (a .«data» .now) (s .pre) (fitting (c .before))) ∙ sym (rw (w .written .ensures) at (c .total .ensures))
 
 measured : (c : tie.After-known-told) →
     let a = c .before .before .before .before .before .before .before .before .before .before .before .before .before .args in
@@ -98,7 +108,7 @@ put-requires c κs =
     let t = c .before .before in
     let w = t .before .before .before .before .before .before .before .before .before in
     let m = measured t in
-    (w .before .before .before .before .pre, (w .written .ensures, (m .1, omega arith)))
+    (w .before .before .before .before .pre, (w .written .ensures, (fitting (t .before .before .before .before), (m .1, omega arith))))
 
 returns-4 : tie.Need-returns-4
 unfolding writeBytes pick

@@ -1,0 +1,69 @@
+-- The optional headers that may follow a type's mandatory header, by the type's row (01: "After an RTM's mandatory header come, where flagged, raw
+-- address .., CQ data 8, connid 4, in that order"; "CTSDATA: .. with CONNID_HDR also connid 4, padding 4").
+use Prim.Native.Nat.{ℕ, _+_}
+use mathlib.Core.List.{List, [], _∷_, _++_}
+use mathlib.Core.Bool.{Bool, true, false, _&&_}
+use lib.Dec.{eqb}
+use Rattle.laws.specs.Choose.{pick}
+use Rattle.protocol.specs.declared.table.TypeRow.{TypeRow}
+use Rattle.protocol.specs.declared.types.CqData.{CqData}
+use Rattle.protocol.specs.declared.types.Connid.{Connid}
+use Rattle.protocol.specs.declared.types.Header.{Header}
+use Rattle.protocol.specs.Flags.{hasFlag, rawAddressFlag, cqDataFlag, connidFlag}
+use Rattle.protocol.specs.Layout.{multiuse, placeOf}
+
+pub data Section : Type 0 where
+  raw-address cq-data connid : Section
+
+abbrev pub sections : List Section
+sections = raw-address ∷ cq-data ∷ connid ∷ []
+
+abbrev pub flagOf : Section → ℕ
+flagOf raw-address = rawAddressFlag
+flagOf cq-data = cqDataFlag
+flagOf connid = connidFlag
+
+-- those that may follow a type's mandatory header, in their order
+unfoldable pub sectionsOf : TypeRow → List Section
+sectionsOf r = pick (r .request) (raw-address ∷ cq-data ∷ []) [] ++ pick (eqb (r .connid) 0) [] (connid ∷ [])
+
+-- ---- their flags
+
+-- those that sections take
+abbrev pub flagSum : List Section → ℕ
+flagSum [] = 0
+flagSum (s ∷ ss) = flagOf s + flagSum ss
+
+-- the flags that a type takes: its sections', and the connid's where it stands in multiuse
+unfoldable pub flagsTaken : TypeRow → ℕ
+flagsTaken r = flagSum (sectionsOf r) + pick (eqb (placeOf r multiuse) 0) 0 connidFlag
+
+-- a packet of the type with the flags f has the section: the flags 0x1 and 0x2 are those of raw address and CQ data in a request alone
+unfoldable pub flagged : TypeRow → ℕ → Section → Bool
+flagged r f raw-address = r .request && hasFlag f rawAddressFlag
+flagged r f cq-data = r .request && hasFlag f cqDataFlag
+flagged r f connid = hasFlag f connidFlag
+
+-- ---- in a header
+
+abbrev pub hasCqData : CqData → Bool
+hasCqData CqData.Absent = false
+hasCqData (CqData.Present d) = true
+
+abbrev pub hasConnid : Connid → Bool
+hasConnid Connid.Absent = false
+hasConnid (Connid.Present c) = true
+
+abbrev pub hasSection : Header → Section → Bool
+hasSection h raw-address = h .«raw_address»
+hasSection h cq-data = hasCqData (h .«cq_data»)
+hasSection h connid = hasConnid (h .connid)
+
+-- the flags of those of some sections that a header has
+abbrev pub flagsSet : Header → List Section → ℕ
+flagsSet h [] = 0
+flagsSet h (s ∷ ss) = pick (hasSection h s) (flagOf s) 0 + flagsSet h ss
+
+-- the flags that a packet of this type and with these optional headers is written with: one that its type can't have shows as well
+unfoldable pub flagsOf : TypeRow → Header → ℕ
+flagsOf r h = r .must + flagsSet h sections
