@@ -5,7 +5,6 @@ use mathlib.Core.Bool.{Bool, true, _&&_}
 use lib.ListN.{length, getD, take, replicate}
 use lib.Dec.{leb, eqb}
 use Rattle.laws.specs.Choose.{pick}
-use Rattle.protocol.specs.declared.types.Refusal.{Refusal}
 use Rattle.protocol.specs.Refusals.{badSetUp}
 use Rattle.peer.specs.declared.types.Peer.{Peer}
 use Rattle.peer.specs.State.{freshPeer, peerFits}

@@ -1,8 +1,7 @@
 -- What a run's calls leave is an engine as the code holds it: numbers of fewer than 64 bits stay within their types, as they are read from
 -- bytes or counted modulo 2^32.
 use Prim.Native.Nat.{ℕ, zero, suc, _+_, _^_, _<_}
-use borrow.Author.Tests.{leb-true}
-use lib.Dec.{leb, lit<}
+use lib.Dec.{lit<}
 use lib.ListN.{length, getD, set, replicate, length-set, length-replicate}
 use mathlib.Core.Bool.{false}
 use mathlib.Core.List.{List, [], _∷_}
@@ -14,14 +13,12 @@ use native.Mathlib.Omega.{arith}
 use Rattle.laws.proofs.Choosing.{branch, pick-either}
 use Rattle.laws.proofs.Storing.{part-all}
 use Rattle.protocol.specs.Layout.{Field}
-use Rattle.protocol.specs.Reading.{headerIn, packetIn, readOf}
+use Rattle.protocol.specs.Reading.{readOf}
 use Rattle.protocol.specs.Values.{bytesAt}
 use Rattle.protocol.specs.declared.types.Packet.{Packet}
 use Rattle.protocol.specs.declared.types.Read.{Read}
-use Rattle.protocol.proofs.Accepted.{as-read}
 use Rattle.protocol.proofs.ReadNumbers.{read-numbers}
 use Rattle.protocol.proofs.Served.{served-read}
-use Rattle.protocol.proofs.TableRule.{row-passes}
 use Rattle.peer.specs.Calls.{Call, cancelAt, cancelEffect, packetEffect, peerStep, placed, placedIn, postEffect, readEffect, renumbered, renumberedPhase, reportAt, reportEffect}
 use Rattle.peer.specs.Effects.{Effect, accept, advance, begun, carry, extended, grantOf, opened, settledAs, truncatedAt, withPhase}
 use Rattle.peer.specs.Incomings.{incomingOf}

@@ -10,7 +10,7 @@ use protocol::TypeRow;
 ghost use mathlib.Core.Path.{_≡_};
 ghost use Prim.Native.Nat.{_<_, _^_};
 ghost use Rattle.protocol.specs.Sections.{connidAt, extentOf};
-ghost use Rattle.protocol.specs.Steps.{cqDataLength, connidLength, sectionsFrom};
+ghost use Rattle.protocol.specs.SectionsInTurn.{cqDataLength, connidLength, sectionsFrom};
 ghost use Rattle.protocol.specs.Rules.{Sound};
 
 // The bytes that CQ data and connid take where they are flagged.

@@ -25,7 +25,7 @@ ghost use lib.ListN.{length};
 ghost use Rattle.laws.specs.Parts.{storeAt};
 ghost use Rattle.protocol.specs.Flags.{flagsFit};
 ghost use Rattle.protocol.specs.Optional.{flagsOf};
-ghost use Rattle.protocol.specs.Steps.{headLength};
+ghost use Rattle.protocol.specs.SectionsInTurn.{headLength};
 ghost use Rattle.protocol.specs.Writing.{baseBytes, mandatoryBytes, packetBytes, writeAs, writeOf};
 ghost use Rattle.protocol.specs.Totals.{limitedTo, totalOf};
 ghost use Rattle.protocol.specs.Rules.{Sound};

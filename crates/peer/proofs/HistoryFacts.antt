@@ -1,10 +1,10 @@
 -- An answer taken apart: which packet a call brings, where its segment goes, and what was tested on the way.
 use Prim.Native.Nat.{ℕ, _+_, _≤_, _<_}
-use borrow.Author.Tests.{ltb-true, ltb-false, eqb-true}
+use borrow.Author.Tests.{ltb-true, ltb-false}
 use lib.Dec.{leb, ltb}
 use mathlib.Core.Bool.{Bool, true, false, false≢true}
 use mathlib.Core.List.{List}
-use mathlib.Core.Path.{_≡_, refl, ap}
+use mathlib.Core.Path.{_≡_, refl}
 use native.Mathlib.Omega.{arith}
 use Rattle.bitmap.specs.Offsets.{someOf}
 use Rattle.protocol.specs.Reading.{readOf}
@@ -19,7 +19,7 @@ use Rattle.peer.specs.Coverage.{Segment, allOf, covers}
 use Rattle.peer.specs.Effects.{grantOf, opened}
 use Rattle.peer.specs.Expected.{anyOverlap, expectAgain, expectCancel, expectData, expectFit, expectFound, expectMore, expectNew, expectPlace, expectPost, expectRead, expectReport, expectTaken, expected, lowestIdle, targetOfCall, targetOfRead}
 use Rattle.peer.specs.Incomings.{incomingOf, isLong, isRtm}
-use Rattle.peer.specs.Matching.{ahead, sameMessage}
+use Rattle.peer.specs.Matching.{ahead}
 use Rattle.peer.specs.Plain.{Plain, Role, Target, begunEntry, entryAt, firstPosted, grown, idle, matchTarget, nowhere, openIn, receiving, roles, segmentOf, targetIn, targetOf, waiting}
 use Rattle.peer.specs.State.{slotCount}
 use Rattle.peer.specs.declared.types.Answer.{Answer}
@@ -27,7 +27,6 @@ use Rattle.peer.specs.declared.types.Fit.{Fit}
 use Rattle.peer.specs.declared.types.Found.{Found}
 use Rattle.peer.specs.declared.types.Inbound.{Inbound}
 use Rattle.peer.specs.declared.types.Incoming.{Incoming}
-use Rattle.peer.specs.declared.types.Message.{Message}
 use Rattle.peer.specs.declared.types.Receive.{Receive}
 use Rattle.peer.specs.declared.types.Vacancy.{Vacancy}
 use Rattle.laws.proofs.Choosing.{and-left, and-right, branch}

@@ -1,5 +1,5 @@
 -- A packet that was read is refused by the first of the judgement's checks that fails: each way through its tests, over any view of the peer.
-use Prim.Native.Nat.{ℕ, _+_, _%_, _^_, _≤_, _<_}
+use Prim.Native.Nat.{ℕ, _+_, _^_, _≤_, _<_}
 use lib.ListN.{getD}
 use mathlib.Core.Bool.{Bool, false, true, true≢false}
 use mathlib.Core.List.{List, [], _∷_}

@@ -1,6 +1,6 @@
 -- The tests that engine and plain receiver share say what 01 says: the statements of specs/InWords.antt but for those on offsets and on a packet's fields.
-use Prim.Native.Nat.{ℕ, zero, suc, _+_, _*_, _/_, _%_, _^_, _<_, min, max}
-use borrow.Author.Tests.{ltb-true, leb-true, eqb-true, eqb-false, not-true, lt-ltb, le-ltb, le-leb, eq-eqb, ne-eqb}
+use Prim.Native.Nat.{ℕ, zero, suc, _+_, _/_, _^_, _<_, min, max}
+use borrow.Author.Tests.{ltb-true, eqb-true, eqb-false, not-true, lt-ltb, le-ltb, eq-eqb}
 use lib.Bits.{bitOr, or-step, or-shr}
 use lib.Dec.{leb, ltb, eqb}
 use lib.ListN.{getD}

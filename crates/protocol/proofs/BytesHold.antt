@@ -20,7 +20,7 @@ use Rattle.protocol.specs.Reading.{headerIn, packetIn}
 use Rattle.protocol.specs.Optional.{Section, connid, cq-data, flagOf, raw-address}
 use Rattle.protocol.specs.Optional as Optional
 use Rattle.protocol.specs.Sections.{connidAt, rawSpan, span}
-use Rattle.protocol.specs.Steps.{afterRaw, cqDataLength}
+use Rattle.protocol.specs.SectionsInTurn.{afterRaw, cqDataLength}
 use Rattle.protocol.specs.Types.{rowOf}
 use Rattle.protocol.specs.Values.{bytesAt, ownNumbers, values, valuesIn}
 use Rattle.protocol.specs.declared.table.Found.{Found}

@@ -15,7 +15,7 @@ use Rattle.protocol.specs.Options.{connidBytes, connidIn, connidOrZero, 
 use Rattle.protocol.specs.RoundTrip.{cqDataOrZero}
 use Rattle.protocol.specs.Rules.{Sound}
 use Rattle.protocol.specs.Sections.{rawSpan}
-use Rattle.protocol.specs.Steps.{afterRaw, connidLength, cqDataLength, rawLength}
+use Rattle.protocol.specs.SectionsInTurn.{afterRaw, connidLength, cqDataLength, rawLength}
 use Rattle.protocol.specs.Values.{bytesAt}
 use Rattle.protocol.specs.declared.table.TypeRow.{TypeRow}
 use Rattle.protocol.specs.declared.types.Connid.{Connid}

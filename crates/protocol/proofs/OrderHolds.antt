@@ -19,7 +19,7 @@ use Rattle.protocol.specs.Refusals.{aboveLimit, badLength, badType, badV
 use Rattle.protocol.specs.Says.{readSays}
 use Rattle.protocol.specs.Optional.{connid, cq-data, raw-address}
 use Rattle.protocol.specs.Sections.{extentOf}
-use Rattle.protocol.specs.Steps.{afterRaw, connidLength, cqDataLength, sectionsFrom}
+use Rattle.protocol.specs.SectionsInTurn.{afterRaw, connidLength, cqDataLength, sectionsFrom}
 use Rattle.protocol.specs.Types.{admit, row, rowOf}
 use Rattle.protocol.specs.Values.{Values, valuesIn}
 use Rattle.protocol.specs.declared.sections.Extent.the-variants.{Cut}

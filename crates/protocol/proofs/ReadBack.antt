@@ -18,7 +18,7 @@ use Rattle.protocol.specs.Reading.{headerIn, packetIn}
 use Rattle.protocol.specs.RoundTrip.{Numbers}
 use Rattle.protocol.specs.Rules.{ConnidPlace, Sound}
 use Rattle.protocol.specs.Sections.{connidAt, rawSpan}
-use Rattle.protocol.specs.Steps.{afterRaw}
+use Rattle.protocol.specs.SectionsInTurn.{afterRaw}
 use Rattle.protocol.specs.Types.{rowOf}
 use Rattle.protocol.specs.Values.{bytesAt, ownNumbers, values, valuesIn}
 use Rattle.protocol.specs.Writing.{baseBytes, mandatoryBytes, packetBytes}

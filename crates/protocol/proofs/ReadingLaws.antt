@@ -12,7 +12,7 @@ use Rattle.protocol.specs.Layout.{multiuse}
 use Rattle.protocol.specs.Rules.{Inside, Sound}
 use Rattle.protocol.specs.Optional.{connid, cq-data, flagged, raw-address}
 use Rattle.protocol.specs.Sections.{extentOf, rawSpan}
-use Rattle.protocol.specs.Steps.{afterRaw, connidLength, cqDataLength, sectionsAt, sectionsFrom}
+use Rattle.protocol.specs.SectionsInTurn.{afterRaw, connidLength, cqDataLength, sectionsAt, sectionsFrom}
 use Rattle.protocol.specs.declared.sections.Extent.the-variants.{Cut, Whole}
 use Rattle.protocol.specs.declared.sections.Sections.{Sections}
 use Rattle.protocol.specs.declared.table.TypeRow.{TypeRow}

@@ -14,7 +14,7 @@ use Rattle.protocol.specs.Optional.{Section, connid, cq-data, flagged, f
 use Rattle.protocol.specs.Options.{connidBytes, cqDataBytes, rawAddressBytes, sectionsBytes}
 use Rattle.protocol.specs.Rules.{Sound}
 use Rattle.protocol.specs.Sections.{beginOf, connidAt, dataAt, endOf, extentOf, isAmong, rawSpan, sectionsIn, until}
-use Rattle.protocol.specs.Steps.{afterRaw, connidLength, cqDataLength, sectionsAt, sectionsFrom}
+use Rattle.protocol.specs.SectionsInTurn.{afterRaw, connidLength, cqDataLength, sectionsAt, sectionsFrom}
 use Rattle.protocol.specs.Totals.{sizes}
 use Rattle.protocol.specs.Writing.{mandatoryBytes, packetBytes}
 use Rattle.protocol.specs.declared.sections.Extent.the-variants.{Cut, Whole}

@@ -4,7 +4,7 @@ use mathlib.Core.List.{List}
 use Rattle.protocol.specs.Reading.{packetIn}
 use Rattle.protocol.specs.Optional.{flagged, raw-address}
 use Rattle.protocol.specs.Sections.{rawSpan}
-use Rattle.protocol.specs.Steps.{afterRaw, connidLength, cqDataLength, sectionsAt}
+use Rattle.protocol.specs.SectionsInTurn.{afterRaw, connidLength, cqDataLength, sectionsAt}
 use Rattle.protocol.specs.declared.table.TypeRow.{TypeRow}
 use Rattle.protocol.specs.declared.types.Packet.{Packet}
 

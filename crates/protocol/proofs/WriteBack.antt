@@ -19,7 +19,7 @@ use Rattle.protocol.specs.Reading.{headerIn, packetIn}
 use Rattle.protocol.specs.RoundTrip.{blanked, blankedAs}
 use Rattle.protocol.specs.Rules.{ConnidPlace, Sound}
 use Rattle.protocol.specs.Sections.{connidAt, rawSpan, span}
-use Rattle.protocol.specs.Steps.{afterRaw, connidLength, cqDataLength, rawLength}
+use Rattle.protocol.specs.SectionsInTurn.{afterRaw, connidLength, cqDataLength, rawLength}
 use Rattle.protocol.specs.Types.{row, rowOf}
 use Rattle.protocol.specs.Values.{bytesAt}
 use Rattle.protocol.specs.Writing.{baseBytes, mandatoryBytes, packetBytes, writeOf}

@@ -13,7 +13,7 @@ use Rattle.protocol.specs.Flags.{flagsFit}
 use Rattle.protocol.specs.Optional.{flagged, flagsOf, raw-address, sectionsOf}
 use Rattle.protocol.specs.Options.{connidBytes, cqDataBytes, rawAddressBytes}
 use Rattle.protocol.specs.Rules.{Sound}
-use Rattle.protocol.specs.Steps.{headLength}
+use Rattle.protocol.specs.SectionsInTurn.{headLength}
 use Rattle.protocol.specs.Totals.{limitedTo, sizes, totalOf}
 use Rattle.protocol.specs.Writing.{baseBytes, mandatoryBytes, packetBytes}
 use Rattle.protocol.specs.declared.table.TypeRow.{TypeRow}

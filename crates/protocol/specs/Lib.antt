@@ -7,7 +7,7 @@ pub mod Lengths
 pub mod Options
 pub mod Refusals
 pub mod Sections
-pub mod Steps
+pub mod SectionsInTurn
 pub mod Reading
 pub mod Writing
 pub mod Totals

@@ -1,4 +1,4 @@
--- The refusals, by the numbers of 01's table ("The refusal stamps").
+-- The refusals, by the numbers of 01's table of refusals.
 use Prim.Native.Nat.{ℕ}
 use Rattle.protocol.specs.declared.types.Refusal.{Refusal}
 

@@ -1,5 +1,5 @@
 -- The bytes of a number are its groups, and no others are, as specs/NumberGroups.antt states: by induction over the bytes.
-use Prim.Native.Nat.{ℕ, suc, _+_, _-_, _*_, _/_, _%_, _≤_, _<_}
+use Prim.Native.Nat.{ℕ, suc, _+_, _-_, _*_, _/_, _%_, _<_}
 use lib.ListN.{length, getD}
 use mathlib.Core.List.{List, [], _∷_}
 use mathlib.Core.Path.{_≡_, refl, sym}

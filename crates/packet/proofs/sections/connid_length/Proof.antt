@@ -2,7 +2,7 @@
 use borrow.Author.Needs.{needs}
 use Rattle.laws.specs.Choose.{pick}
 use Rattle.protocol.specs.Optional.{flagged}
-use Rattle.protocol.specs.Steps.{connidLength}
+use Rattle.protocol.specs.SectionsInTurn.{connidLength}
 use Rattle.packet.proofs.sections.connid_length.Statement.{statement}
 use Rattle.packet.proofs.sections.connid_length.Tie as tie
 

@@ -1,7 +1,7 @@
 -- `packet::sections::cq_data_length` meets its contract.
 use borrow.Author.Needs.{needs}
 use Rattle.laws.specs.Choose.{pick}
-use Rattle.protocol.specs.Steps.{cqDataLength}
+use Rattle.protocol.specs.SectionsInTurn.{cqDataLength}
 use Rattle.packet.proofs.sections.cq_data_length.Statement.{statement}
 use Rattle.packet.proofs.sections.cq_data_length.Tie as tie
 

@@ -7,7 +7,7 @@ use native.Mathlib.Nat.{add-assoc, add-zero}
 use native.Mathlib.Omega.{arith}
 use Rattle.laws.specs.Choose.{pick}
 use Rattle.protocol.specs.Sections.{rawSpan}
-use Rattle.protocol.specs.Steps.{afterRaw}
+use Rattle.protocol.specs.SectionsInTurn.{afterRaw}
 use Rattle.protocol.proofs.ReadingLaws.{cut-before}
 use Rattle.protocol.proofs.RowLaws.{header-bounds}
 use Rattle.protocol.proofs.StepLaws.{extent-in-steps}

@@ -4,7 +4,7 @@ use borrow.Author.Needs.{needs}
 use borrow.Author.Tests.{lt-ltb, le-ltb}
 use native.Mathlib.Omega.{arith}
 use Rattle.laws.specs.Choose.{pick}
-use Rattle.protocol.specs.Steps.{sectionsFrom}
+use Rattle.protocol.specs.SectionsInTurn.{sectionsFrom}
 use Rattle.protocol.proofs.ReadingLaws.{options-short}
 use Rattle.packet.proofs.sections.from.Statement.{statement}
 use Rattle.packet.proofs.sections.from.Tie as tie

@@ -1,7 +1,7 @@
 -- `packet::writer::head_length` meets its contract. The sum does not wrap: headers without the raw address have at most 48 bytes.
 use borrow.Author.Needs.{needs}
 use native.Mathlib.Omega.{arith}
-use Rattle.protocol.specs.Steps.{headLength}
+use Rattle.protocol.specs.SectionsInTurn.{headLength}
 use Rattle.protocol.proofs.WritingLaws.{head-small}
 use Rattle.packet.proofs.writer.head_length.Statement.{statement}
 use Rattle.packet.proofs.writer.head_length.Tie as tie

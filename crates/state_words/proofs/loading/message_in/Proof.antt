@@ -1,11 +1,7 @@
+-- `state_words::loading::message_in` meets its contract.
 use borrow.Author.Needs.{needs}
 use Rattle.state_words.proofs.loading.message_in.Statement.{statement}
 use Rattle.state_words.proofs.loading.message_in.Tie as tie
-use Rattle.state_words.proofs.loading.message_in.Reads as reads
-use Rattle.state_words.proofs.loading.message_in.Lts as lts
-use Rattle.state_words.proofs.loading.cq_in.Reads as cq-in-reads
-use Rattle.state_words.proofs.loading.shape_in.Reads as shape-in-reads
--- `state_words::loading::message_in` meets its contract.
 use mathlib.Core.Path.{refl}
 
 cq-in-requires : tie.Need-cq-in-requires

@@ -1,6 +1,6 @@
+-- `state_words::loading::shape_in` meets its contract.
 use Rattle.state_words.proofs.loading.shape_in.Statement.{statement}
 use Rattle.state_words.proofs.loading.shape_in.Tie as tie
--- `state_words::loading::shape_in` meets its contract.
 use borrow.Author.Tests.{ne-eqb}
 use Rattle.laws.specs.Choose.{pick}
 

@@ -1,13 +1,7 @@
+-- `state_words::saving::open_words` meets its contract.
 use borrow.Author.Needs.{needs}
 use Rattle.state_words.proofs.saving.open_words.Statement.{statement}
 use Rattle.state_words.proofs.saving.open_words.Tie as tie
-use Rattle.state_words.proofs.saving.open_words.Reads as reads
-use Rattle.state_words.proofs.saving.open_words.Lts as lts
-use Rattle.state_words.proofs.saving.sort_word.Reads as sort-word-reads
-use Rattle.words.proofs.bit_of.Reads as bit-of-reads
-use Rattle.words.proofs.cq_bit.Reads as cq-bit-reads
-use Rattle.words.proofs.cq_value.Reads as cq-value-reads
--- `state_words::saving::open_words` meets its contract.
 use mathlib.Core.Path.{refl}
 use Rattle.state_words.specs.Saving.{phaseWords}
 

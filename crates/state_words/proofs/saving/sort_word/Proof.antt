@@ -1,10 +1,7 @@
+-- `state_words::saving::sort_word` meets its contract.
 use borrow.Author.Needs.{needs}
 use Rattle.state_words.proofs.saving.sort_word.Statement.{statement}
 use Rattle.state_words.proofs.saving.sort_word.Tie as tie
-use Rattle.state_words.proofs.saving.sort_word.Reads as reads
-use Rattle.state_words.proofs.saving.sort_word.Lts as lts
-use Rattle.state_words.proofs.saving.shape_number.Reads as shape-number-reads
--- `state_words::saving::sort_word` meets its contract.
 use native.Mathlib.Omega.{arith}
 
 shape-number-requires : tie.Need-shape-number-requires
