@@ -85,7 +85,7 @@ module _ (r : TypeRow) (s : Sound r) where
       let a = sym (and-options (r .must)) ∙ ap (bitAnd (r .must)) (sym (may-request e)) ∙ s .apart in
       omega (arith, a, s .small)
 
--- an RTM type takes every optional header
+-- a request takes every optional header
 
 unset : (t : Bool) → bit t ≡ 0 → t ≡ false
 unset true e = absurd (omega arith)

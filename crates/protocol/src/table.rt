@@ -16,8 +16,6 @@ pub struct TypeRow {
     pub tagged: bool,
     // whether the receive engine takes such packets
     pub served: bool,
-    // whether raw address (flag 0x1) and CQ data (flag 0x2) may follow
-    pub request: bool,
     // flags that a packet of the type has, and flags that it may have besides
     pub must: u16,
     pub may: u16,
@@ -27,6 +25,9 @@ pub struct TypeRow {
     pub places: u64,
     // bytes that the connid takes after the other optional headers, with its padding
     pub connid: usize,
+    // whether raw address (flag 0x1) and CQ data (flag 0x2) may follow; last, since a byte before the
+    // flags leaves a gap behind them, over which the reader would load: 5 ns a packet
+    pub request: bool,
 }
 
 pub enum Found {
