@@ -4,10 +4,11 @@ use borrow.Author.Tests.{leb-false}
 use lib.ListN.{length, drop}
 use mathlib.Core.Bool.{false}
 use mathlib.Core.List.{List}
-use mathlib.Core.Logic.{_⊎_, inl, inr}
+use mathlib.Core.Logic.{_⊎_, inl, inr, ⊎-elim}
 use mathlib.Core.Path.{_≡_, refl, sym, ap, _∙_}
 use native.Mathlib.Omega.{arith}
 use Rattle.bitmap.specs.Map.{cleared, marked}
+use Rattle.protocol.specs.CtsWords.{CtsReadBack}
 use Rattle.protocol.specs.InWords.{headIn}
 use Rattle.protocol.specs.Reading.{readOf}
 use Rattle.protocol.specs.Refusals.{badLength, badSlot, noSlot, overlaps, shortReply}
@@ -21,7 +22,7 @@ use Rattle.peer.specs.Formed.{Formed}
 use Rattle.peer.specs.Incomings.{incomingOf}
 use Rattle.peer.specs.Judging.{judge}
 use Rattle.peer.specs.Matching.{vacancy}
-use Rattle.peer.specs.Moves.{Beginning, GoingOn, Moved, MovesAreAsSaid}
+use Rattle.peer.specs.Moves.{AllIn, Beginning, GoingOn, Moved, MovesAreAsSaid, SomeMissing}
 use Rattle.peer.specs.PacketBytes.{offsetIn}
 use Rattle.peer.specs.State.{phaseAt, slotCount}
 use Rattle.peer.specs.View.{roleOf}
@@ -36,9 +37,12 @@ use Rattle.peer.specs.declared.types.Vacancy.{Vacancy}
 use Rattle.peer.specs.declared.types.Verdict.{Verdict}
 use Rattle.bitmap.proofs.BitLaws.{length-cleared, length-marked}
 use Rattle.laws.proofs.Choosing.{branch}
+use Rattle.laws.proofs.Comparing.{le-or-lt}
+use Rattle.protocol.proofs.CtsRead.{cts-read-back}
 use Rattle.peer.proofs.BitMoves.{Reached, count-listed, first-lowest, match-marked, more-marked, reached}
 use Rattle.peer.proofs.BytesHold.{Says, bytes-told, read-says}
 use Rattle.peer.proofs.Kept.{Standing, begun-standing, continued-standing}
+use Rattle.peer.proofs.OriginReplies.{grant-left, grant-some}
 use Rattle.peer.proofs.OriginsHold.{begun-by}
 use Rattle.peer.proofs.PacketsRead.{read-formed}
 use Rattle.peer.proofs.SlotMovesHold.{free-moves, matching, placed-moves, quiet-lent, set-now, set-only, truncated-moves}
@@ -98,6 +102,10 @@ module _ (limit : ℕ) (p : Peer) (ws : List ℕ) (eight : length (p .slots) ≡
     abbrev Landed : Progress → Effect
     Landed g = landed now at bytes (settledAs limit q i o g)
 
+    -- a byte that is missing where all granted ones are in is beyond the granted end
+    beyond : AllIn now o (o .message .granted) → SomeMissing now o (o .message .length) → o .message .granted < o .message .length
+    beyond all (x, l, z) = ⊎-elim (λ h. omega arith) (λ h. absurd (omega (arith, all x h))) (le-or-lt (o .message .granted) x)
+
     settled-moves : (g : Progress) → Reached now o g → Moved limit p ws (packet bs room) (Landed g) (Landed g .answer)
     unfolding settledAs grantOf
     settled-moves Progress.Whole w = (
@@ -153,6 +161,11 @@ module _ (limit : ℕ) (p : Peer) (ws : List ℕ) (eight : length (p .slots) ≡
         long = w .0;
         allIn = w .1;
         remains = w .2;
+        reply = λ a b c low.
+            unfold CtsReadBack in
+            cts-read-back (o .message .«send_id») (o .message .id) (grantOf limit (o .message)) a b
+            (grant-some limit (o .message) low (beyond (w .1) (w .2)))
+            (omega (arith, grant-left limit (o .message)));
       },
     )
     settled-moves Progress.Partial w = (

@@ -37,14 +37,14 @@ use Rattle.peer.proofs.WordsHold.{long-is-68-and-69}
 -- ---- a grant
 
 -- a message of which bytes are left is granted some, and no more than are left
-grant-some : (limit : ℕ) (m : Message) → 64 ≤ limit → m .granted < m .length → 1 ≤ grantOf limit m
+pub grant-some : (limit : ℕ) (m : Message) → 64 ≤ limit → m .granted < m .length → 1 ≤ grantOf limit m
 unfolding grantOf
 grant-some limit m low short =
     let some : 1 ≤ min (max (m .«credit_request») 1) 16 = omega arith in
     let each : 1 ≤ limit - 32 = omega arith in
     omega (arith, mul-le-mul some each)
 
-grant-left : (limit : ℕ) (m : Message) → grantOf limit m ≤ m .length
+pub grant-left : (limit : ℕ) (m : Message) → grantOf limit m ≤ m .length
 unfolding grantOf
 grant-left limit m = omega arith
 

@@ -1,12 +1,13 @@
 -- What each answer of a peer's call leaves of its slots, next id, map and area, in 01's own words, over roles, bits and bytes: accepted segments,
 -- the missing-byte report, and the statement of every answer. Proved in proofs/MovesHold.antt and proofs/SlotsRound.antt.
-use Prim.Native.Nat.{ℕ, _+_, _-_, _*_, _<_, _≤_, min, max}
+use Prim.Native.Nat.{ℕ, _+_, _-_, _*_, _^_, _<_, _≤_, min, max}
 use lib.ListN.{length, drop}
 use mathlib.Core.Bool.{true}
 use mathlib.Core.List.{List, [], List·Memᴰ}
 use mathlib.Core.Logic.{_⊎_, _↔_}
 use mathlib.Core.Path.{_≡_}
 use Rattle.bitmap.specs.Map.{bitAt}
+use Rattle.protocol.specs.CtsWords.{ReadsAsCts}
 use Rattle.protocol.specs.InWords.{headIn}
 use Rattle.protocol.specs.declared.types.CqData.{CqData}
 use Rattle.peer.specs.Calls.{Call, cancel, packet, peerStep, post, report}
@@ -112,6 +113,10 @@ pub record Granting (limit : ℕ) (p : Peer) (ws : List ℕ) (c : Call) (i : ℕ
   pub long : Long (o .message)
   pub allIn : AllIn (f .words) o (o .message .granted)
   pub remains : SomeMissing (f .words) o (o .message .length)
+  -- "a CTS in the first 24 reply bytes": the message's send_id, "recv_id is the message's id", and the length answered, for all numbers that its
+  -- fields hold and every limit that a set-up takes
+  pub reply : o .message .«send_id» < 2 ^ 32 → o .message .id < 2 ^ 32 → o .message .length < 2 ^ 64 → 64 ≤ limit
+      → ReadsAsCts (f .reply) (o .message .«send_id») (o .message .id) n
 
 -- "Done frees the slot and leaves the bits": the bits are those that the segment's acceptance leaves
 pub record Finishing (p : Peer) (ws : List ℕ) (c : Call) (i : ℕ) (o : Inbound) (id n : ℕ) (cq : CqData) (f : Effect) : Type 0 where
