@@ -1,7 +1,7 @@
 //! Which receive a message matches, what a match changes, ages, cancels and the ids' circle.
 
 use reference::engine::{Answer::*, Message, Receive, Slot};
-use reference::packet::{self, Packet};
+use reference::packet::{self, Packet, Shape};
 
 use crate::support::*;
 
@@ -322,7 +322,8 @@ fn what_an_open_slot_holds() {
     r.post(0, 7, 50);
     assert_eq!(r.packet(0, &medium(0, 40, 3, b"abc")), Stored);
     let medium = Message {
-        kind: packet::MEDIUM_MSGRTM,
+        shape: Shape::Medium,
+        tagged: false,
         id: 0,
         tag: 0,
         length: 40,
@@ -359,7 +360,8 @@ fn what_an_open_slot_holds() {
     };
     assert_eq!(r.packet(0, &written(&rtm)), Granted(88));
     let long = Message {
-        kind: packet::LONGCTS_TAGRTM,
+        shape: Shape::Long,
+        tagged: true,
         id: 1,
         tag: 3,
         length: 90,

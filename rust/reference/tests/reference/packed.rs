@@ -2,7 +2,7 @@
 
 use reference::engine::{Message, Receive, Slot};
 use reference::packed::{self, *};
-use reference::packet::{self, Packet};
+use reference::packet::{self, Packet, Shape};
 
 use crate::support::*;
 
@@ -91,7 +91,8 @@ fn the_words_of_a_state() {
         capacity: 14,
     };
     let message = Message {
-        kind: 69,
+        shape: Shape::Long,
+        tagged: true,
         id: 21,
         tag: 22,
         length: 23,
@@ -111,7 +112,7 @@ fn the_words_of_a_state() {
     expected[3 + 129] = 9;
     let posted = [1, 1, 11, 12, 13, 14, 15, 0, 0, 0, 0, 0, 0, 0, 0, 0];
     expected[slot_at(1, 2)..][..16].copy_from_slice(&posted);
-    let open = [2, 1, 11, 12, 13, 14, 0, 69, 21, 22, 23, 24, 25, 26, 1, 27];
+    let open = [2, 1, 11, 12, 13, 14, 0, 9, 21, 22, 23, 24, 25, 26, 1, 27];
     expected[slot_at(7, 7)..].copy_from_slice(&open);
     assert_eq!(words, expected);
     assert_eq!(packed::read_state(&words), Some(engine));
@@ -134,7 +135,7 @@ fn words_that_no_state_has() {
         (posted, 3),
         (posted + 1, 2),
         (open + 6, 1),
-        (open + 7, 256),
+        (open + 7, 10),
         (open + 8, above),
         (open + 12, above),
         (open + 13, above),

@@ -3,7 +3,7 @@
 
 use reference::engine::Answer::{self, *};
 use reference::engine::{Peer, Receive, Slot};
-use reference::packet::{self, Packet};
+use reference::packet::{self, Packet, Shape};
 
 use crate::support::*;
 
@@ -65,7 +65,7 @@ impl Run {
             Slot::Open { receive, message } if message.id == id => Some((receive, message)),
             _ => None,
         })?;
-        let end = if message.kind >= 68 {
+        let end = if message.shape == Shape::Long {
             message.granted
         } else {
             message.length

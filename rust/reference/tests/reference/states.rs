@@ -1,7 +1,7 @@
 //! States that no run reaches: which are refused, and what the others answer.
 
 use reference::engine::{Answer::*, Message, Peer, Receive, Slot};
-use reference::packet;
+use reference::packet::{Shape, TABLE};
 
 use crate::support::*;
 
@@ -14,7 +14,8 @@ fn posted(start: u64, capacity: u64, age: u64) -> Slot {
 
 fn open(start: u64, capacity: u64, id: u32, length: u64, granted: u64) -> Slot {
     let message = Message {
-        kind: packet::LONGCTS_MSGRTM,
+        shape: Shape::Long,
+        tagged: false,
         id,
         tag: 0,
         length,
@@ -136,11 +137,12 @@ fn slots_that_can_be() {
 
 #[test]
 fn a_granted_end_above_the_length_counts_for_every_kind() {
-    for kind in [0, 3, 4, 64, 66, 68, 69, 255] {
+    for row in &TABLE {
         for (granted, wrong) in [(10, false), (11, true)] {
             let mut slot = open(0, 100, 0, 10, granted);
             if let Slot::Open { message, .. } = &mut slot {
-                message.kind = kind;
+                message.shape = row.shape;
+                message.tagged = row.tagged;
             }
             assert_eq!(refused(&with_slots(0, &[slot])), wrong);
         }
@@ -266,7 +268,8 @@ pub fn any_peer(random: &mut Random) -> Peer {
                     random.below(length + 1)
                 };
                 let message = Message {
-                    kind: [66, 67, 68, 69, 68, 64, 0][random.below(7) as usize],
+                    shape: TABLE[random.below(TABLE.len() as u64) as usize].shape,
+                    tagged: random.chance(2),
                     id: if random.chance(20) {
                         random.below(4) as u32
                     } else {
