@@ -142,7 +142,7 @@ targetOfCall limit l (packet bs room) = targetOfRead l bs (readOf false limit bs
 targetOfCall limit l (cancel i) = Rattle.peer.specs.Plain.nowhere
 targetOfCall limit l (report i) = Rattle.peer.specs.Plain.nowhere
 
--- the message that a packet's segment goes to; all zeros where there is none
+-- where there is no message: no reply and no answer comes of it
 abbrev pub noMessage : Message
 noMessage =
     record {
@@ -162,6 +162,7 @@ messageOf idle = noMessage
 messageOf (waiting r) = noMessage
 messageOf (receiving o) = o .message
 
+-- the message that a packet's segment goes to
 abbrev pub messageIn : Target → Message
 messageIn t = messageOf (t .entry .role)
 

@@ -14,9 +14,7 @@ use crate::workload::{content, written, AREA};
 const MARK: (usize, usize) = (100, 8_000);
 
 pub fn print() {
-    println!(
-        "\nParts on their own, per call. Bytes are those marked, or those of the packets.\n"
-    );
+    println!("\nParts on their own, per call. Bytes are those marked, or those of the packets.\n");
     println!(
         "| Part | Verified, ns | Reference, ns | Verified, calls/s | Reference, calls/s \
          | Verified, MB/s | Reference, MB/s | Time, verified/reference |"
@@ -119,6 +117,11 @@ fn reads() -> Measured {
         since.elapsed()
     });
     assert!(sides[0] == sides[1], "the receivers differ");
+    of_packets(&packets, rounds, verified, reference)
+}
+
+/// Times of rounds in which each packet was read or written once.
+fn of_packets(packets: &[Vec<u8>], rounds: usize, verified: Times, reference: Times) -> Measured {
     let bytes: usize = packets.iter().map(Vec::len).sum();
     Measured {
         verified,
@@ -156,13 +159,7 @@ fn writes() -> Measured {
         assert!(out.starts_with(packet), "the packet written is another");
     }
     assert!(sides[0] == sides[1], "the receivers differ");
-    let bytes: usize = packets.iter().map(Vec::len).sum();
-    Measured {
-        verified,
-        reference,
-        calls: packets.len() * rounds,
-        bytes: Some(bytes * rounds),
-    }
+    of_packets(&packets, rounds, verified, reference)
 }
 
 fn values_of(packet: &[u8]) -> [u64; VALUE_WORDS] {
