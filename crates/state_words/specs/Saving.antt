@@ -11,7 +11,9 @@ use Rattle.peer.specs.declared.types.Message.{Message}
 use Rattle.peer.specs.declared.types.Phase.{Phase}
 use Rattle.peer.specs.declared.types.Slot.{Slot}
 use Rattle.peer.specs.declared.types.Peer.{Peer}
+use Rattle.peer.specs.State.{slotCount}
 use Rattle.engine.specs.declared.types.Engine.{Engine}
+use Rattle.engine.specs.SetUp.{peerCount}
 use Rattle.state_words.specs.Flat.{flat}
 
 -- the words of a slot, of a peer and of the whole state
@@ -19,10 +21,10 @@ abbrev pub slotSize : ℕ
 slotSize = 16
 
 abbrev pub peerSize : ℕ
-peerSize = 129
+peerSize = 1 + slotSize * slotCount
 
 abbrev pub stateSize : ℕ
-stateSize = 1035
+stateSize = 3 + peerSize * peerCount
 
 -- a shape by its place among the shapes
 abbrev pub shapeNumber : Shape → ℕ

@@ -20,6 +20,7 @@ ghost use lib.ListN.{length};
 ghost use Rattle.peer.specs.State.{slotWith};
 ghost use Rattle.engine.specs.SetUp.{engineOf};
 ghost use Rattle.state_words.specs.Flat.{same};
+ghost use Rattle.state_words.specs.Saving.{peerSize, stateSize};
 ghost use Rattle.state_words.specs.Loading.{receiveIn, cqIn, shapeIn, messageIn, phaseIn, peerIn, engineIn, isState, stateOf};
 
 fn receive_in(words: &[u64], at: usize) -> Receive
@@ -100,7 +101,7 @@ fn slot_in(words: &[u64], at: usize) -> Slot
 }
 
 fn peer_in(words: &[u64], at: usize) -> Peer
-    requires { ⌜ at + 129 ≤ length (now words) ⌝ }
+    requires { ⌜ at + peerSize ≤ length (now words) ⌝ }
     ensures { λ r. ⌜ r ≡ peerIn (now (words .entry)) at ⌝ }
 {
     let mut peer = Peer::fresh();
@@ -115,7 +116,7 @@ fn peer_in(words: &[u64], at: usize) -> Peer
 
 // The engine that the words are read as, whether or not they are a state's words.
 fn engine_in(words: &[u64]) -> Engine
-    requires { ⌜ length (now words) ≡ 1035 ⌝ }
+    requires { ⌜ length (now words) ≡ stateSize ⌝ }
     ensures { λ r. ⌜ r ≡ engineIn (now (words .entry)) ⌝ }
 {
     let peer = Peer::fresh();

@@ -12,7 +12,7 @@ ghost use mathlib.Core.Path.{_≡_};
 ghost use Prim.Native.Nat.{_+_, _≤_};
 ghost use lib.ListN.{length};
 ghost use Rattle.laws.specs.Parts.{storeAt};
-ghost use Rattle.state_words.specs.Saving.{shapeNumber, sortWord, phaseWords, slotWords, peerWords, engineWords};
+ghost use Rattle.state_words.specs.Saving.{shapeNumber, sortWord, phaseWords, slotWords, peerWords, engineWords, peerSize, stateSize};
 
 // A shape by its place among the shapes.
 fn shape_number(shape: Shape) -> u64
@@ -99,7 +99,7 @@ fn slot_words(slot: Slot) -> [u64; 16]
 }
 
 fn put_peer(words: &mut [u64], at: usize, peer: Peer)
-    requires { ⌜ at + 129 ≤ length (now words) ⌝ }
+    requires { ⌜ at + peerSize ≤ length (now words) ⌝ }
     ensures { λ _. ⌜ now (words .exit) ≡ storeAt (now (words .entry)) at (peerWords peer) ⌝ }
 {
     words[at] = peer.next as u64;
@@ -113,7 +113,7 @@ fn put_peer(words: &mut [u64], at: usize, peer: Peer)
 
 // The words of an engine, over all that are there.
 pub fn save(words: &mut [u64], engine: Engine)
-    requires { ⌜ length (now words) ≡ 1035 ⌝ }
+    requires { ⌜ length (now words) ≡ stateSize ⌝ }
     ensures { λ _. ⌜ now (words .exit) ≡ engineWords engine ⌝ }
 {
     words[0] = engine.n as u64;

@@ -9,6 +9,7 @@ use native.Mathlib.Omega.{arith}
 use Rattle.peer.specs.State.{freshPeer}
 use Rattle.peer.specs.declared.types.Peer.{Peer}
 use Rattle.engine.specs.SetUp.{peerCount}
+use Rattle.state_words.specs.Saving.{peerSize}
 use Rattle.state_words.specs.Flat.{tabulate}
 use Rattle.state_words.specs.Loading.{engineIn, peerIn}
 use Rattle.state_words.proofs.FlatLaws.{tabulate-turn, tabulate-all}
@@ -20,13 +21,13 @@ fresh : List Peer
 fresh = replicate peerCount freshPeer
 
 abbrev read : List ℕ → ℕ → Peer
-read w p = peerIn w (3 + 129 * p)
+read w p = peerIn w (3 + peerSize * p)
 
 abbrev Inv-loop : tie.InvT-loop
-Inv-loop words engine₀ p₀ engine p = (p ≤ 8) × (engine .n ≡ getD words 0 0) × (engine .area ≡ getD words 1 0) × (engine .limit ≡ getD words 2 0) × (engine .peers ≡ paste fresh 0 (tabulate (read words) 8) p)
+Inv-loop words engine₀ p₀ engine p = (p ≤ peerCount) × (engine .n ≡ getD words 0 0) × (engine .area ≡ getD words 1 0) × (engine .limit ≡ getD words 2 0) × (engine .peers ≡ paste fresh 0 (tabulate (read words) peerCount) p)
 
 abbrev μ-loop : tie.MeasureT-loop
-μ-loop words engine₀ p₀ engine p = 8 - p
+μ-loop words engine₀ p₀ engine p = peerCount - p
 
 fresh-requires : tie.Need-fresh-requires Inv-loop μ-loop
 fresh-requires c κs = search needs
@@ -44,7 +45,7 @@ loop-holds : tie.Need-loop-holds Inv-loop μ-loop
 unfolding fresh
 loop-holds c =
     let a = c .before .before .before .before .before .args in
-    (omega arith, refl, refl, refl, rw (c .before .before .before .fresh .ensures) (paste-zero fresh 0 (tabulate (read (a .words .now)) 8)))
+    (omega arith, refl, refl, refl, rw (c .before .before .before .fresh .ensures) (paste-zero fresh 0 (tabulate (read (a .words .now)) peerCount)))
 
 mul-peer-in : tie.Need-mul-peer-in Inv-loop μ-loop
 mul-peer-in c = search needs
@@ -73,7 +74,7 @@ loop-again c =
     let l = c .before .before in
     let a = l .before .before .before .before .before .before .args in
     let i = l .loop .inv in
-    (omega arith, i .1, i .2, i .3, rw (c .peer-in .ensures) (tabulate-turn (read (a .words .now)) 8 fresh (l .loop .engine .peers) (l .loop .p) refl (omega arith) (i .4)))
+    (omega arith, i .1, i .2, i .3, rw (c .peer-in .ensures) (tabulate-turn (read (a .words .now)) peerCount fresh (l .loop .engine .peers) (l .loop .p) refl (omega arith) (i .4)))
 
 returns : tie.Need-returns Inv-loop μ-loop
 unfolding engineIn fresh
@@ -81,8 +82,8 @@ returns c =
     let l = c .before in
     let a = l .before .before .before .before .before .before .args in
     let i = l .loop .inv in
-    let all : l .loop .p ≡ 8 = omega arith in
-    let peers : l .loop .engine .peers ≡ tabulate (read (a .words .now)) 8 = rw all at (i .4) ∙ tabulate-all (read (a .words .now)) 8 fresh refl in
+    let all : l .loop .p ≡ peerCount = omega arith in
+    let peers : l .loop .engine .peers ≡ tabulate (read (a .words .now)) peerCount = rw all at (i .4) ∙ tabulate-all (read (a .words .now)) peerCount fresh refl in
     rw (← i .1, ← i .2, ← i .3, ← peers)
 
 pub engine-in-spec : {M : Type 1} → statement M

@@ -22,10 +22,10 @@ abbrev read : List ℕ → ℕ → ℕ → Slot
 read w at i = slotWith (phaseIn w (at + 1 + 16 * i))
 
 abbrev Inv-loop : tie.InvT-loop
-Inv-loop words at peer₀ i₀ peer i = (i ≤ 8) × (peer .next ≡ getD words at 0 % 2 ^ 32) × (peer .slots ≡ paste free 0 (tabulate (read words at) 8) i)
+Inv-loop words at peer₀ i₀ peer i = (i ≤ slotCount) × (peer .next ≡ getD words at 0 % 2 ^ 32) × (peer .slots ≡ paste free 0 (tabulate (read words at) slotCount) i)
 
 abbrev μ-loop : tie.MeasureT-loop
-μ-loop words at peer₀ i₀ peer i = 8 - i
+μ-loop words at peer₀ i₀ peer i = slotCount - i
 
 fresh-requires : tie.Need-fresh-requires Inv-loop μ-loop
 fresh-requires c κs = search needs
@@ -43,7 +43,7 @@ loop-holds : tie.Need-loop-holds Inv-loop μ-loop
 unfolding free freshPeer
 loop-holds c =
     let a = c .before .before .before .args in
-    (omega arith, refl, rw (c .before .fresh .ensures) (paste-zero free 0 (tabulate (read (a .words .now) (a .at)) 8)))
+    (omega arith, refl, rw (c .before .fresh .ensures) (paste-zero free 0 (tabulate (read (a .words .now) (a .at)) slotCount)))
 
 add-slot-in : tie.Need-add-slot-in Inv-loop μ-loop
 add-slot-in c = search needs
@@ -74,16 +74,16 @@ unfolding free
 loop-again c =
     let l = c .before .before in
     let a = l .before .before .before .before .args in
-    (omega arith, l .loop .inv .1, rw (c .slot-in .ensures) (tabulate-turn (read (a .words .now) (a .at)) 8 free (l .loop .peer .slots) (l .loop .i) refl (omega arith) (l .loop .inv .2)))
+    (omega arith, l .loop .inv .1, rw (c .slot-in .ensures) (tabulate-turn (read (a .words .now) (a .at)) slotCount free (l .loop .peer .slots) (l .loop .i) refl (omega arith) (l .loop .inv .2)))
 
 returns : tie.Need-returns Inv-loop μ-loop
 unfolding peerIn free
 returns c =
     let l = c .before in
     let a = l .before .before .before .before .args in
-    let all : l .loop .i ≡ 8 = omega arith in
+    let all : l .loop .i ≡ slotCount = omega arith in
     ap₂ (λ (n : ℕ) (s : List Slot). record { next = n; slots = s }) (l .loop .inv .1)
-    (rw all at (l .loop .inv .2) ∙ tabulate-all (read (a .words .now) (a .at)) 8 free refl)
+    (rw all at (l .loop .inv .2) ∙ tabulate-all (read (a .words .now) (a .at)) slotCount free refl)
 
 pub peer-in-spec : {M : Type 1} → statement M
 peer-in-spec =

@@ -6,7 +6,7 @@ use lib.Seq.{take-all}
 use mathlib.Core.Path.{_≡_, refl, sym, ap, _∙_}
 use native.Mathlib.Omega.{arith}
 use Rattle.laws.specs.Parts.{storeAt}
-use Rattle.peer.specs.State.{freeSlot}
+use Rattle.peer.specs.State.{freeSlot, slotCount}
 use Rattle.state_words.specs.Flat.{flat}
 use Rattle.state_words.specs.Saving.{slotWords}
 use Rattle.laws.proofs.Storing.{set-next, store-nothing}
@@ -17,10 +17,10 @@ use Rattle.state_words.proofs.saving.put_peer.Statement.{statement}
 use Rattle.state_words.proofs.saving.put_peer.Tie as tie
 
 abbrev Inv-loop : tie.InvT-loop
-Inv-loop words₀ at peer i₀ words i = (i ≤ 8) × (length words ≡ length words₀) × (words ≡ storeAt words₀ (at + 1) (flat slotWords (take i (peer .slots))))
+Inv-loop words₀ at peer i₀ words i = (i ≤ slotCount) × (length words ≡ length words₀) × (words ≡ storeAt words₀ (at + 1) (flat slotWords (take i (peer .slots))))
 
 abbrev μ-loop : tie.MeasureT-loop
-μ-loop words₀ at peer i₀ words i = 8 - i
+μ-loop words₀ at peer i₀ words i = slotCount - i
 
 cast-words : tie.Need-cast-words Inv-loop μ-loop
 cast-words c = search needs
@@ -72,7 +72,7 @@ loop-again : tie.Need-loop-again Inv-loop μ-loop
 loop-again c =
     let l = c .before .before .before .before .before .before .before .before in
     let a = l .before .before .args in
-    let len : length (a .t3 .slots) ≡ 8 = search length-mapped in
+    let len : length (a .t3 .slots) ≡ slotCount = search length-mapped in
     let w = set (a .words .now) (a .at) (a .t3 .next) in
     let fits : a .at + 1 + 16 * length (a .t3 .slots) ≤ length w = simp length-set (omega (arith, len)) in (
       omega arith,
@@ -89,7 +89,7 @@ returns : tie.Need-returns Inv-loop μ-loop
 returns c =
     let l = c .before in
     let a = l .before .before .args in
-    let len : length (a .t3 .slots) ≡ 8 = search length-mapped in
+    let len : length (a .t3 .slots) ≡ slotCount = search length-mapped in
     let all : length (a .t3 .slots) ≤ l .loop .i = omega (arith, len) in
     let size = length-peer (a .t3) len in
     rw (take-all (l .loop .i) (a .t3 .slots) all) at (l .loop .inv .2)

@@ -8,8 +8,10 @@ use mathlib.Core.Path.{_≡_, refl, sym, _∙_}
 use native.Mathlib.Omega.{arith}
 use Rattle.laws.specs.Parts.{storeAt}
 use Rattle.peer.specs.declared.types.Peer.{Peer}
+use Rattle.peer.specs.State.{slotCount}
+use Rattle.engine.specs.SetUp.{peerCount}
 use Rattle.state_words.specs.Flat.{flat}
-use Rattle.state_words.specs.Saving.{engineWords, peerWords}
+use Rattle.state_words.specs.Saving.{engineWords, peerSize, peerWords}
 use Rattle.laws.proofs.Storing.{set-next, store-nothing, store-whole}
 use Rattle.laws.proofs.Listing.{length-mapped}
 use Rattle.state_words.proofs.Elements.{slots-each}
@@ -22,15 +24,15 @@ abbrev noPeer : Peer
 noPeer = record { next = 0; slots = [] }
 
 abbrev Inv-loop : tie.InvT-loop
-Inv-loop words₀ engine p₀ words p = (p ≤ 8) × (length words ≡ length words₀) × (words ≡ storeAt words₀ 3 (flat peerWords (take p (engine .peers))))
+Inv-loop words₀ engine p₀ words p = (p ≤ peerCount) × (length words ≡ length words₀) × (words ≡ storeAt words₀ 3 (flat peerWords (take p (engine .peers))))
 
 abbrev μ-loop : tie.MeasureT-loop
-μ-loop words₀ engine p₀ words p = 8 - p
+μ-loop words₀ engine p₀ words p = peerCount - p
 
-eight : (s : tie.Start Inv-loop μ-loop) → length (s .args .t2 .peers) ≡ 8
+eight : (s : tie.Start Inv-loop μ-loop) → length (s .args .t2 .peers) ≡ peerCount
 eight s = search length-mapped
 
-slots : (s : tie.Start Inv-loop μ-loop) (i : ℕ) → i < length (s .args .t2 .peers) → length (getD (s .args .t2 .peers) i noPeer .slots) ≡ 8
+slots : (s : tie.Start Inv-loop μ-loop) (i : ℕ) → i < length (s .args .t2 .peers) → length (getD (s .args .t2 .peers) i noPeer .slots) ≡ slotCount
 slots s i h = slots-each (s .args .t2 .peers) _ (s .good .1 .0 .1 .1 .0 .1 .1) i noPeer h
 
 slice-write-words : tie.Need-slice-write-words Inv-loop μ-loop
@@ -74,12 +76,12 @@ loop-again c =
     let a = s .args in
     let len = eight s in
     let w = set (set (set (a .words .now) 0 (a .t2 .n)) 1 (a .t2 .area)) 2 (a .t2 .limit) in
-    let fits : 3 + 129 * length (a .t2 .peers) ≤ length w = simp length-set (omega (arith, len, s .pre)) in (
+    let fits : 3 + peerSize * length (a .t2 .peers) ≤ length w = simp length-set (omega (arith, len, s .pre)) in (
       omega arith,
       c .before .before .put-peer .kept .0 ∙ l .loop .inv .1,
       c .before .before .put-peer .ensures
           ∙ rw (l .loop .inv .2)
-          (flat-turn peerWords 129 (a .t2 .peers) noPeer (λ i h. length-peer (getD (a .t2 .peers) i noPeer) (slots s i h)) w 3 (l .loop .p) (3 + 129 * l .loop .p) (omega (arith, len)) refl fits),
+          (flat-turn peerWords peerSize (a .t2 .peers) noPeer (λ i h. length-peer (getD (a .t2 .peers) i noPeer) (slots s i h)) w 3 (l .loop .p) (3 + 129 * l .loop .p) (omega (arith, len)) refl fits),
     )
 
 same-length : tie.Need-same-length Inv-loop μ-loop
