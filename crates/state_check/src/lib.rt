@@ -4,10 +4,11 @@ mod open;
 mod slots;
 
 use peer::Peer;
+use peer::Slot;
 ghost use mathlib.Core.Path.{_≡_};
 ghost use Prim.Native.Nat.{_+_, _<_};
-ghost use lib.ListN.{drop};
-ghost use Rattle.peer.specs.State.{slotCount, phaseAt, allFit, noneClash, pairsApart, peerFits};
+ghost use Rattle.laws.specs.Choose.{pick};
+ghost use Rattle.peer.specs.State.{allFit, isFree, pairsApart, peerFits, slotCount};
 
 // Whether each slot by itself can be.
 fn slots_fit(peer: Peer, area: usize) -> bool
@@ -24,34 +25,29 @@ fn slots_fit(peer: Peer, area: usize) -> bool
     true
 }
 
-// Whether slot i can stand together with each slot behind it. A free slot can.
-fn is_apart(peer: Peer, i: usize) -> bool
+// Where the slots begin that slot i is held against: behind it. A free one is held against none.
+fn first_other(slot: Slot, i: usize) -> usize
     requires { ⌜ i < slotCount ⌝ }
-    ensures { λ r. ⌜ r ≡ noneClash (phaseAt (peer .slots) i) (drop (i + 1) (peer .slots)) ⌝ }
+    ensures { λ r. ⌜ r ≡ pick (isFree (slot .phase)) slotCount (i + 1) ⌝ }
 {
-    let slot = peer.slots[i];
-    if slot.is_free() {
-        return true;
-    }
-    let mut j = i + 1;
-    while j < Peer::SLOTS {
-        let other = peer.slots[j];
-        if slots::clashes(slot, other) {
-            return false;
-        }
-        j += 1;
-    }
-    true
+    if slot.is_free() { Peer::SLOTS } else { i + 1 }
 }
 
-// Whether no two slots clash: each pair is looked at once.
+// Whether no two slots clash: each pair is looked at once. Both loops stand here, where the peer is: a
+// function for the inner one would be handed the whole peer at each slot.
 fn pairs_apart(peer: Peer) -> bool
     ensures { λ r. ⌜ r ≡ pairsApart (peer .slots) ⌝ }
 {
     let mut i: usize = 0;
     while i < Peer::SLOTS {
-        if !is_apart(peer, i) {
-            return false;
+        let slot = peer.slots[i];
+        let mut j = first_other(slot, i);
+        while j < Peer::SLOTS {
+            let other = peer.slots[j];
+            if slots::clashes(slot, other) {
+                return false;
+            }
+            j += 1;
         }
         i += 1;
     }

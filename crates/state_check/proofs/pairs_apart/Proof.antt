@@ -1,64 +1,149 @@
--- `state_check::pairs_apart` meets its contract. The loop's invariant: the slots passed clash with none behind them.
-use Prim.Native.Nat.{_-_, _≤_}
+-- `state_check::pairs_apart` meets its contract. The outer loop's invariant: the slots passed clash with none behind them; the inner one's:
+-- the slot clashes with none passed.
+use Prim.Native.Nat.{ℕ, _+_, _-_, _≤_, _<_}
 use borrow.Author.Needs.{needs}
-use borrow.Author.Tests.{not-true, not-false}
-use lib.ListN.{length, drop}
-use mathlib.Core.Path.{_≡_, sym, _∙_}
+use lib.ListN.{length, getD, drop}
+use mathlib.Core.Bool.{Bool, true, false}
+use mathlib.Core.List.{List}
+use mathlib.Core.Logic.{⊎-elim}
+use mathlib.Core.Path.{_≡_, refl, sym, ap, _∙_}
 use native.Mathlib.Omega.{arith}
+use Rattle.laws.specs.Choose.{pick}
+use Rattle.laws.proofs.Choosing.{pick-false, pick-true, tested}
 use Rattle.laws.proofs.Listing.{length-mapped}
-use Rattle.peer.specs.State.{pairsApart}
-use Rattle.peer.proofs.SlotTurns.{pairs-end, pairs-turn}
+use Rattle.peer.specs.State.{freeSlot, isFree, noneClash, pairsApart, phaseAt, slotCount}
+use Rattle.peer.specs.declared.types.Phase.{Phase}
+use Rattle.peer.specs.declared.types.Slot.{Slot}
+use Rattle.peer.proofs.SlotTurns.{free-apart, none-end, none-turn, pairs-end, pairs-turn}
 use Rattle.state_check.proofs.pairs_apart.Statement.{statement}
 use Rattle.state_check.proofs.pairs_apart.Tie as tie
 
+abbrev Inv-loop2 : tie.InvT-loop2
+Inv-loop2 peer i slot j₀ j =
+    (j ≤ slotCount)
+    × (slot ≡ getD (peer .slots) i freeSlot)
+    × (noneClash (slot .phase) (drop (i + 1) (peer .slots)) ≡ noneClash (slot .phase) (drop j (peer .slots)))
+
+abbrev μ-loop2 : tie.MeasureT-loop2
+μ-loop2 peer i slot j₀ j = slotCount - j
+
 abbrev Inv-loop : tie.InvT-loop
-Inv-loop self i₀ i = (i ≤ 8) × (pairsApart (self .slots) ≡ pairsApart (drop i (self .slots)))
+Inv-loop peer i₀ i = (i ≤ slotCount) × (pairsApart (peer .slots) ≡ pairsApart (drop i (peer .slots)))
 
 abbrev μ-loop : tie.MeasureT-loop
-μ-loop self i₀ i = 8 - i
+μ-loop peer i₀ i = slotCount - i
 
-loop-holds : tie.Need-loop-holds Inv-loop μ-loop
+-- the slots that a slot need not be held against clash with it nowhere
+from-there : (f : Phase) (ss : List Slot) (i : ℕ) → length ss ≡ slotCount → noneClash f (drop (i + 1) ss) ≡ noneClash f (drop (pick (isFree f) slotCount (i + 1)) ss)
+from-there f ss i len =
+    ⊎-elim
+    (λ e. free-apart f _ e ∙ sym (ap (λ (n : ℕ). noneClash f (drop n ss)) (pick-true slotCount (i + 1) e) ∙ none-end ss slotCount (omega arith) f))
+    (λ e. sym (ap (λ (n : ℕ). noneClash f (drop n ss)) (pick-false slotCount (i + 1) e)))
+    (tested (isFree f))
+
+there : (t : Bool) (i : ℕ) → i < slotCount → pick t slotCount (i + 1) ≤ slotCount
+there t i h = ⊎-elim (λ e. rw (pick-true slotCount (i + 1) e) (omega arith)) (λ e. rw (pick-false slotCount (i + 1) e) (omega arith)) (tested t)
+
+loop-holds : tie.Need-loop-holds Inv-loop2 μ-loop2 Inv-loop μ-loop
 loop-holds c = search needs
 
-is-apart-requires : tie.Need-is-apart-requires Inv-loop μ-loop
-is-apart-requires c κs = search needs
+mul-slot : tie.Need-mul-slot Inv-loop2 μ-loop2 Inv-loop μ-loop
+mul-slot c = search needs
 
-returns : tie.Need-returns Inv-loop μ-loop
-returns c =
+element-copy-out-slot : tie.Need-element-copy-out-slot Inv-loop2 μ-loop2 Inv-loop μ-loop
+element-copy-out-slot c = search needs
+
+first-other-requires : tie.Need-first-other-requires Inv-loop2 μ-loop2 Inv-loop μ-loop
+first-other-requires c κs = search needs
+
+loop2-holds : tie.Need-loop2-holds Inv-loop2 μ-loop2 Inv-loop μ-loop
+loop2-holds c =
     let l = c .before .before .before in
-    let ss = l .before .args .peer .slots in
-    let len : length ss ≡ 8 = search length-mapped in
-    rw (l .loop .inv .1, pairs-turn ss (l .loop .i) (omega (arith, len)), ← c .before .is-apart .ensures, not-true (c .before .is-apart .result) (c .if1 .taken))
+    let ss = l .before .args .t1 .slots in
+    let len : length ss ≡ slotCount = search length-mapped in
+    let r = c .first-other .ensures in
+    (rw r (there _ (l .loop .i) (omega arith)), refl, rw r (from-there (phaseAt ss (l .loop .i)) ss (l .loop .i) len))
 
-add-i : tie.Need-add-i Inv-loop μ-loop
+mul-other : tie.Need-mul-other Inv-loop2 μ-loop2 Inv-loop μ-loop
+mul-other c = search needs
+
+element-copy-out-other : tie.Need-element-copy-out-other Inv-loop2 μ-loop2 Inv-loop μ-loop
+element-copy-out-other c = search needs
+
+clashes-requires : tie.Need-clashes-requires Inv-loop2 μ-loop2 Inv-loop μ-loop
+clashes-requires c κs = search needs
+
+returns : tie.Need-returns Inv-loop2 μ-loop2 Inv-loop μ-loop
+returns c =
+    let m = c .before .before .before .before in
+    let l = m .before .before .before .before in
+    let ss = l .before .args .t1 .slots in
+    let i = l .loop .i in
+    let len : length ss ≡ slotCount = search length-mapped in
+    let none : noneClash (phaseAt ss i) (drop (i + 1) ss) ≡ false =
+    m .loop2 .inv .2 ∙ rw (none-turn ss (m .loop2 .j) (omega (arith, len)) (phaseAt ss i), ← c .before .clashes .ensures, c .if1 .taken) in
+    rw (l .loop .inv .1, pairs-turn ss i (omega (arith, len)), none)
+
+add-j : tie.Need-add-j Inv-loop2 μ-loop2 Inv-loop μ-loop
+add-j c = search needs
+
+loop2-less : tie.Need-loop2-less Inv-loop2 μ-loop2 Inv-loop μ-loop
+loop2-less c = search needs
+
+loop2-again : tie.Need-loop2-again Inv-loop2 μ-loop2 Inv-loop μ-loop
+loop2-again c =
+    let m = c .before .before .before .before in
+    let l = m .before .before .before .before in
+    let ss = l .before .args .t1 .slots in
+    let i = l .loop .i in
+    let len : length ss ≡ slotCount = search length-mapped in
+    let on : noneClash (phaseAt ss i) (drop (i + 1) ss) ≡ noneClash (phaseAt ss i) (drop (m .loop2 .j + 1) ss) =
+    m .loop2 .inv .2 ∙ rw (none-turn ss (m .loop2 .j) (omega (arith, len)) (phaseAt ss i), ← c .before .clashes .ensures, c .if1 .left) in
+    (omega arith, refl, on)
+
+add-i : tie.Need-add-i Inv-loop2 μ-loop2 Inv-loop μ-loop
 add-i c = search needs
 
-loop-less : tie.Need-loop-less Inv-loop μ-loop
+loop-less : tie.Need-loop-less Inv-loop2 μ-loop2 Inv-loop μ-loop
 loop-less c = search needs
 
-loop-again : tie.Need-loop-again Inv-loop μ-loop
+loop-again : tie.Need-loop-again Inv-loop2 μ-loop2 Inv-loop μ-loop
 loop-again c =
-    let l = c .before .before .before in
-    let ss = l .before .args .peer .slots in
-    let len : length ss ≡ 8 = search length-mapped in
-    (omega arith, rw (l .loop .inv .1, pairs-turn ss (l .loop .i) (omega (arith, len)), ← c .before .is-apart .ensures, not-false (c .before .is-apart .result) (c .if1 .left)))
+    let m = c .before in
+    let l = m .before .before .before .before in
+    let ss = l .before .args .t1 .slots in
+    let i = l .loop .i in
+    let len : length ss ≡ slotCount = search length-mapped in
+    let none : noneClash (phaseAt ss i) (drop (i + 1) ss) ≡ true = m .loop2 .inv .2 ∙ none-end ss (m .loop2 .j) (omega (arith, len)) (phaseAt ss i) in
+    (omega arith, rw (l .loop .inv .1, pairs-turn ss i (omega (arith, len)), none))
 
-returns-2 : tie.Need-returns-2 Inv-loop μ-loop
+returns-2 : tie.Need-returns-2 Inv-loop2 μ-loop2 Inv-loop μ-loop
 returns-2 c =
     let l = c .before in
-    let ss = l .before .args .peer .slots in
-    let len : length ss ≡ 8 = search length-mapped in
+    let ss = l .before .args .t1 .slots in
+    let len : length ss ≡ slotCount = search length-mapped in
     sym (l .loop .inv .1 ∙ pairs-end ss (l .loop .i) (omega (arith, len)))
 
 pub pairs-apart-spec : {M : Type 1} → statement M
 pairs-apart-spec =
     tie.close
     (tie.spec
+    Inv-loop2
+    μ-loop2
     Inv-loop
     μ-loop
     loop-holds
-    is-apart-requires
+    mul-slot
+    element-copy-out-slot
+    first-other-requires
+    loop2-holds
+    mul-other
+    element-copy-out-other
+    clashes-requires
     returns
+    add-j
+    loop2-less
+    loop2-again
     add-i
     loop-less
     loop-again
