@@ -10,7 +10,7 @@ ghost use mathlib.Core.Path.{_≡_};
 ghost use Prim.Native.Nat.{_<_};
 ghost use Rattle.laws.specs.Choose.{pick};
 ghost use Rattle.protocol.specs.Flags.{hasFlag, flagsFit, rawAddressFlag, cqDataFlag, connidFlag};
-ghost use Rattle.protocol.specs.Optional.{cq-data, flagged, flagsOf, hasConnid, hasCqData, raw-address};
+ghost use Rattle.protocol.specs.Optional.{cq-data, flagged, flagsOf, hasConnid, hasCqData, optionsFit, raw-address};
 ghost use Rattle.protocol.specs.Rules.{Sound};
 
 // Whether a flag is set.
@@ -40,6 +40,25 @@ pub(crate) fn fit(row: TypeRow, flags: u16) -> bool
 {
     let optional = flags & row.may;
     flags - optional == row.must
+}
+
+// Whether a packet of this type may have the optional headers of this header: every type may have
+// a connid, and a request the others too.
+pub(crate) fn options_fit(row: TypeRow, header: Header) -> bool
+    requires { ⌜ Sound row ⌝ }
+    ensures { λ r. ⌜ r ≡ optionsFit row header ⌝ }
+{
+    if row.request {
+        return true;
+    }
+    if header.raw_address {
+        return false;
+    }
+    let cq_data = header.cq_data;
+    match cq_data {
+        CqData::Absent => true,
+        CqData::Present(_) => false,
+    }
 }
 
 fn raw_address_bit(there: bool) -> u16

@@ -23,8 +23,7 @@ ghost use mathlib.Core.Bool.{true};
 ghost use Prim.Native.Nat.{_≤_};
 ghost use lib.ListN.{length};
 ghost use Rattle.laws.specs.Parts.{storeAt};
-ghost use Rattle.protocol.specs.Flags.{flagsFit};
-ghost use Rattle.protocol.specs.Optional.{flagsOf};
+ghost use Rattle.protocol.specs.Optional.{flagsOf, optionsFit};
 ghost use Rattle.protocol.specs.SectionsInTurn.{headLength};
 ghost use Rattle.protocol.specs.Writing.{baseBytes, mandatoryBytes, packetBytes, writeAs, writeOf};
 ghost use Rattle.protocol.specs.Totals.{limitedTo, totalOf};
@@ -98,7 +97,7 @@ fn put_mandatory(out: &mut [u8], row: TypeRow, header: Header, flags: u16)
 fn put(out: &mut [u8], row: TypeRow, header: Header, flags: u16, raw: &[u8], data: &[u8])
     requires { ⌜ Sound row ⌝ }
     requires { ⌜ flags ≡ flagsOf row header ⌝ }
-    requires { ⌜ flagsFit row (flagsOf row header) ≡ true ⌝ }
+    requires { ⌜ optionsFit row header ≡ true ⌝ }
     requires { ⌜ length (packetBytes row header (now raw) (now «data»)) ≤ 8192 ⌝ }
     requires { ⌜ length (packetBytes row header (now raw) (now «data»)) ≤ length (now out) ⌝ }
     ensures { λ _. ⌜ now (out .exit) ≡ storeAt (now (out .entry)) 0 (packetBytes row header (now (raw .entry)) (now («data» .entry))) ⌝ }
@@ -118,8 +117,7 @@ fn typed(row: TypeRow, header: Header, raw: &[u8], data: &[u8], out: &mut [u8]) 
     requires { ⌜ Sound row ⌝ }
     ensures { λ r. ⌜ record { answer = r; out = now (out .exit) } ≡ writeAs row header (now (raw .entry)) (now («data» .entry)) (now (out .entry)) ⌝ }
 {
-    let flags = flags::written(row, header);
-    if !flags::fit(row, flags) {
+    if !flags::options_fit(row, header) {
         return refused(BAD_FLAGS);
     }
     let shape = row.shape;
@@ -127,6 +125,7 @@ fn typed(row: TypeRow, header: Header, raw: &[u8], data: &[u8], out: &mut [u8]) 
     if !lengths::fit(shape, fields, data.len()) {
         return refused(BAD_LENGTH);
     }
+    let flags = flags::written(row, header);
     match total(row, flags, raw.len(), data.len()) {
         Length::Above => refused(ABOVE_LIMIT),
         Length::Bytes(n) => {

@@ -14,6 +14,7 @@ use Rattle.protocol.specs.Checks.{gives, refused}
 use Rattle.protocol.specs.FieldNumbers.{numberIn}
 use Rattle.protocol.specs.InWords.{ReadTellsItsBytes}
 use Rattle.protocol.specs.Layout.{Field, width}
+use Rattle.protocol.specs.Optional.{optionsFit}
 use Rattle.protocol.specs.Options.{connidOrZero}
 use Rattle.protocol.specs.RoundTrip.{Numbers, cqDataOrZero}
 use Rattle.protocol.specs.Says.{writtenSays}
@@ -44,8 +45,8 @@ use Rattle.packet_words.specs.Order.{fewWords, wrongNumbers, wrongOption
 use Rattle.packet_words.specs.ReaderInWords.{ReadsIntoWords}
 use Rattle.packet_words.specs.RoundTrip.{ReadsWordsWritten, WritesWordsRead}
 use Rattle.packet_words.specs.Says.{ownFields, putSays, wordsSay}
-use Rattle.packet_words.specs.Writing.{connidFits, connidNumber, connidWord, cqDataWord, fieldsFit, fieldsIn, headerIn, numberOf, optionsFit, putAs, rawAddressWord, typeWord, writeFrom, writeTyped}
-use Rattle.packet_words.proofs.OrderHolds.{flags-said, given, held, numbers-held, put, row-said}
+use Rattle.packet_words.specs.Writing.{connidFits, connidNumber, connidWord, cqDataWord, fieldsFit, fieldsIn, headerIn, numberOf, putAs, rawAddressWord, typeWord, writeFrom, writeTyped}
+use Rattle.packet_words.proofs.OrderHolds.{given, held, numbers-held, put, row-said}
 use Rattle.packet_words.proofs.Rows.{row-small}
 use Rattle.packet_words.proofs.WordsTold.{own-numbers, reads-into-words, same-values}
 
@@ -115,7 +116,7 @@ numbers-said v words =
 -- ---- words that pass their checks are left to the packet writer
 
 module _ (v raw body out : List ℕ) (size : ℕ) where
-  passed-on : (r : TypeRow) → 19 ≤ length v → rowOf (typeWord v) ≡ Row r → optionsFit r v ≡ true → held v ≡ true
+  passed-on : (r : TypeRow) → 19 ≤ length v → rowOf (typeWord v) ≡ Row r → optionsFit r (headerIn v) ≡ true → held v ≡ true
       → writeFrom v raw body out size ≡ put v raw body out size (writeOf (headerIn v) raw body out)
   unfolding writeFrom writeTyped pick
   passed-on r long row options fit = rw (le-leb 19 (length v) long, row, options, numbers-held v r row ∙ fit)
@@ -126,7 +127,7 @@ module _ (v raw body out : List ℕ) (size : ℕ) where
       → writeOf (headerIn v) raw body out .out ≡ left
       → writeOf (headerIn v) raw body out .answer ≡ Written.Length n
       → writeFrom v raw body out size ≡ record { refusal = 0; out = left; size = n }
-  written-on r w long small fit left n o a = passed-on r long row (flags-said v r row ∙ w .flags) fit ∙ ap₂ (putAs size) o a
+  written-on r w long small fit left n o a = passed-on r long row (w .options) fit ∙ ap₂ (putAs size) o a
     where
       row : rowOf (typeWord v) ≡ Row r
       row = ap rowOf (sym (mod-eq-of-lt small)) ∙ w .row
@@ -154,7 +155,7 @@ reads-words-written v raw body out values size n words enough z =
     let h = headerIn v in
     let pass = given v raw body out size n z in
     let (r, row) = row-out _ (pass wrongType) in
-    let options = not-false _ (sym (row-at _ r (λ q. not (optionsFit q v)) row) ∙ pass wrongOption) in
+    let options = not-false _ (sym (row-at _ r (λ q. not (optionsFit q (headerIn v))) row) ∙ pass wrongOption) in
     let fit = not-false _ (or-left (not (held v)) _ (pass wrongNumbers)) in
     let long = ltb-false (length v) 19 (pass fewWords) in
     let on = passed-on v raw body out size r long row options fit in

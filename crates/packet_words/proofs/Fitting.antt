@@ -1,19 +1,22 @@
--- Which words the code looks at to see whether the own fields of a type hold their numbers: a field of 64 bits holds every word.
+-- Which words the code looks at: to see whether a type may have the optional headers, and whether its own fields hold their numbers, of which a
+-- field of 64 bits holds every word.
 use Prim.Native.Nat.{ℕ, _/_, _%_, _^_, _<_}
 use borrow.Author.Tests.{eq-eqb, eqb-false, lt-ltb, ne-eqb}
 use lib.Dec.{eqb, lit<, ltb}
 use lib.ListN.{getD}
-use mathlib.Core.Bool.{Bool, true, false, _&&_, false≢true, or-true}
+use mathlib.Core.Bool.{Bool, true, false, not, _&&_, _||_, false≢true, or-true}
 use mathlib.Core.List.{List, [], _∷_}
 use mathlib.Core.Logic.{⊎-elim}
 use mathlib.Core.Path.{_≡_, refl, sym, _∙_}
 use native.Mathlib.Omega.{arith}
 use Rattle.laws.specs.Choose.{pick}
 use Rattle.protocol.specs.Layout.{Field, credit-request, has, isOwn, layout, msg-id, msg-length, multiuse, ordinal, ownFields, padding, placeOf, recv-id, recv-length, sameField, seg-length, seg-offset, select, send-id, tag, width}
+use Rattle.protocol.specs.Optional.{hasCqData, optionsFit}
 use Rattle.protocol.specs.Rules.{Sound}
 use Rattle.protocol.specs.declared.table.TypeRow.{TypeRow}
-use Rattle.packet_words.specs.Writing.{fieldsFit, holds, numberOf}
+use Rattle.packet_words.specs.Writing.{cqDataWord, cqIn, fieldsFit, headerIn, holds, numberOf, rawAddressWord}
 use Rattle.laws.proofs.Choosing.{and-intro, and-left, and-right, pick-false, pick-true, tested}
+use Rattle.protocol.proofs.FlagLaws.{options-tested}
 use Rattle.protocol.proofs.LayoutLaws.{has-place, place-has, same-field}
 
 -- tests that pass together
@@ -21,6 +24,18 @@ same-test : (a b : Bool) → (a ≡ true → b ≡ true) → (b ≡ true → a �
 same-test true b p q = sym (p refl)
 same-test false true p q = q refl
 same-test false false p q = refl
+
+-- CQ data are there where their word is not 0
+pub cq-said : (v : List ℕ) → hasCqData (cqIn v) ≡ not (eqb (cqDataWord v) 0)
+unfolding pick
+cq-said v = ⊎-elim (λ x. rw x) (λ x. rw x) (tested (eqb (cqDataWord v) 0))
+
+not-not : (t : Bool) → not (not t) ≡ t
+not-not true = refl
+not-not false = refl
+
+pub options-said : (v : List ℕ) (r : TypeRow) → Sound r → optionsFit r (headerIn v) ≡ (r .request || (eqb (rawAddressWord v) 0 && eqb (cqDataWord v) 0))
+options-said v r s = rw (options-tested r (headerIn v) s, cq-said v, not-not (eqb (rawAddressWord v) 0), not-not (eqb (cqDataWord v) 0))
 
 module _ (v : List ℕ) where
   abbrev fits : Field → Bool

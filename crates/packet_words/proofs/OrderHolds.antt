@@ -11,10 +11,9 @@ use native.Mathlib.Nat.{mod-eq-of-lt}
 use native.Mathlib.Omega.{arith}
 use Rattle.laws.specs.Choose.{pick}
 use Rattle.laws.specs.Parts.{storeAt}
-use Rattle.protocol.specs.ByType.{CtsOrData, Known, LengthRule}
+use Rattle.protocol.specs.ByType.{Known, LengthRule}
 use Rattle.protocol.specs.Checks.{Result, gives, refused}
-use Rattle.protocol.specs.Flags.{flagsFit}
-use Rattle.protocol.specs.Optional.{flagsOf}
+use Rattle.protocol.specs.Optional.{optionsFit}
 use Rattle.protocol.specs.InWords.{TypesAreTheTables}
 use Rattle.protocol.specs.Layout.{Field, width}
 use Rattle.protocol.specs.Lengths.{lengthsFit}
@@ -28,15 +27,16 @@ use Rattle.protocol.specs.declared.table.TypeRow.{TypeRow}
 use Rattle.protocol.specs.declared.types.Header.{Header}
 use Rattle.packet_words.specs.Order.{Check, Fails, RefusedByFirstToFail, RefusedWriteChangesNothing, TooLarge, WrittenIfNoneFails, checkAt, fewWords, fieldsSaid, noRoom, overLimit, packetLength, refusedAs, writerChecks, wrongNumbers, wrongOption, wrongType}
 use Rattle.packet_words.specs.Says.{ownFields, putSays}
-use Rattle.packet_words.specs.Writing.{Put, connidFits, connidNumber, connidWord, cqDataWord, fieldsFit, fieldsIn, headerIn, numberOf, numbersFit, optionsFit, putAs, rawAddressWord, refusedPut, typeWord, writeFrom, writeTyped}
+use Rattle.packet_words.specs.Writing.{Put, connidFits, connidNumber, connidWord, cqDataWord, fieldsFit, fieldsIn, headerIn, numberOf, numbersFit, putAs, rawAddressWord, refusedPut, typeWord, writeFrom, writeTyped}
 use Rattle.laws.proofs.Choosing.{and-left, and-right, clashing, or-cases, or-left, or-right, pick-ap, pick-cases, pick-false, pick-true, tested}
 use Rattle.laws.proofs.Comparing.{beyond, not-beyond}
 use Rattle.protocol.proofs.FirstFailing.{FirstIn, all-pass, first-or-none, given-if-none, judged, judged-ap, none-of, of-first, refused-by-first}
 use Rattle.protocol.proofs.FoundRow.{is-unknown, isUnknown, ofRow, pick-not, row-in, row-out}
 use Rattle.protocol.proofs.TypeWords.{lengths-in-words, unknown-lengths, unknown-type}
 use Rattle.protocol.proofs.WordsHold.{types-are-the-tables}
-use Rattle.protocol.proofs.WriterHolds.{bytesAs, refusing, write-failing, write-judged, written}
-use Rattle.packet_words.proofs.Rows.{flags-allowed, options-by-type, own-fields, ownOf, row-small}
+use Rattle.protocol.proofs.WriterHolds.{bytesAs, options-refused, options-taken, refusing, write-failing, write-judged, written}
+use Rattle.packet_words.proofs.Fitting.{cq-said}
+use Rattle.packet_words.proofs.Rows.{own-fields, ownOf, row-small}
 
 -- a conjunction that fails fails in a part
 and-cases : (a b : Bool) → (a && b) ≡ false → (a ≡ false) ⊎ (b ≡ false)
@@ -97,34 +97,21 @@ module _ (v : List ℕ) where
 
     -- ---- optional headers
 
-    pub flags-said : optionsFit r v ≡ flagsFit r (flagsOf r (headerIn v))
-    unfolding optionsFit flagsOf
-    flags-said = flags-allowed (eqb (rawAddressWord v) 0) (eqb (cqDataWord v) 0) (eqb (connidWord v) 0) _ _ _ r e
-
     abbrev Misplaced : Type 0
     Misplaced = Fails v [] [] [] wrongOption
 
-    options-by-words : (CtsOrData (typeWord v) × (optionsFit r v ≡ (eqb (rawAddressWord v) 0 && eqb (cqDataWord v) 0)))
-        ⊎ ((CtsOrData (typeWord v) → ⊥) × (optionsFit r v ≡ true))
-    unfolding optionsFit
-    options-by-words = options-by-type (eqb (rawAddressWord v) 0) (eqb (cqDataWord v) 0) (eqb (connidWord v) 0) _ r e
-
-    options-out : optionsFit r v ≡ false → Misplaced
+    options-out : optionsFit r (headerIn v) ≡ false → Misplaced
     options-out x =
-        ⊎-elim
-        (λ w. (
-          w .0,
-          ⊎-elim (λ z. inl (eqb-false _ _ z)) (λ z. inr (eqb-false _ _ z))
-              (and-cases (eqb (rawAddressWord v) 0) (eqb (cqDataWord v) 0) (sym (w .1) ∙ x)),
-        ))
-        (λ w. clashing _ (w .1) x) options-by-words
+        let (c, n) = options-refused (headerIn v) (typeWord v) r e x in (
+          c,
+          ⊎-elim (λ y. ⊎-elim (λ z. absurd (n (rw y, cq-said v ∙ rw z))) (λ z. inr (eqb-false _ _ z)) (tested (eqb (cqDataWord v) 0))) (λ y. inl (eqb-false _ _ y))
+              (tested (eqb (rawAddressWord v) 0)),
+        )
 
-    options-in : optionsFit r v ≡ true → Misplaced → ⊥
-    options-in x (y, there) = ⊎-elim (λ w. none (sym (w .1) ∙ x)) (λ w. w .0 y) options-by-words
-      where
-        none : (eqb (rawAddressWord v) 0 && eqb (cqDataWord v) 0) ≡ true → ⊥
-        none z =
-            ⊎-elim (λ n. n (eqb-true _ _ (and-left _ (eqb (cqDataWord v) 0) z))) (λ n. n (eqb-true _ _ (and-right (eqb (rawAddressWord v) 0) _ z))) there
+    options-in : optionsFit r (headerIn v) ≡ true → Misplaced → ⊥
+    options-in x (y, there) =
+        let (a, b) = options-taken (headerIn v) (typeWord v) r e x y in
+        ⊎-elim (λ n. n (eqb-true _ _ (not-false _ a))) (λ n. n (eqb-true _ _ (not-false _ (sym (cq-said v) ∙ b)))) there
 
     -- ---- the packet's length
 
@@ -169,7 +156,7 @@ module _ (v raw body out : List ℕ) (size : ℕ) where
   abbrev failsAs : Found → Check → Bool
   failsAs o fewWords = ltb (length v) 19
   failsAs o wrongType = isUnknown o
-  failsAs o wrongOption = ofRow o (λ r. not (optionsFit r v))
+  failsAs o wrongOption = ofRow o (λ r. not (optionsFit r (headerIn v)))
   failsAs o wrongNumbers = not (held v) || broken o
   failsAs o overLimit = ltb 8192 n
   failsAs o noRoom = ltb (length out) n
@@ -188,7 +175,7 @@ module _ (v raw body out : List ℕ) (size : ℕ) where
   put o = putAs size (o .out) (o .answer)
 
   -- the packet writer's checks on lengths and room are the last
-  passed-on : (r : TypeRow) → rowOf k ≡ Row r → optionsFit r v ≡ true
+  passed-on : (r : TypeRow) → rowOf k ≡ Row r → optionsFit r (headerIn v) ≡ true
       → put (writeOf (headerIn v) raw body out)
       ≡ pick (broken (Row r)) (refuse wrongNumbers) (judgedAs (Row r) (overLimit ∷ noRoom ∷ []))
   passed-on r e x =
@@ -196,7 +183,7 @@ module _ (v raw body out : List ℕ) (size : ℕ) where
       ∙ judged-ap put (write-failing h raw body out) (refusing h raw body out) (written h raw body out (rowOf (h .kind))) packet.writerChecks
       ∙ ap₂ (λ (o : Found) (m : ℕ). tests o m) (row-said v r e) (length-said v r e (length raw) (length body))
       ∙ pick-false _ _ refl
-      ∙ pick-false _ _ (ap not (sym (flags-said v r e) ∙ x))
+      ∙ pick-false _ _ (ap not x)
     where
       h : Header
       h = headerIn v
@@ -205,7 +192,7 @@ module _ (v raw body out : List ℕ) (size : ℕ) where
       tests : Found → ℕ → Put
       tests o m =
           pick (isUnknown o) (refuse wrongType)
-          (pick (ofRow o (λ q. not (flagsFit q (flagsOf q h)))) (refuse wrongOption)
+          (pick (ofRow o (λ q. not (optionsFit q h))) (refuse wrongOption)
           (pick (broken o) (refuse wrongNumbers)
           (pick (ltb 8192 m) (refuse overLimit)
           (pick (ltb (length out) m) (refuse noRoom) (record { refusal = 0; out = storeAt out 0 (bytesAs h raw body out o); size = m })))))
@@ -213,9 +200,9 @@ module _ (v raw body out : List ℕ) (size : ℕ) where
   row-judged : (r : TypeRow) → rowOf k ≡ Row r
       → writeTyped (Row r) v raw body out size ≡ judgedAs (Row r) (wrongOption ∷ wrongNumbers ∷ overLimit ∷ noRoom ∷ [])
   unfolding writeTyped pick
-  row-judged r e = go (tested (optionsFit r v)) (tested (numbersFit r v))
+  row-judged r e = go (tested (optionsFit r (headerIn v))) (tested (numbersFit r v))
     where
-      go : (optionsFit r v ≡ true) ⊎ (optionsFit r v ≡ false) → (numbersFit r v ≡ true) ⊎ (numbersFit r v ≡ false)
+      go : (optionsFit r (headerIn v) ≡ true) ⊎ (optionsFit r (headerIn v) ≡ false) → (numbersFit r v ≡ true) ⊎ (numbersFit r v ≡ false)
           → writeTyped (Row r) v raw body out size ≡ judgedAs (Row r) (wrongOption ∷ wrongNumbers ∷ overLimit ∷ noRoom ∷ [])
       go (inr x) y = rw x
       go (inl x) (inr y) = rw (x, y, sym (numbers-held v r e) ∙ y)

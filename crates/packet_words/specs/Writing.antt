@@ -15,8 +15,8 @@ use Rattle.protocol.specs.declared.types.CqData.{CqData}
 use Rattle.protocol.specs.declared.types.Fields.{Fields}
 use Rattle.protocol.specs.declared.types.Header.{Header}
 use Rattle.protocol.specs.declared.types.Written.{Written}
-use Rattle.protocol.specs.Flags.{connidFlag, cqDataFlag, hasFlag, rawAddressFlag}
 use Rattle.protocol.specs.Layout.{Field, ownFields, width}
+use Rattle.protocol.specs.Optional.{optionsFit}
 use Rattle.protocol.specs.Types.{rowOf}
 use Rattle.protocol.specs.Writing.{writeOf}
 use Rattle.packet_words.specs.Values.{valueCount}
@@ -91,14 +91,6 @@ headerIn v =
 
 -- ---- the checks on the words' numbers
 
--- "10 (an optional header its type can't have)": where the word says that it is there, its flag is one that the type may have
-abbrev pub mayHave : TypeRow → ℕ → ℕ → Bool
-mayHave r flag word = pick (eqb word 0) true (hasFlag (r .may) flag)
-
-unfoldable pub optionsFit : TypeRow → List ℕ → Bool
-optionsFit r v =
-    mayHave r rawAddressFlag (rawAddressWord v) && (mayHave r cqDataFlag (cqDataWord v) && mayHave r connidFlag (connidWord v))
-
 -- each of these fields can hold its number
 unfoldable pub fieldsFit : List ℕ → List Field → Bool
 fieldsFit v [] = true
@@ -130,11 +122,11 @@ putAs size out (Written.Length n) = record { refusal = 0; out = out; size = n }
 abbrev pub refusedPut : ℕ → List ℕ → ℕ → Put
 refusedPut k out size = record { refusal = k; out = out; size = size }
 
--- 9; then 10; then a number that its field cannot hold, the first cause of 11; then the packet writer's own checks: lengths 11, 6, 21
+-- 9; then 10 (an optional header its type can't have); then a number that its field cannot hold, the first cause of 11; then the packet writer's own checks: lengths 11, 6, 21
 unfoldable pub writeTyped : Found → List ℕ → List ℕ → List ℕ → List ℕ → ℕ → Put
 writeTyped Unknown v raw body out size = refusedPut (badType .number) out size
 writeTyped (Row r) v raw body out size =
-    pick (optionsFit r v)
+    pick (optionsFit r (headerIn v))
     (pick (numbersFit r v)
     (putAs size (writeOf (headerIn v) raw body out .out) (writeOf (headerIn v) raw body out .answer))
     (refusedPut (badLength .number) out size))

@@ -5,8 +5,6 @@ use crate::types::BAD_TYPE;
 use crate::types::FEW_WORDS;
 use crate::types::TAKEN;
 use crate::types::VALUES;
-use protocol::CONNID;
-use protocol::CQ_DATA;
 use protocol::CREDIT_REQUEST;
 use protocol::Connid;
 use protocol::CqData;
@@ -14,44 +12,32 @@ use protocol::Fields;
 use protocol::Found;
 use protocol::Header;
 use protocol::MSG_ID;
-use protocol::RAW_ADDRESS;
 use protocol::RECV_ID;
 use protocol::SEND_ID;
 use protocol::TypeRow;
 use protocol::Written;
 ghost use mathlib.Core.Path.{_≡_};
-ghost use Prim.Native.Nat.{_<_, _≤_};
+ghost use Prim.Native.Nat.{_≤_};
 ghost use lib.ListN.{length};
 ghost use Rattle.protocol.specs.Layout.{ownFields};
+ghost use Rattle.protocol.specs.Optional.{optionsFit};
 ghost use Rattle.protocol.specs.Rules.{Sound};
-ghost use Rattle.packet_words.specs.Writing.{mayHave, optionsFit, fieldsFit, holds, numbersFit, fieldsIn, cqIn, connidIn, headerIn, writeTyped, writeFrom};
+ghost use Rattle.packet_words.specs.Writing.{fieldsFit, holds, numbersFit, fieldsIn, cqIn, connidIn, headerIn, writeTyped, writeFrom};
 
 // The least number that 32 bits do not hold.
 const WIDE: u64 = 0x1_0000_0000;
 
-// Whether a packet of this type may have the optional header with this flag, if the word says that
-// it is there.
-fn may_have(row: TypeRow, flag: u16, word: u64) -> bool
-    requires { ⌜ 0 < flag ⌝ }
-    ensures { λ r. ⌜ r ≡ mayHave row flag word ⌝ }
+// Whether a packet of this type may have the optional headers that the words say: every type may
+// have a connid, and a request the others too.
+fn options_fit(row: TypeRow, values: &[u64]) -> bool
+    requires { ⌜ Sound row ⌝ }
+    requires { ⌜ 19 ≤ length (now values) ⌝ }
+    ensures { λ r. ⌜ r ≡ optionsFit row (headerIn (now (values .entry))) ⌝ }
 {
-    if word == 0 {
+    if row.request {
         return true;
     }
-    row.may / flag % 2 == 1
-}
-
-fn options_fit(row: TypeRow, values: &[u64]) -> bool
-    requires { ⌜ 19 ≤ length (now values) ⌝ }
-    ensures { λ r. ⌜ r ≡ optionsFit row (now (values .entry)) ⌝ }
-{
-    if !may_have(row, RAW_ADDRESS, values[10]) {
-        return false;
-    }
-    if !may_have(row, CQ_DATA, values[13]) {
-        return false;
-    }
-    may_have(row, CONNID, values[15])
+    values[10] == 0 && values[13] == 0
 }
 
 // Whether 32 bits hold a number, if it is there.

@@ -11,7 +11,7 @@ use Rattle.laws.specs.Parts.{storeAt}
 use Rattle.protocol.specs.ByType.{fieldsTold}
 use Rattle.protocol.specs.FieldNumbers.{fieldsIn}
 use Rattle.protocol.specs.Flags.{flagsFit}
-use Rattle.protocol.specs.Optional.{flagsOf}
+use Rattle.protocol.specs.Optional.{optionsFit}
 use Rattle.protocol.specs.InWords.{Check, checkAt, headIn, headerCut, noBase, overLimit, readerChecks, refusedAs, wrongFlags, wrongLengths, wrongType, wrongVersion}
 use Rattle.protocol.specs.Layout.{layout}
 use Rattle.protocol.specs.Lengths.{lengthsFit}
@@ -122,7 +122,7 @@ as-read limit bs p e = accepted (of-row true (rowOf k) _ (row-out _ (pass wrongT
 -- a packet of the type r is written
 pub record WrittenAs (h : Header) (raw body out : List ℕ) (r : TypeRow) : Type 0 where
   pub row : rowOf (h .kind) ≡ Row r
-  pub flags : flagsFit r (flagsOf r h) ≡ true
+  pub options : optionsFit r h ≡ true
   pub lengths : lengthsFit (r .shape) (h .fields) (length body) ≡ true
   pub allowed : length (packetBytes r h raw body) ≤ 8192
   pub room : length (packetBytes r h raw body) ≤ length out
@@ -138,11 +138,11 @@ write-as h raw body out r a =
     ∙ ap (λ (m : ℕ). record { answer = Written.Length m; out = storeAt out 0 (packetBytes r h raw body) }) (sym size)
   where
     size : length (packetBytes r h raw body) ≡ packetLength h (length raw) (length body)
-    size = length-in-words h raw body r (a .row) (a .flags)
+    size = length-in-words h raw body r (a .row) (a .options)
 
     pass : (c : WriterCheck) → write-failing h raw body out c ≡ false
     pass noType = ap isUnknown (a .row)
-    pass misplacedHeader = row-at _ r (λ q. not (flagsFit q (flagsOf q h))) (a .row) ∙ ap not (a .flags)
+    pass misplacedHeader = row-at _ r (λ q. not (optionsFit q h)) (a .row) ∙ ap not (a .options)
     pass brokenLengths = row-at _ r (λ q. not (lengthsFit (q .shape) (h .fields) (length body))) (a .row) ∙ ap not (a .lengths)
     pass overLongest = le-ltb 8192 (packetLength h (length raw) (length body)) (omega (arith, size, a .allowed))
     pass shortBuffer = le-ltb (length out) (packetLength h (length raw) (length body)) (omega (arith, size, a .room))
@@ -177,13 +177,13 @@ as-written h raw body out n e = accepted (row-out _ (pass noType))
 
     accepted : (r : TypeRow) × (rowOf (h .kind) ≡ Row r) → (r : TypeRow) × WrittenAs h raw body out r × (n ≡ length (packetBytes r h raw body))
     accepted (r, x) =
-        let fits = not-false _ (sym (row-at _ r (λ q. not (flagsFit q (flagsOf q h))) x) ∙ pass misplacedHeader) in
+        let fits = not-false _ (sym (row-at _ r (λ q. not (optionsFit q h)) x) ∙ pass misplacedHeader) in
         let size = length-in-words h raw body r x fits in
         let answered : total ≡ n = cc (tests .1) in (
           r,
           record {
             row = x;
-            flags = fits;
+            options = fits;
             lengths = not-false _ (sym (row-at _ r (λ q. not (lengthsFit (q .shape) (h .fields) (length body))) x) ∙ pass brokenLengths);
             allowed = omega (arith, size, ltb-false 8192 (total) (pass overLongest));
             room = omega (arith, size, ltb-false (length out) (total) (pass shortBuffer));

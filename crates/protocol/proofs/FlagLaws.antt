@@ -1,21 +1,22 @@
 -- Flags as bits: those of a written packet are its optional headers', and flags that fit a type are those it must have and these bits.
 use Prim.Native.Nat.{ℕ, zero, suc, _+_, _-_, _*_, _/_, _%_, _^_, _≤_, _<_}
-use borrow.Author.Tests.{eqb-true, eq-eqb, ne-eqb}
+use borrow.Author.Tests.{eqb-true, eq-eqb, ne-eqb, not-true}
 use lib.Bits.{bitAnd, and-le-l, and-mask, and-block, and-high}
 use lib.Dec.{eqb, lit<, lit≤}
 use lib.Pow.{split}
-use mathlib.Core.Bool.{Bool, true, false, _&&_}
+use mathlib.Core.Bool.{Bool, true, false, not, _&&_, _||_, or-true}
+use mathlib.Core.List.{List, [], _∷_, _++_}
 use mathlib.Core.Logic.{⊎-elim}
 use mathlib.Core.Path.{_≡_, refl, sym, ap, _∙_}
 use native.Mathlib.Nat.{mod-lt}
 use native.Mathlib.Omega.{arith}
 use Rattle.laws.specs.Choose.{pick}
 use Rattle.protocol.specs.Flags.{flagsFit, hasFlag}
-use Rattle.protocol.specs.Optional.{connid, cq-data, flagged, flagsOf, flagsTaken, hasConnid, hasCqData, raw-address, sectionsOf}
+use Rattle.protocol.specs.Optional.{Section, connid, cq-data, flagged, flagsOf, flagsTaken, hasConnid, hasCqData, isAmong, mayHave, optionsFit, raw-address, sectionsOf}
 use Rattle.protocol.specs.Rules.{Sound}
 use Rattle.protocol.specs.declared.table.TypeRow.{TypeRow}
 use Rattle.protocol.specs.declared.types.Header.{Header}
-use Rattle.laws.proofs.Choosing.{pick-false, pick-true, tested}
+use Rattle.laws.proofs.Choosing.{and-left, and-right, pick-false, pick-true, tested}
 
 abbrev bit : Bool → ℕ
 bit true = 1
@@ -85,11 +86,78 @@ module _ (r : TypeRow) (s : Sound r) where
       let a = sym (and-options (r .must)) ∙ ap (bitAnd (r .must)) (sym (may-request e)) ∙ s .apart in
       omega (arith, a, s .small)
 
--- a request takes every optional header
+-- ---- the optional headers that a type may have
 
-unset : (t : Bool) → bit t ≡ 0 → t ≡ false
-unset true e = absurd (omega arith)
-unset false e = refl
+-- the sections of a row that is a request, or not, and has a connid among them, or not
+abbrev pub listed : Bool → Bool → List Section
+listed q z = pick q (raw-address ∷ cq-data ∷ []) [] ++ pick z [] (connid ∷ [])
+
+-- raw address and CQ data in a request, and a connid always
+raw-listed : (q z : Bool) → (isAmong raw-address (listed q z) || false) ≡ q
+unfolding pick
+raw-listed true z = refl
+raw-listed false true = refl
+raw-listed false false = refl
+
+cq-listed : (q z : Bool) → (isAmong cq-data (listed q z) || false) ≡ q
+unfolding pick
+cq-listed true z = refl
+cq-listed false true = refl
+cq-listed false false = refl
+
+connid-listed : (q z t : Bool) → (z ≡ true → t ≡ true) → (isAmong connid (listed q z) || t) ≡ true
+unfolding pick
+connid-listed true true t x = x refl
+connid-listed true false t x = refl
+connid-listed false true t x = x refl
+connid-listed false false t x = refl
+
+module _ (r : TypeRow) (h : Header) (s : Sound r) where
+  connid-allowed : mayHave r connid ≡ true
+  unfolding mayHave sectionsOf
+  connid-allowed =
+      connid-listed (r .request) (eqb (r .connid) 0) _ (λ z. ⊎-elim (λ m. absurd (omega (arith, m .1, eqb-true (r .connid) 0 z))) (λ m. ap not (ne-eqb _ 0 (m .0))) (s .connidPlace))
+
+  raw-allowed : mayHave r raw-address ≡ r .request
+  unfolding mayHave sectionsOf
+  raw-allowed = raw-listed (r .request) (eqb (r .connid) 0)
+
+  cq-allowed : mayHave r cq-data ≡ r .request
+  unfolding mayHave sectionsOf
+  cq-allowed = cq-listed (r .request) (eqb (r .connid) 0)
+
+  pub options-tested : optionsFit r h ≡ (r .request || (not (h .«raw_address») && not (hasCqData (h .«cq_data»))))
+  unfolding optionsFit
+  options-tested =
+      rw (connid-allowed, raw-allowed, cq-allowed)
+      (go (r .request) (h .«raw_address») (hasCqData (h .«cq_data»)) (hasConnid (h .connid)))
+    where
+      go : (q a b c : Bool) → ((not a || q) && ((not b || q) && ((not c || true) && true))) ≡ (q || (not a && not b))
+      go true true true true = refl
+      go true true true false = refl
+      go true true false true = refl
+      go true true false false = refl
+      go true false true true = refl
+      go true false true false = refl
+      go true false false true = refl
+      go true false false false = refl
+      go false true b c = refl
+      go false false true c = refl
+      go false false false true = refl
+      go false false false false = refl
+
+  pub every-option-fits : r .request ≡ true → optionsFit r h ≡ true
+  every-option-fits q = options-tested ∙ rw q
+
+  pub connid-fits : h .«raw_address» ≡ false → hasCqData (h .«cq_data») ≡ false → optionsFit r h ≡ true
+  connid-fits x y = options-tested ∙ rw (x, y, or-true)
+
+  pub fits-connid : r .request ≡ false → optionsFit r h ≡ true → (h .«raw_address» ≡ false) × (hasCqData (h .«cq_data») ≡ false)
+  fits-connid q t =
+      let both : (not (h .«raw_address») && not (hasCqData (h .«cq_data»))) ≡ true = rw q at (sym options-tested ∙ t) in
+      (not-true _ (and-left _ (not (hasCqData (h .«cq_data»))) both), not-true _ (and-right (not (h .«raw_address»)) _ both))
+
+-- ---- the flags of a packet that is written
 
 past-options : (f m a b c : ℕ) → f ≡ m + a + 2 * b + 32768 * c → m % 4 ≡ 0 → m ≤ 32764 → a ≤ 1 → b ≤ 1 → c ≤ 1
     → f - (f / 32768 % 2 * 32768 + f % 32768 % 4) ≡ m
@@ -101,9 +169,10 @@ past-options f m a b c e z s x y w =
     rw (high, low, two, one) (omega arith)
 
 module _ (r : TypeRow) (h : Header) (s : Sound r) where
-  pub every-option-fits : r .request ≡ true → flagsFit r (flagsOf r h) ≡ true
+  -- a request takes every optional header
+  request-fits : r .request ≡ true → flagsFit r (flagsOf r h) ≡ true
   unfolding flagsFit
-  every-option-fits q =
+  request-fits q =
       let f = flagsOf r h in
       let c : bitAnd f (r .may) ≡ f / 32768 % 2 * 32768 + f % 32768 % 4 = ap (bitAnd f) (may-request r s q) ∙ and-options r s f in
       let (x, y, w) = bits-small h in
@@ -111,26 +180,15 @@ module _ (r : TypeRow) (h : Header) (s : Sound r) where
       eq-eqb _ _ (ap (λ (m : ℕ). f - m) c ∙ over)
 
   -- and any other a connid alone
-  module _ (q : r .request ≡ false) where
-    left-over : flagsOf r h - bitAnd (flagsOf r h) (r .may) ≡ r .must + bit (h .«raw_address») + 2 * bit (hasCqData (h .«cq_data»))
-    left-over =
-        let b = and-high (flagsOf r h) 1 15 in
-        let c : bitAnd (flagsOf r h) (r .may) ≡ bitAnd (flagsOf r h) 0x8000 = ap (bitAnd (flagsOf r h)) (may-other r s q) in
-        let e = flags-as-bits r h in
-        let top : flagsOf r h / 32768 ≡ bit (hasConnid (h .connid)) = omega (arith, e, s .small, bits-small h) in
-        omega (arith, bits-small h)
-
-    pub connid-fits : h .«raw_address» ≡ false → hasCqData (h .«cq_data») ≡ false → flagsFit r (flagsOf r h) ≡ true
-    unfolding flagsFit
-    connid-fits x y =
-        let none : flagsOf r h - bitAnd (flagsOf r h) (r .may) ≡ r .must = omega (arith, left-over, ap bit x, ap bit y) in
-        eq-eqb _ _ none
-
-    pub fits-connid : flagsFit r (flagsOf r h) ≡ true → (h .«raw_address» ≡ false) × (hasCqData (h .«cq_data») ≡ false)
-    unfolding flagsFit
-    fits-connid t =
-        let e : flagsOf r h - bitAnd (flagsOf r h) (r .may) ≡ r .must = eqb-true _ _ t in
-        (unset _ (omega (arith, left-over)), unset _ (omega (arith, left-over)))
+  other-fits : r .request ≡ false → h .«raw_address» ≡ false → hasCqData (h .«cq_data») ≡ false → flagsFit r (flagsOf r h) ≡ true
+  unfolding flagsFit
+  other-fits q x y =
+      let b = and-high (flagsOf r h) 1 15 in
+      let c : bitAnd (flagsOf r h) (r .may) ≡ bitAnd (flagsOf r h) 0x8000 = ap (bitAnd (flagsOf r h)) (may-other r s q) in
+      let e = flags-as-bits r h in
+      let top : flagsOf r h / 32768 ≡ bit (hasConnid (h .connid)) = omega (arith, e, s .small, bits-small h) in
+      let rest : flagsOf r h - bitAnd (flagsOf r h) (r .may) ≡ r .must = omega (arith, bits-small h, ap bit x, ap bit y) in
+      eq-eqb _ _ rest
 
   -- an optional header that is written shows by its flag
 
@@ -140,19 +198,24 @@ module _ (r : TypeRow) (h : Header) (s : Sound r) where
       let b : flagsOf r h / 32768 ≡ bit (hasConnid (h .connid)) = rw flags-as-bits (omega (arith, s .small, bits-small h)) in
       flag-of-bit _ 32768 _ (rw b (omega (arith, bits-small h)))
 
-  module _ (t : flagsFit r (flagsOf r h) ≡ true) where
+  module _ (t : optionsFit r h ≡ true) where
+    -- the reader takes the flags of a packet whose type may have its optional headers
+    pub flags-fit : flagsFit r (flagsOf r h) ≡ true
+    flags-fit =
+        ⊎-elim request-fits (λ q. let (x, y) = fits-connid r h s q t in other-fits q x y) (tested (r .request))
+
     pub raw-address-flag : flagged r (flagsOf r h) raw-address ≡ h .«raw_address»
     unfolding flagged
     raw-address-flag =
         ⊎-elim (λ q. rw q (flag-of-bit _ 1 _ (rw flags-as-bits (omega (arith, must-clear r s q, bits-small h)))))
-        (λ q. rw q (sym (fits-connid q t .0)))
+        (λ q. rw q (sym (fits-connid r h s q t .0)))
         (tested (r .request))
 
     pub cq-data-flag : flagged r (flagsOf r h) cq-data ≡ hasCqData (h .«cq_data»)
     unfolding flagged
     cq-data-flag =
         ⊎-elim (λ q. rw q (flag-of-bit _ 2 _ (rw flags-as-bits (omega (arith, must-clear r s q, bits-small h)))))
-        (λ q. rw q (sym (fits-connid q t .1)))
+        (λ q. rw q (sym (fits-connid r h s q t .1)))
         (tested (r .request))
 
 -- flags that fit the type
@@ -195,3 +258,10 @@ module _ (r : TypeRow) (f : ℕ) (s : Sound r) (t : flagsFit r f ≡ true) where
           let x : h .«raw_address» ≡ false = a ∙ ap (λ (u : Bool). u && hasFlag f 1) q in
           let y : hasCqData (h .«cq_data») ≡ false = b ∙ ap (λ (u : Bool). u && hasFlag f 2) q in
           rw (flags-as-bits, x, y, c, bit-of-flag f 32768) (omega (arith, other-flags q))
+
+  pub options-again : (h : Header) → h .«raw_address» ≡ flagged r f raw-address → hasCqData (h .«cq_data») ≡ flagged r f cq-data → optionsFit r h ≡ true
+  unfolding flagged
+  options-again h a b =
+      ⊎-elim (every-option-fits r h s)
+      (λ q. connid-fits r h s (a ∙ ap (λ (u : Bool). u && hasFlag f 1) q) (b ∙ ap (λ (u : Bool). u && hasFlag f 2) q))
+      (tested (r .request))

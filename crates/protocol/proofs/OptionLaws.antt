@@ -9,8 +9,7 @@ use mathlib.Core.Path.{_≡_, refl}
 use native.Mathlib.Omega.{arith}
 use Rattle.laws.specs.Choose.{pick}
 use Rattle.laws.specs.Parts.{part}
-use Rattle.protocol.specs.Flags.{flagsFit}
-use Rattle.protocol.specs.Optional.{cq-data, flagged, flagsOf, hasConnid, hasCqData, raw-address}
+use Rattle.protocol.specs.Optional.{cq-data, flagged, flagsOf, hasConnid, hasCqData, optionsFit, raw-address}
 use Rattle.protocol.specs.Options.{connidBytes, connidIn, connidOrZero, cqDataBytes, cqDataIn, rawAddressBytes}
 use Rattle.protocol.specs.RoundTrip.{cqDataOrZero}
 use Rattle.protocol.specs.Rules.{Sound}
@@ -45,7 +44,7 @@ length-connid r Connid.Absent = refl
 length-connid r (Connid.Present c) = rw length-le
 
 module _ (r : TypeRow) (h : Header) (s : Sound r) where
-  pub cq-data-length : flagsFit r (flagsOf r h) ≡ true → cqDataLength r (flagsOf r h) ≡ length (cqDataBytes (h .«cq_data»))
+  pub cq-data-length : optionsFit r h ≡ true → cqDataLength r (flagsOf r h) ≡ length (cqDataBytes (h .«cq_data»))
   unfolding cqDataLength
   cq-data-length t = rw (length-cq-data, cq-data-flag r h s t)
 

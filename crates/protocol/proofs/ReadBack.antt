@@ -29,7 +29,7 @@ use Rattle.protocol.specs.declared.types.Header.{Header}
 use Rattle.wire.specs.LittleEndian.{leAt}
 use Rattle.laws.proofs.Storing.{part-rest}
 use Rattle.protocol.proofs.Accepted.{ReadAs, WrittenAs, connidFrom, dataFrom, packetOf}
-use Rattle.protocol.proofs.FlagLaws.{connid-flag, cq-data-flag, flags-small, raw-address-flag}
+use Rattle.protocol.proofs.FlagLaws.{connid-flag, cq-data-flag, flags-fit, flags-small, raw-address-flag}
 use Rattle.protocol.proofs.LayoutLaws.{fields-read, number-read, place-has}
 use Rattle.protocol.proofs.OptionLaws.{after-raw, connid-behind, connid-length, connid-there, cq-data-length, cq-data-read, raw-read}
 use Rattle.protocol.proofs.RowLaws.{connid-after, connid-within, header-bounds, number-placed}
@@ -58,7 +58,7 @@ module _ (h : Header) (raw body out : List ℕ) (r : TypeRow) (w : WrittenAs h r
   rule = sound (h .kind) r (w .row)
 
   same : packetBytes r h raw body ≡ wholeBytes r h raw body
-  same = packet-in-steps r h raw body rule (w .flags)
+  same = packet-in-steps r h raw body rule (w .options)
 
   -- where the sections lie
 
@@ -66,15 +66,15 @@ module _ (h : Header) (raw body out : List ℕ) (r : TypeRow) (w : WrittenAs h r
   headers-and-body = simp length-append (omega (arith, length-mandatory r h rule))
 
   address-small : length (rawAddressBytes (h .«raw_address») raw) < 256 ^ 4
-  address-small = omega (arith, length-packet r h raw body rule (w .flags), w .allowed)
+  address-small = omega (arith, length-packet r h raw body rule (w .options), w .allowed)
 
   after-address : afterRaw r (flagsOf r h) (wholeBytes r h raw body) ≡ length (toRaw r h raw)
   after-address =
       rw (length-append (mandatoryBytes r h), length-mandatory r h rule) (simp append-assoc
-      (after-raw r (flagsOf r h) raw (mandatoryBytes r h) _ (length-mandatory r h rule) _ (raw-address-flag r h rule (w .flags)) address-small))
+      (after-raw r (flagsOf r h) raw (mandatoryBytes r h) _ (length-mandatory r h rule) _ (raw-address-flag r h rule (w .options)) address-small))
 
   connid-from : connidFrom r (flagsOf r h) (wholeBytes r h raw body) ≡ length (toCqData r h raw)
-  connid-from = rw (after-address, cq-data-length r h rule (w .flags), length-append (toRaw r h raw))
+  connid-from = rw (after-address, cq-data-length r h rule (w .options), length-append (toRaw r h raw))
 
   data-from : dataFrom r (flagsOf r h) (wholeBytes r h raw body) ≡ length (headers r h raw)
   data-from = rw (connid-from, connid-length r h rule, length-append (toCqData r h raw))
@@ -97,12 +97,12 @@ module _ (h : Header) (raw body out : List ℕ) (r : TypeRow) (w : WrittenAs h r
       (some (bytesAt (wholeBytes r h raw body) (rawSpan (flagged r (flagsOf r h) raw-address) (wholeBytes r h raw body) (r .header)))) none
       ≡ pick (h .«raw_address») (some raw) none
   address-read =
-      simp append-assoc (raw-read r (flagsOf r h) raw (mandatoryBytes r h) _ (length-mandatory r h rule) _ (raw-address-flag r h rule (w .flags)) address-small)
+      simp append-assoc (raw-read r (flagsOf r h) raw (mandatoryBytes r h) _ (length-mandatory r h rule) _ (raw-address-flag r h rule (w .options)) address-small)
 
   cq-read : cqDataIn (flagged r (flagsOf r h) cq-data) (wholeBytes r h raw body) (afterRaw r (flagsOf r h) (wholeBytes r h raw body)) ≡ h .«cq_data»
   cq-read =
       rw after-address (simp append-assoc (simp append-assoc at
-      (cq-data-read _ (h .«cq_data») (toRaw r h raw) (connidBytes r (h .connid) ++ body) _ (cq-data-flag r h rule (w .flags)) (x .cqData) refl)))
+      (cq-data-read _ (h .«cq_data») (toRaw r h raw) (connidBytes r (h .connid) ++ body) _ (cq-data-flag r h rule (w .options)) (x .cqData) refl)))
 
   connid-read : ConnidPlace (placeOf r multiuse) (r .connid)
       → connidIn (flagged r (flagsOf r h) connid) (wholeBytes r h raw body) (connidAt r (connidFrom r (flagsOf r h) (wholeBytes r h raw body))) ≡ h .connid
@@ -127,10 +127,10 @@ module _ (h : Header) (raw body out : List ℕ) (r : TypeRow) (w : WrittenAs h r
       let m : length (packetBytes r h raw body) ≡ length (wholeBytes r h raw body) = ap length same in
       record {
         allowed = l;
-        based = omega (arith, m, length-packet r h raw body rule (w .flags), header-bounds r rule);
+        based = omega (arith, m, length-packet r h raw body rule (w .options), header-bounds r rule);
         version = unfold mandatoryBytes baseBytes in refl;
         row = unfold mandatoryBytes baseBytes in ap rowOf (row-kind (h .kind) r (w .row)) ∙ w .row;
-        flags = rw flags-read (w .flags);
+        flags = rw flags-read (flags-fit r h rule (w .options));
         inside = rw flags-read (omega (arith, data-from, headers-and-body));
         lengths = rw (flags-read, n) (lengths-same _ _ _ (h .kind) r (w .row) own-read ∙ w .lengths);
       }

@@ -4,16 +4,16 @@ use borrow.Author.Tests.{eqb-true, ne-eqb}
 use lib.Dec.{eqb, ltb}
 use lib.ListN.{length}
 use mathlib.Core.Bool.{Bool, true, false, _&&_, true≢false}
-use mathlib.Core.List.{List, [], _∷_, _++_, append-nil, append-assoc}
+use mathlib.Core.List.{List, [], _++_, append-nil, append-assoc}
 use mathlib.Core.Logic.{⊎-elim}
 use mathlib.Core.Path.{_≡_, refl, sym, ap, ap₂, _∙_}
 use native.Mathlib.Omega.{arith}
 use Rattle.laws.specs.Choose.{pick}
-use Rattle.protocol.specs.Flags.{cqDataFlag, connidFlag, flagsFit, hasFlag, rawAddressFlag}
-use Rattle.protocol.specs.Optional.{Section, connid, cq-data, flagged, flagsOf, hasCqData, raw-address, sectionsOf}
+use Rattle.protocol.specs.Flags.{cqDataFlag, connidFlag, hasFlag, rawAddressFlag}
+use Rattle.protocol.specs.Optional.{Section, connid, cq-data, flagged, hasCqData, isAmong, optionsFit, raw-address, sectionsOf}
 use Rattle.protocol.specs.Options.{connidBytes, cqDataBytes, rawAddressBytes, sectionsBytes}
 use Rattle.protocol.specs.Rules.{Sound}
-use Rattle.protocol.specs.Sections.{beginOf, connidAt, dataAt, endOf, extentOf, isAmong, rawSpan, sectionsIn, until}
+use Rattle.protocol.specs.Sections.{beginOf, connidAt, dataAt, endOf, extentOf, rawSpan, sectionsIn, until}
 use Rattle.protocol.specs.SectionsInTurn.{afterRaw, connidLength, cqDataLength, sectionsAt, sectionsFrom}
 use Rattle.protocol.specs.Totals.{sizes}
 use Rattle.protocol.specs.Writing.{mandatoryBytes, packetBytes}
@@ -25,14 +25,10 @@ use Rattle.protocol.specs.declared.types.CqData.{CqData}
 use Rattle.protocol.specs.declared.types.Header.{Header}
 use Rattle.wire.specs.LittleEndian.{leAt, leBytes}
 use Rattle.laws.proofs.Choosing.{pick-small}
-use Rattle.protocol.proofs.FlagLaws.{fits-connid}
+use Rattle.protocol.proofs.FlagLaws.{fits-connid, listed}
 use Rattle.protocol.proofs.RowLaws.{connid-within}
 use Rattle.protocol.proofs.WholePacket.{connidFrom, dataFrom}
 use Rattle.wire.proofs.Laws.{bytes-none}
-
--- the sections of a row that is a request, or not, and has a connid among them, or not
-abbrev listed : Bool → Bool → List Section
-listed q z = pick q (raw-address ∷ cq-data ∷ []) [] ++ pick z [] (connid ∷ [])
 
 module _ (r : TypeRow) (f : ℕ) (bs : List ℕ) where
   -- ---- where they lie
@@ -160,7 +156,7 @@ module _ (r : TypeRow) (h : Header) (raw : List ℕ) where
       rw (no-raw-address (h .«raw_address») raw (a refl .0), no-cq-data (h .«cq_data») (a refl .1), no-connid r (h .connid) (e refl))
 
   -- a packet's bytes, where its type may have its optional headers
-  pub packet-in-steps : (body : List ℕ) → Sound r → flagsFit r (flagsOf r h) ≡ true → packetBytes r h raw body ≡ wholeBytes r h raw body
+  pub packet-in-steps : (body : List ℕ) → Sound r → optionsFit r h ≡ true → packetBytes r h raw body ≡ wholeBytes r h raw body
   unfolding packetBytes sectionsOf
   packet-in-steps body s t =
       let e = bytes-listed (r .request) (eqb (r .connid) 0) (λ q. fits-connid r h s q t) (eqb-true _ 0) in

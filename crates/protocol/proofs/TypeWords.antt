@@ -1,15 +1,15 @@
 -- What a row of the table says of its type is what 01's columns say of the type number: header lengths, fields by their bytes, and the rule on
 -- lengths, as specs/ByType.antt writes them out.
 use Prim.Native.Nat.{ℕ, _+_, _≤_}
-use borrow.Author.Tests.{eq-eqb}
+use borrow.Author.Tests.{eq-eqb, eqb-true, not-false}
 use lib.Dec.{eqb}
-use mathlib.Core.Bool.{true, false}
+use mathlib.Core.Bool.{true, false, not, _||_}
 use mathlib.Core.List.{List, [], _∷_, map}
-use mathlib.Core.Logic.{_⊎_, _↔_, inl, inr, ⊎-elim}
+use mathlib.Core.Logic.{_⊎_, _↔_, inl, inr, ⊎-elim, ⊎-map}
 use mathlib.Core.Path.{_≡_, refl, sym, ap, _∙_}
 use native.Mathlib.Omega.{arith}
 use Rattle.laws.specs.Choose.{pick}
-use Rattle.protocol.specs.ByType.{FlagRule, Known, LengthRule, connidHeader, fieldsTold, headerLength, ownTold, shapeTold, taggedTold}
+use Rattle.protocol.specs.ByType.{CtsOrData, FlagRule, Known, LengthRule, connidHeader, fieldsTold, headerLength, ownTold, shapeTold, taggedTold}
 use Rattle.protocol.specs.FieldNumbers.{fieldsIn, numberAt, numberIn}
 use Rattle.protocol.specs.InWords.{TypesAreTheTables}
 use Rattle.protocol.specs.Layout.{Field, has, layout, msg-length, ownFields, recv-length, seg-length, seg-offset}
@@ -20,7 +20,7 @@ use Rattle.protocol.specs.declared.table.Shape.{Shape}
 use Rattle.protocol.specs.declared.table.Shape.the-variants.{Cts, CtsData, Eager, LongCts, Medium}
 use Rattle.protocol.specs.declared.table.TypeRow.{TypeRow}
 use Rattle.protocol.specs.declared.types.Fields.{Fields}
-use Rattle.laws.proofs.Choosing.{allTrue, clashing}
+use Rattle.laws.proofs.Choosing.{allTrue, clashing, or-cases}
 use Rattle.laws.proofs.Comparing.{both-tests, eq-words, le-words}
 use Rattle.protocol.proofs.LayoutLaws.{map-among}
 use Rattle.protocol.proofs.TableRule.{by-row, row-passes, rows-say}
@@ -41,6 +41,13 @@ tagged-in-words = rows-say (λ k r. r .tagged) taggedTold refl
 pub connid-in-words : (k : ℕ) (r : TypeRow) → rowOf k ≡ Row r → r .connid ≡ connidHeader k
 unfolding pick
 connid-in-words = rows-say (λ k r. r .connid) connidHeader refl
+
+-- raw address and CQ data may follow in every type but CTS and CTSDATA
+pub request-in-words : (k : ℕ) (r : TypeRow) → rowOf k ≡ Row r → (r .request ≡ false) ↔ CtsOrData k
+request-in-words k r e = (λ q. ⊎-map (eqb-true k 3) (eqb-true k 4) (or-cases (eqb k 3) (eqb k 4) (not-false _ (sym told ∙ q))), λ c. told ∙ ⊎-elim (λ x. rw x) (λ x. rw x) c)
+  where
+    told : r .request ≡ not (eqb k 3 || eqb k 4)
+    told = rows-say (λ k r. r .request) (λ k. not (eqb k 3 || eqb k 4)) refl k r e
 
 pub fields-in-words : (bs : List ℕ) (k : ℕ) (r : TypeRow) → rowOf k ≡ Row r → fieldsIn (layout r) 4 bs ≡ fieldsTold bs k
 unfolding fieldsIn numberAt layout pick

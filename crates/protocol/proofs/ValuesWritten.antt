@@ -9,7 +9,7 @@ use mathlib.Core.Path.{_≡_, refl, sym, ap, ap₂, _∙_}
 use native.Mathlib.Omega.{arith}
 use Rattle.laws.specs.Choose.{pick}
 use Rattle.protocol.specs.FieldNumbers.{fieldBytes, numberIn, numberOf}
-use Rattle.protocol.specs.Optional.{Section, connid, cq-data, flagsOf, raw-address, sectionsOf}
+use Rattle.protocol.specs.Optional.{Section, connid, cq-data, flagsOf, optionsFit, raw-address, sectionsOf}
 use Rattle.protocol.specs.Layout.{Field, credit-request, isOwn, layout, msg-id, msg-length, multiuse, ownFields, padding, recv-id, recv-length, seg-length, seg-offset, select, send-id, tag, width}
 use Rattle.protocol.specs.Lengths.{lengthsFit}
 use Rattle.protocol.specs.Options.{connidBytes, connidOrZero, cqDataBytes, rawAddressBytes, sectionBytes, sectionsBytes}
@@ -92,6 +92,10 @@ module _ (h g : Header) (raw raw′ body body′ : List ℕ) (same : values h ra
     unfolding flagsOf
     flags-same = rw (address-same .0, cq-same, connid-same)
 
+    options-same : optionsFit r h ≡ optionsFit r g
+    unfolding optionsFit
+    options-same = rw (address-same .0, cq-same, connid-same)
+
     fit-same : lengthsFit (r .shape) (h .fields) (length body) ≡ lengthsFit (r .shape) (g .fields) (length body′)
     fit-same =
         lengths-same (h .fields) (g .fields) (length body) (h .kind) r row own
@@ -112,7 +116,7 @@ module _ (h g : Header) (raw raw′ body body′ : List ℕ) (same : values h ra
 
     row-same : (out : List ℕ) → writeAs r h raw body out ≡ writeAs r g raw′ body′ out
     unfolding writeAs
-    row-same out = rw (flags-same, fit-same, bytes-same)
+    row-same out = rw (options-same, fit-same, bytes-same)
 
   found-same : (o : Found) (out : List ℕ) → rowOf (h .kind) ≡ o → ownNumbers o (h .fields) ≡ ownNumbers o (g .fields)
       → writeTyped o h raw body out ≡ writeTyped o g raw′ body′ out

@@ -12,7 +12,7 @@ use Rattle.laws.specs.Parts.{part, storeAt}
 use Rattle.protocol.specs.ByType.{column}
 use Rattle.protocol.specs.FieldNumbers.{fieldsIn, numberAt}
 use Rattle.protocol.specs.Flags.{hasFlag}
-use Rattle.protocol.specs.Optional.{connid, cq-data, flagged, flagsOf, raw-address}
+use Rattle.protocol.specs.Optional.{connid, cq-data, flagged, flagsOf, optionsFit, raw-address}
 use Rattle.protocol.specs.Layout.{credit-request, layout, msg-id, msg-length, multiuse, padding, placeOf, recv-id, recv-length, seg-length, seg-offset, send-id, tag, widths}
 use Rattle.protocol.specs.Options.{connidBytes, connidIn, connidOrZero, cqDataBytes, cqDataIn, rawAddressBytes}
 use Rattle.protocol.specs.Reading.{headerIn, packetIn}
@@ -33,7 +33,7 @@ use Rattle.wire.specs.LittleEndian.{leAt, leBytes}
 use Rattle.laws.proofs.Choosing.{pick-true, tested}
 use Rattle.laws.proofs.Storing.{length-part, length-store, part-add, part-drop, part-rest, store-back, store-nothing}
 use Rattle.protocol.proofs.Accepted.{ReadAs, WrittenAs, connidFrom, dataFrom, packetOf, write-as}
-use Rattle.protocol.proofs.FlagLaws.{flags-again}
+use Rattle.protocol.proofs.FlagLaws.{flags-again, options-again}
 use Rattle.protocol.proofs.KeptFields.{NumbersKept, fields-again, isBlank, length-zeroed-fields, zeroedFields}
 use Rattle.protocol.proofs.LayoutLaws.{has-place}
 use Rattle.protocol.proofs.OptionLaws.{cq-data-again, has-connid, has-cq-data, raw-again}
@@ -227,6 +227,10 @@ module _ (limit : ℕ) (bs : List ℕ) (r : TypeRow) (a : ReadAs limit bs r) (b 
   unfolding packetIn headerIn
   flags-written = flags-again r (leAt 2 bs 2) (sound (getD bs 0 0) r (a .row)) (a .flags) _ refl (has-cq-data _ bs _) (has-connid _ bs _)
 
+  options-written : optionsFit r (p .header) ≡ true
+  unfolding packetIn headerIn
+  options-written = options-again r (leAt 2 bs 2) (sound (getD bs 0 0) r (a .row)) (a .flags) _ refl (has-cq-data _ bs _)
+
   packet-zeroed : (packetBytes r (p .header) (bytesAt bs (p .«raw_address»)) (bytesAt bs (p .«data»)) ≡ zeroed (leAt 2 bs 2) r p bs)
       × (length (zeroed (leAt 2 bs 2) r p bs) ≡ length bs)
   unfolding mandatoryBytes packetIn headerIn
@@ -242,7 +246,7 @@ module _ (limit : ℕ) (bs : List ℕ) (r : TypeRow) (a : ReadAs limit bs r) (b 
       (rawAddressBytes (p .header .«raw_address») (bytesAt bs (p .«raw_address»))
       ++ (cqDataBytes (p .header .«cq_data») ++ (connidBytes r (p .header .connid) ++ drop (p .«data» .at) bs)))
       4 (s .once) b room (length-part bs 0 4 (omega (arith, room))) (numbers-kept bs b k r (a .row) f (a .inside)) in (
-        packet-in-steps r (p .header) _ _ s (rw flags-written (a .flags)) ∙ rw (base, part-rest bs) (simp append-assoc
+        packet-in-steps r (p .header) _ _ s options-written ∙ rw (base, part-rest bs) (simp append-assoc
             (again ∙ ap (zeroedFields (flagged r f connid) (layout r) 4)
             (ap (λ (l : List ℕ). part bs 0 4 ++ l) (middle-again bs b k r (a .row) f (a .inside) _) ∙ e))),
         length-zeroed-fields (flagged r f connid) (layout r) _ 4 (omega (arith, room, n)) ∙ n,
@@ -261,7 +265,7 @@ module _ (limit : ℕ) (bs : List ℕ) (r : TypeRow) (a : ReadAs limit bs r) (b 
       let n = ap length (packet-again .0) ∙ packet-again .1 in
       record {
         row = row-again;
-        flags = rw flags-written (a .flags);
+        options = options-written;
         lengths = rw (length-part bs (p .«data» .at) (p .«data» .size) (omega arith)) (a .lengths);
         allowed = rw n small;
         room = rw n room;

@@ -1,7 +1,7 @@
 -- The writer's refusals come in 01's order: the statements of specs/WriterInWords.antt.
 use Prim.Native.Nat.{ℕ, _<_}
 use borrow.Author.Tests.{ltb-true, ltb-false, not-true, not-false}
-use lib.Dec.{ltb, lit<, lit≤}
+use lib.Dec.{ltb, lit<}
 use lib.ListN.{length}
 use mathlib.Core.Bool.{Bool, true, false, not, true≢false}
 use mathlib.Core.List.{List, [], _∷_}
@@ -10,15 +10,13 @@ use mathlib.Core.Path.{_≡_, refl, sym, ap, _∙_, subst}
 use native.Mathlib.Omega.{arith}
 use Rattle.laws.specs.Choose.{pick}
 use Rattle.laws.specs.Parts.{storeAt}
-use Rattle.protocol.specs.ByType.{CtsOrData, Known, LengthRule, Rtm}
+use Rattle.protocol.specs.ByType.{CtsOrData, Known, LengthRule}
 use Rattle.protocol.specs.Checks.{gives, refused}
-use Rattle.protocol.specs.Flags.{flagsFit}
-use Rattle.protocol.specs.Optional.{flagsOf, hasCqData}
+use Rattle.protocol.specs.Optional.{hasCqData, optionsFit}
 use Rattle.protocol.specs.InWords.{TypesAreTheTables}
 use Rattle.protocol.specs.Lengths.{lengthsFit}
 use Rattle.protocol.specs.Options.{connidBytes, cqDataBytes}
 use Rattle.protocol.specs.Refusals.{refusal}
-use Rattle.protocol.specs.Rules.{Sound}
 use Rattle.protocol.specs.Says.{writtenSays}
 use Rattle.protocol.specs.Types.{admit, rowOf}
 use Rattle.protocol.specs.WriterInWords.{Misplaced, RefusedWriteChangesNothing, WriteFails, WriteRefusedByFirstToFail, WriterCheck, WrittenIfNoneFails, brokenLengths, connidTakes, cqDataTakes, misplacedHeader, noType, overLongest, packetLength, shortBuffer, writeRefusedAs, writerCheckAt, writerChecks}
@@ -35,8 +33,8 @@ use Rattle.protocol.proofs.FirstFailing.{given-if-none, judged, judged-
 use Rattle.protocol.proofs.FlagLaws.{connid-fits, every-option-fits, fits-connid}
 use Rattle.protocol.proofs.OptionLaws.{length-raw}
 use Rattle.protocol.proofs.FoundRow.{is-unknown, isUnknown, ofRow, pick-not, row-in, row-out}
-use Rattle.protocol.proofs.TableRule.{by-row, rowAt, sound}
-use Rattle.protocol.proofs.TypeWords.{connid-in-words, header-in-words, lengths-in-words, unknown-lengths, unknown-type}
+use Rattle.protocol.proofs.TableRule.{sound}
+use Rattle.protocol.proofs.TypeWords.{connid-in-words, header-in-words, lengths-in-words, request-in-words, unknown-lengths, unknown-type}
 use Rattle.protocol.proofs.WordsHold.{types-are-the-tables}
 use Rattle.protocol.proofs.WritingLaws.{length-packet}
 use Rattle.wire.proofs.Laws.{length-le}
@@ -53,7 +51,7 @@ unfolding connidBytes
 connid-takes k r Connid.Absent e = refl
 connid-takes k r (Connid.Present c) e = rw length-le (connid-in-words k r e)
 
-pub length-in-words : (h : Header) (raw body : List ℕ) (r : TypeRow) → rowOf (h .kind) ≡ Row r → flagsFit r (flagsOf r h) ≡ true
+pub length-in-words : (h : Header) (raw body : List ℕ) (r : TypeRow) → rowOf (h .kind) ≡ Row r → optionsFit r h ≡ true
     → length (packetBytes r h raw body) ≡ packetLength h (length raw) (length body)
 length-in-words h raw body r e t =
     let a = header-in-words (h .kind) r e in
@@ -64,35 +62,18 @@ length-in-words h raw body r e t =
 
 -- ---- an optional header that the type can't have
 
-abbrev Neither : Header → Type 0
+abbrev pub Neither : Header → Type 0
 Neither h = (h .«raw_address» ≡ false) × (hasCqData (h .«cq_data») ≡ false)
 
--- where the flags fit, and where they do not
-abbrev Fitting : Header → ℕ → Bool → Type 0
-Fitting h k true = CtsOrData k → Neither h
-Fitting h k false = CtsOrData k × (Neither h → ⊥)
+module _ (h : Header) (k : ℕ) (r : TypeRow) (e : rowOf k ≡ Row r) where
+  pub options-taken : optionsFit r h ≡ true → CtsOrData k → Neither h
+  options-taken t c = fits-connid r h (sound k r e) (request-in-words k r e .1 c) t
 
-fitting : (h : Header) (k : ℕ) (r : TypeRow) → rowOf k ≡ Row r → Fitting h k (flagsFit r (flagsOf r h))
-fitting h k r e =
-    by-row (λ k r. Sound r → Fitting h k (flagsFit r (flagsOf r h)))
-    (λ s. cts 3 (rowAt 0) s refl (inl refl))
-    (λ s. cts 4 (rowAt 1) s refl (inr refl))
-    (λ s. rtm 64 (rowAt 2) s refl (lit≤ tt, lit≤ tt))
-    (λ s. rtm 65 (rowAt 3) s refl (lit≤ tt, lit≤ tt))
-    (λ s. rtm 66 (rowAt 4) s refl (lit≤ tt, lit≤ tt))
-    (λ s. rtm 67 (rowAt 5) s refl (lit≤ tt, lit≤ tt))
-    (λ s. rtm 68 (rowAt 6) s refl (lit≤ tt, lit≤ tt))
-    (λ s. rtm 69 (rowAt 7) s refl (lit≤ tt, lit≤ tt)) k r e (sound k r e)
-  where
-    cts : (k : ℕ) (r : TypeRow) → Sound r → r .request ≡ false → CtsOrData k → Fitting h k (flagsFit r (flagsOf r h))
-    cts k r s q c = go (flagsFit r (flagsOf r h)) refl
-      where
-        go : (t : Bool) → flagsFit r (flagsOf r h) ≡ t → Fitting h k t
-        go true x = λ d. fits-connid r h s q x
-        go false x = (c, λ n. clashing _ (connid-fits r h s q (n .0) (n .1)) x)
-
-    rtm : (k : ℕ) (r : TypeRow) → Sound r → r .request ≡ true → Rtm k → Fitting h k (flagsFit r (flagsOf r h))
-    rtm k r s q l = subst (Fitting h k) (sym (every-option-fits r h s q)) (λ c. absurd (⊎-elim (λ x. omega arith) (λ x. omega arith) c))
+  pub options-refused : optionsFit r h ≡ false → CtsOrData k × (Neither h → ⊥)
+  options-refused t = (
+    request-in-words k r e .0 (⊎-elim (λ q. clashing _ (every-option-fits r h (sound k r e) q) t) (λ q. q) (tested (r .request))),
+    λ n. clashing _ (connid-fits r h (sound k r e) (n .0) (n .1)) t,
+  )
 
 misplaced : (h : Header) → CtsOrData (h .kind) → (Neither h → ⊥) → Misplaced h
 misplaced h c n = (c, go (tested (h .«raw_address»)) (h .«cq_data») refl)
@@ -127,7 +108,7 @@ module _ (h : Header) (raw body out : List ℕ) where
   -- with the type's row o
   abbrev pub failsAs : Found → WriterCheck → Bool
   failsAs o noType = isUnknown o
-  failsAs o misplacedHeader = ofRow o (λ r. not (flagsFit r (flagsOf r h)))
+  failsAs o misplacedHeader = ofRow o (λ r. not (optionsFit r h))
   failsAs o brokenLengths = ofRow o (λ r. not (lengthsFit (r .shape) (h .fields) (length body)))
   failsAs o overLongest = ltb 8192 n
   failsAs o shortBuffer = ltb (length out) n
@@ -145,7 +126,7 @@ module _ (h : Header) (raw body out : List ℕ) where
   abbrev judgedAs : Found → List WriterCheck → Outcome
   judgedAs o = judged (failsAs o) refusing (written o)
 
-  bytes-judged : (r : TypeRow) → rowOf k ≡ Row r → flagsFit r (flagsOf r h) ≡ true
+  bytes-judged : (r : TypeRow) → rowOf k ≡ Row r → optionsFit r h ≡ true
       → writeBytes (packetBytes r h raw body) out ≡ judgedAs (Row r) (overLongest ∷ shortBuffer ∷ [])
   unfolding writeBytes
   bytes-judged r e t = ap sized (length-in-words h raw body r e t)
@@ -163,7 +144,7 @@ module _ (h : Header) (raw body out : List ℕ) where
       ⊎-elim (λ t. rw t (pick-not (lengthsFit (r .shape) (h .fields) (length body)) _ _
       ∙ ap (λ (x : Outcome). pick (not (lengthsFit (r .shape) (h .fields) (length body))) (refusing brokenLengths) x) (bytes-judged r e t)))
       (λ t. rw t)
-      (tested (flagsFit r (flagsOf r h)))
+      (tested (optionsFit r h))
 
   pub write-judged : writeOf h raw body out ≡ judgedAs (rowOf k) writerChecks
   unfolding writeOf
@@ -177,12 +158,12 @@ module _ (h : Header) (raw body out : List ℕ) where
   options-fail : (o : Found) → rowOf k ≡ o → failsAs o misplacedHeader ≡ true → Misplaced h
   options-fail Unknown e t = absurd (true≢false (sym t))
   options-fail (Row r) e t =
-      let (c, x) = subst (Fitting h k) (not-true (flagsFit r (flagsOf r h)) t) (fitting h k r e) in
+      let (c, x) = options-refused h k r e (not-true (optionsFit r h) t) in
       misplaced h c x
 
   options-pass : (o : Found) → rowOf k ≡ o → failsAs o misplacedHeader ≡ false → Misplaced h → ⊥
   options-pass Unknown e t (c, x) = unknown-type k e (⊎-elim (λ y. inl (y, refl)) (λ y. inr (inl y)) c)
-  options-pass (Row r) e t w = well-placed h (subst (Fitting h k) (not-false (flagsFit r (flagsOf r h)) t) (fitting h k r e) (w .0)) w
+  options-pass (Row r) e t w = well-placed h (options-taken h k r e (not-false (optionsFit r h) t) (w .0)) w
 
   lengths-pass : (o : Found) → rowOf k ≡ o → failsAs o brokenLengths ≡ false → LengthRule k (h .fields) (length body)
   lengths-pass Unknown e t = unknown-lengths k (h .fields) (length body) e

@@ -9,8 +9,7 @@ use mathlib.Core.Logic.{⊎-elim}
 use mathlib.Core.Path.{_≡_, sym, ap}
 use native.Mathlib.Omega.{arith}
 use Rattle.laws.specs.Choose.{pick}
-use Rattle.protocol.specs.Flags.{flagsFit}
-use Rattle.protocol.specs.Optional.{flagged, flagsOf, raw-address, sectionsOf}
+use Rattle.protocol.specs.Optional.{flagged, flagsOf, optionsFit, raw-address, sectionsOf}
 use Rattle.protocol.specs.Options.{connidBytes, cqDataBytes, rawAddressBytes}
 use Rattle.protocol.specs.Rules.{Sound}
 use Rattle.protocol.specs.SectionsInTurn.{headLength}
@@ -42,7 +41,7 @@ pub length-mandatory : (r : TypeRow) (h : Header) → Sound r → length (mandat
 unfolding mandatoryBytes
 length-mandatory r h s = rw (length-append, length-base, length-fields) (sym (s .header))
 
-module _ (r : TypeRow) (h : Header) (raw body : List ℕ) (s : Sound r) (t : flagsFit r (flagsOf r h) ≡ true) where
+module _ (r : TypeRow) (h : Header) (raw body : List ℕ) (s : Sound r) (t : optionsFit r h ≡ true) where
   pub length-packet : length (packetBytes r h raw body)
       ≡ r .header
       + length (rawAddressBytes (h .«raw_address») raw)

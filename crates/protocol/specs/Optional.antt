@@ -2,7 +2,7 @@
 -- address .., CQ data 8, connid 4, in that order"; "CTSDATA: .. with CONNID_HDR also connid 4, padding 4").
 use Prim.Native.Nat.{ℕ, _+_}
 use mathlib.Core.List.{List, [], _∷_, _++_}
-use mathlib.Core.Bool.{Bool, true, false, _&&_}
+use mathlib.Core.Bool.{Bool, true, false, not, _&&_, _||_}
 use lib.Dec.{eqb}
 use Rattle.laws.specs.Choose.{pick}
 use Rattle.protocol.specs.declared.table.TypeRow.{TypeRow}
@@ -23,9 +23,25 @@ flagOf raw-address = rawAddressFlag
 flagOf cq-data = cqDataFlag
 flagOf connid = connidFlag
 
+abbrev ordinal : Section → ℕ
+ordinal raw-address = 0
+ordinal cq-data = 1
+ordinal connid = 2
+
+abbrev pub sameSection : Section → Section → Bool
+sameSection s t = eqb (ordinal s) (ordinal t)
+
+abbrev pub isAmong : Section → List Section → Bool
+isAmong s [] = false
+isAmong s (t ∷ ts) = sameSection s t || isAmong s ts
+
 -- those that may follow a type's mandatory header, in their order
 unfoldable pub sectionsOf : TypeRow → List Section
 sectionsOf r = pick (r .request) (raw-address ∷ cq-data ∷ []) [] ++ pick (eqb (r .connid) 0) [] (connid ∷ [])
+
+-- an optional header that a type may have: one of these, or the connid where it stands in multiuse
+unfoldable pub mayHave : TypeRow → Section → Bool
+mayHave r s = isAmong s (sectionsOf r) || (sameSection connid s && not (eqb (placeOf r multiuse) 0))
 
 -- ---- their flags
 
@@ -64,6 +80,15 @@ abbrev pub flagsSet : Header → List Section → ℕ
 flagsSet h [] = 0
 flagsSet h (s ∷ ss) = pick (hasSection h s) (flagOf s) 0 + flagsSet h ss
 
--- the flags that a packet of this type and with these optional headers is written with: one that its type can't have shows as well
+-- the flags that a packet of this type and with these optional headers is written with
 unfoldable pub flagsOf : TypeRow → Header → ℕ
 flagsOf r h = r .must + flagsSet h sections
+
+-- of some sections, the type may have each that the header has
+abbrev pub mayHaveAll : TypeRow → Header → List Section → Bool
+mayHaveAll r h [] = true
+mayHaveAll r h (s ∷ ss) = (not (hasSection h s) || mayHave r s) && mayHaveAll r h ss
+
+-- a header without "an optional header its type can't have"
+unfoldable pub optionsFit : TypeRow → Header → Bool
+optionsFit r h = mayHaveAll r h sections

@@ -1,7 +1,7 @@
 -- Where a packet's optional headers and its data lie, and whether the packet ends before its headers do.
 use Prim.Native.Nat.{ℕ, _+_}
 use mathlib.Core.List.{List, [], _∷_}
-use mathlib.Core.Bool.{Bool, false, _||_}
+use mathlib.Core.Bool.{Bool}
 use lib.Dec.{ltb, eqb}
 use lib.ListN.{length}
 use Rattle.laws.specs.Choose.{pick}
@@ -13,7 +13,7 @@ use Rattle.protocol.specs.declared.sections.Extent.{Extent}
 use Rattle.protocol.specs.declared.sections.Extent.the-variants.{Whole, Cut}
 use Rattle.protocol.specs.Flags.{hasFlag}
 use Rattle.protocol.specs.Layout.{multiuse, placeOf}
-use Rattle.protocol.specs.Optional.{Section, connid, cq-data, flagOf, flagged, raw-address, sectionsOf}
+use Rattle.protocol.specs.Optional.{Section, connid, cq-data, flagOf, flagged, isAmong, raw-address, sameSection, sectionsOf}
 
 -- the bytes that a section takes, where a raw address has n
 abbrev pub sizeOf : TypeRow → ℕ → Section → ℕ
@@ -25,18 +25,6 @@ sizeOf r n connid = r .connid
 abbrev pub endOf : TypeRow → ℕ → List ℕ → ℕ → List Section → ℕ
 endOf r f bs at [] = at
 endOf r f bs at (s ∷ ss) = endOf r f bs (at + pick (hasFlag f (flagOf s)) (sizeOf r (leAt 4 bs at) s) 0) ss
-
-abbrev ordinal : Section → ℕ
-ordinal raw-address = 0
-ordinal cq-data = 1
-ordinal connid = 2
-
-abbrev pub sameSection : Section → Section → Bool
-sameSection s t = eqb (ordinal s) (ordinal t)
-
-abbrev pub isAmong : Section → List Section → Bool
-isAmong s [] = false
-isAmong s (t ∷ ts) = sameSection s t || isAmong s ts
 
 -- the sections before s
 abbrev pub until : Section → List Section → List Section

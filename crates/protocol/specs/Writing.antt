@@ -13,11 +13,10 @@ use Rattle.protocol.specs.declared.types.Header.{Header}
 use Rattle.protocol.specs.declared.types.Refusal.{Refusal}
 use Rattle.protocol.specs.declared.types.Written.{Written}
 use Rattle.protocol.specs.Types.{rowOf}
-use Rattle.protocol.specs.Flags.{flagsFit}
 use Rattle.protocol.specs.FieldNumbers.{fieldBytes}
 use Rattle.protocol.specs.Layout.{layout}
 use Rattle.protocol.specs.Lengths.{lengthsFit}
-use Rattle.protocol.specs.Optional.{flagsOf, sectionsOf}
+use Rattle.protocol.specs.Optional.{flagsOf, optionsFit, sectionsOf}
 use Rattle.protocol.specs.Options.{sectionsBytes}
 use Rattle.protocol.specs.Refusals.{aboveLimit, badType, badFlags, badLength, noRoom}
 
@@ -51,7 +50,7 @@ writeBytes bytes out =
 -- refusals 10 (an optional header that its type can't have) and 11
 unfoldable pub writeAs : TypeRow → Header → List ℕ → List ℕ → List ℕ → Outcome
 writeAs r h raw body out =
-    pick (flagsFit r (flagsOf r h))
+    pick (optionsFit r h)
     (pick (lengthsFit (r .shape) (h .fields) (length body)) (writeBytes (packetBytes r h raw body) out) (refused badLength out))
     (refused badFlags out)
 

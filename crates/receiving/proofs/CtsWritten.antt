@@ -8,11 +8,10 @@ use native.Mathlib.Omega.{arith}
 use Rattle.laws.specs.Choose.{pick}
 use Rattle.laws.specs.Parts.{storeAt}
 use Rattle.protocol.specs.Cts.{ctsBytes, ctsHeader}
-use Rattle.protocol.specs.Flags.{flagsFit}
 use Rattle.protocol.specs.FieldNumbers.{fieldBytes}
 use Rattle.protocol.specs.Layout.{layout}
 use Rattle.protocol.specs.Lengths.{lengthsFit}
-use Rattle.protocol.specs.Optional.{flagsOf, sectionsOf}
+use Rattle.protocol.specs.Optional.{optionsFit, sectionsOf}
 use Rattle.protocol.specs.Types.{ctsRow, rowIn, rowOf}
 use Rattle.protocol.specs.Writing.{baseBytes, mandatoryBytes, packetBytes, writeOf}
 use Rattle.protocol.specs.declared.types.Written.{Written}
@@ -29,7 +28,7 @@ unfolding ctsBytes
 written-as send recv n out room one =
     record {
       row = unfold rowOf rowIn pick in refl;
-      flags = unfold flagsFit flagsOf pick in refl;
+      options = unfold optionsFit in refl;
       lengths = unfold lengthsFit in le-leb 1 n one;
       allowed = omega (arith, cts-length send recv n);
       room = omega (arith, cts-length send recv n);

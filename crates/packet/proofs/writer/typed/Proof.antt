@@ -7,41 +7,40 @@ use mathlib.Core.Bool.{true}
 use mathlib.Core.Path.{_≡_, sym, _∙_}
 use native.Mathlib.Omega.{arith}
 use Rattle.laws.specs.Choose.{pick}
-use Rattle.protocol.specs.Flags.{flagsFit}
-use Rattle.protocol.specs.Optional.{flagsOf}
+use Rattle.protocol.specs.Optional.{optionsFit}
 use Rattle.protocol.specs.Totals.{limitedTo}
 use Rattle.protocol.specs.Writing.{packetBytes, writeAs, writeBytes}
 use Rattle.protocol.proofs.WritingLaws.{limited-above, limited-bytes, total-is}
 use Rattle.packet.proofs.writer.typed.Statement.{statement}
 use Rattle.packet.proofs.writer.typed.Tie as tie
 
--- past the tests of flags and lengths, the bytes are written
-passed : (c : tie.Else2) → let a = c .before .before .before .before .before .before .before .before .before .args in
+-- past the tests of optional headers and lengths, the bytes are written
+passed : (c : tie.Else2) → let a = c .before .before .before .before .before .before .before .before .args in
     writeAs (a .row) (a .header) (a .raw .now) (a .«data» .now) (a .out .now)
     ≡ writeBytes (packetBytes (a .row) (a .header) (a .raw .now) (a .«data» .now)) (a .out .now)
 unfolding writeAs pick
 passed c =
     let f2 = c .before in
     let f1 = f2 .before .before .before in
-    let e1 = not-false (f1 .fit .result) (f2 .before .before .if1 .left) in
-    let e2 = not-false (f2 .fit2 .result) (c .if2 .left) in
-    rw (← f1 .before .written .ensures, ← f1 .fit .ensures, e1, ← f2 .fit2 .ensures, e2)
+    let e1 = not-false (f1 .options-fit .result) (f2 .before .before .if1 .left) in
+    let e2 = not-false (f2 .fit .result) (c .if2 .left) in
+    rw (← f1 .options-fit .ensures, e1, ← f2 .fit .ensures, e2)
 
--- the flags fit the type
-fitting : (c : tie.Else2) → let a = c .before .before .before .before .before .before .before .before .before .args in
-    flagsFit (a .row) (flagsOf (a .row) (a .header)) ≡ true
+-- the type may have the optional headers
+fitting : (c : tie.Else2) → let a = c .before .before .before .before .before .before .before .before .args in
+    optionsFit (a .row) (a .header) ≡ true
 fitting c =
     let f = c .before .before .before .before in
-    rw (← f .before .written .ensures) (sym (f .fit .ensures) ∙ not-false (f .fit .result) (c .before .before .before .if1 .left))
+    sym (f .options-fit .ensures) ∙ not-false (f .options-fit .result) (c .before .before .before .if1 .left)
 
 -- `total` answers the packet's length, if the limit allows it
 answered : (c : tie.After-total) → let a = c .before .before .before .before .before .before .before .before .before .before .args in
     limitedTo (length (packetBytes (a .row) (a .header) (a .raw .now) (a .«data» .now))) ≡ c .total .result
 answered c =
-    let w = c .before .before .before .before .before .before in
-    let s = w .before .before .before .before in
+    let w = c .before in
+    let s = w .before .before .before .before .before .before .before .before .before in
     let a = s .args in
-    sym (total-is (a .row) (a .header) (a .raw .now) (a .«data» .now) (s .pre) (fitting (c .before))) ∙ sym (rw (w .written .ensures) at (c .total .ensures))
+    sym (total-is (a .row) (a .header) (a .raw .now) (a .«data» .now) (s .pre) (fitting (w .before))) ∙ sym (rw (w .written .ensures) at (c .total .ensures))
 
 measured : (c : tie.After-known-told) →
     let a = c .before .before .before .before .before .before .before .before .before .before .before .before .before .args in
@@ -49,11 +48,8 @@ measured : (c : tie.After-known-told) →
     (length bytes ≡ c .before .n .given .0 .0) × (length bytes ≤ 8192)
 measured c = limited-bytes _ _ (answered (c .before .before .before) ∙ c .before .n .given .1)
 
-written-requires : tie.Need-written-requires
-written-requires c κs = search needs
-
-fit-requires : tie.Need-fit-requires
-fit-requires c κs = search needs
+options-fit-requires : tie.Need-options-fit-requires
+options-fit-requires c κs = search needs
 
 refused-requires : tie.Need-refused-requires
 refused-requires c κs = search needs
@@ -62,11 +58,11 @@ returns : tie.Need-returns
 unfolding writeAs pick
 returns c =
     let f = c .before .before in
-    let e = not-true (f .fit .result) (c .before .if1 .taken) in
-    rw (← f .before .written .ensures, ← f .fit .ensures, e, c .refused .ensures)
+    let e = not-true (f .options-fit .result) (c .before .if1 .taken) in
+    rw (← f .options-fit .ensures, e, c .refused .ensures)
 
-fit-requires-2 : tie.Need-fit-requires-2
-fit-requires-2 c κs = search needs
+fit-requires : tie.Need-fit-requires
+fit-requires c κs = search needs
 
 refused-requires-2 : tie.Need-refused-requires-2
 refused-requires-2 c κs = search needs
@@ -76,9 +72,12 @@ unfolding writeAs pick
 returns-2 c =
     let f2 = c .before .before in
     let f1 = f2 .before .before .before in
-    let e1 = not-false (f1 .fit .result) (f2 .before .before .if1 .left) in
-    let e2 = not-true (f2 .fit2 .result) (c .before .if2 .taken) in
-    rw (← f1 .before .written .ensures, ← f1 .fit .ensures, e1, ← f2 .fit2 .ensures, e2, c .refused2 .ensures)
+    let e1 = not-false (f1 .options-fit .result) (f2 .before .before .if1 .left) in
+    let e2 = not-true (f2 .fit .result) (c .before .if2 .taken) in
+    rw (← f1 .options-fit .ensures, e1, ← f2 .fit .ensures, e2, c .refused2 .ensures)
+
+written-requires : tie.Need-written-requires
+written-requires c κs = search needs
 
 total-requires : tie.Need-total-requires
 total-requires c κs = search needs
@@ -101,21 +100,21 @@ returns-3 c =
     let t = c .before .before in
     let m = measured t in
     let k = rw (← m .0) at (c .before .if3 .taken) in
-    rw (passed (t .before .before .before .before), le-ltb 8192 _ (m .1), lt-ltb _ _ k, c .refused4 .ensures)
+    rw (passed (t .before .before .before .before .before), le-ltb 8192 _ (m .1), lt-ltb _ _ k, c .refused4 .ensures)
 
 put-requires : tie.Need-put-requires
 put-requires c κs =
     let t = c .before .before in
-    let w = t .before .before .before .before .before .before .before .before .before in
+    let w = t .before .before .before .before in
     let m = measured t in
-    (w .before .before .before .before .pre, (w .written .ensures, (fitting (t .before .before .before .before), (m .1, omega arith))))
+    (w .before .before .before .before .before .before .before .before .before .pre, (w .written .ensures, (fitting (w .before), (m .1, omega arith))))
 
 returns-4 : tie.Need-returns-4
 unfolding writeBytes pick
 returns-4 c =
     let t = c .before .before .before in
     let e = limited-above _ (answered t ∙ c .before .enum-told .given .1) in
-    rw (passed (t .before), lt-ltb 8192 _ e, c .refused3 .ensures)
+    rw (passed (t .before .before), lt-ltb 8192 _ e, c .refused3 .ensures)
 
 same-length : tie.Need-same-length
 same-length c = search needs
@@ -127,19 +126,19 @@ returns-5 c =
     let t = w .before .before .before in
     let m = measured t in
     let k = rw (← m .0) at (w .before .before .if3 .left) in
-    rw (passed (t .before .before .before .before), le-ltb 8192 _ (m .1), le-ltb _ _ k, w .put .ensures, m .0)
+    rw (passed (t .before .before .before .before .before), le-ltb 8192 _ (m .1), le-ltb _ _ k, w .put .ensures, m .0)
 
 pub typed-spec : {M : Type 1} → statement M
 typed-spec =
     tie.close
     (tie.spec
-    written-requires
-    fit-requires
+    options-fit-requires
     refused-requires
     returns
-    fit-requires-2
+    fit-requires
     refused-requires-2
     returns-2
+    written-requires
     total-requires
     enum-told
     refused-requires-3
