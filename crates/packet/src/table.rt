@@ -32,6 +32,7 @@ const TYPES: [TypeRow; 8] = [
         places: 1 * MULTIUSE + 2 * SEND_ID + 3 * RECV_ID + 4 * RECV_LENGTH,
         connid: 0,
         request: false,
+        length_at: 16,
     },
     TypeRow {
         kind: 4,
@@ -44,6 +45,7 @@ const TYPES: [TypeRow; 8] = [
         places: 1 * RECV_ID + 2 * SEG_LENGTH + 4 * SEG_OFFSET,
         connid: 8,
         request: false,
+        length_at: 8,
     },
     TypeRow {
         kind: 64,
@@ -56,6 +58,7 @@ const TYPES: [TypeRow; 8] = [
         places: 1 * MSG_ID,
         connid: 4,
         request: true,
+        length_at: 0,
     },
     TypeRow {
         kind: 65,
@@ -68,6 +71,7 @@ const TYPES: [TypeRow; 8] = [
         places: 1 * MSG_ID + 2 * TAG,
         connid: 4,
         request: true,
+        length_at: 0,
     },
     TypeRow {
         kind: 66,
@@ -80,6 +84,7 @@ const TYPES: [TypeRow; 8] = [
         places: 1 * MSG_ID + 2 * MSG_LENGTH + 4 * SEG_OFFSET,
         connid: 4,
         request: true,
+        length_at: 8,
     },
     TypeRow {
         kind: 67,
@@ -92,6 +97,7 @@ const TYPES: [TypeRow; 8] = [
         places: 1 * MSG_ID + 2 * MSG_LENGTH + 4 * SEG_OFFSET + 6 * TAG,
         connid: 4,
         request: true,
+        length_at: 8,
     },
     TypeRow {
         kind: 68,
@@ -104,6 +110,7 @@ const TYPES: [TypeRow; 8] = [
         places: 1 * MSG_ID + 2 * MSG_LENGTH + 4 * SEND_ID + 5 * CREDIT_REQUEST,
         connid: 4,
         request: true,
+        length_at: 8,
     },
     TypeRow {
         kind: 69,
@@ -116,6 +123,7 @@ const TYPES: [TypeRow; 8] = [
         places: 1 * MSG_ID + 2 * MSG_LENGTH + 4 * SEND_ID + 5 * CREDIT_REQUEST + 6 * TAG,
         connid: 4,
         request: true,
+        length_at: 8,
     },
 ];
 

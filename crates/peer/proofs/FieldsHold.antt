@@ -66,7 +66,7 @@ module _ {g h : Incoming} (p : g ≡ h) where
 
 -- the rows of the table in their order
 abbrev rowAt : ℕ → TypeRow
-rowAt i = getD rows i (row 0 Cts 0 0 0 false false false 0 0)
+rowAt i = getD rows i (row 0 Cts 0 0 0 0 false false false 0 0)
 
 module _ (limit : ℕ) (bs : List ℕ) (q : Packet) (e : readOf false limit bs ≡ Read.Packet q) where
   -- a packet of the type k is read as the row of this type has it

@@ -77,7 +77,7 @@ module _ (all : Bool) (limit : ℕ) (bs : List ℕ) where
   failsAs o wrongLengths = ofRow o (λ r. not (lengthsFit (r .shape) (fieldsTold bs k) (length bs - headIn bs)))
 
   abbrev pub passedAs : Found → Packet
-  passedAs Unknown = packetOf (row 0 Cts 0 0 0 false false false 0 0) f bs
+  passedAs Unknown = packetOf (row 0 Cts 0 0 0 0 false false false 0 0) f bs
   passedAs (Row r) = packetOf r f bs
 
   abbrev judgedAs : Found → List Check → Read

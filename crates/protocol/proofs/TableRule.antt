@@ -10,7 +10,7 @@ use mathlib.Core.Logic.{⊎-elim, ⊎-map}
 use mathlib.Core.Path.{_≡_, refl, sym, subst, _∙_}
 use native.Mathlib.Omega.{arith}
 use Rattle.laws.specs.Choose.{pick}
-use Rattle.protocol.specs.Layout.{Field, credit-request, distinct, fields, layout, msg-id, msg-length, multiuse, ordinal, padding, placeIn, placeOf, recv-id, recv-length, seg-length, seg-offset, send-id, tag, width, widths}
+use Rattle.protocol.specs.Layout.{Field, credit-request, distinct, fields, layout, lengthPlace, msg-id, msg-length, multiuse, ordinal, padding, placeIn, placeOf, recv-id, recv-length, seg-length, seg-offset, send-id, tag, width, widths}
 use Rattle.protocol.specs.Optional.{flagSum, flagsTaken, sections, sectionsOf}
 use Rattle.protocol.specs.Rules.{ConnidPlace, Sound}
 use Rattle.protocol.specs.Types.{row, rowIn, rowOf, rows}
@@ -70,7 +70,7 @@ rows-say says told same k r e = each-in (λ k r. says k r ≡ told k) rows (each
 
 -- the rows in their order
 abbrev pub rowAt : ℕ → TypeRow
-rowAt i = getD rows i (row 0 Cts 0 0 0 false false false 0 0)
+rowAt i = getD rows i (row 0 Cts 0 0 0 0 false false false 0 0)
 
 pub by-row : (P : ℕ → TypeRow → Type 0)
     → P 3 (rowAt 0)
@@ -130,6 +130,7 @@ checks r =
     eqb (r .header) (4 + widths (layout r))
     ∷ allTrue (map (stands r) fields)
     ∷ distinct (layout r)
+    ∷ eqb (r .«length_at») (lengthPlace r)
     ∷ allTrue (map (ends r) fields)
     ∷ leb (r .header) 64
     ∷ (eqb (r .connid) 0 || (eqb (r .connid) 4 || eqb (r .connid) 8))
@@ -140,19 +141,20 @@ checks r =
     ∷ []
 
 pub sound : (k : ℕ) (r : TypeRow) → rowOf k ≡ Row r → Sound r
-unfolding layout placeIn flagsTaken sectionsOf pick
+unfolding layout lengthPlace placeIn flagsTaken sectionsOf pick
 sound k r e =
     record {
       header = eqb-true _ _ (holds 0);
       placed = λ f. eqb-true _ _ (every-field (stands r) (holds 1) f);
       once = holds 2;
-      inside = λ f. leb-true _ _ (every-field (ends r) (holds 3) f);
-      short = leb-true _ _ (holds 4);
-      connid = ⊎-map (eqb-true _ _) (λ t. ⊎-map (eqb-true _ _) (eqb-true _ _) (or-cases _ _ t)) (or-cases _ _ (holds 5));
-      connidPlace = connid-place (placeOf r multiuse) (r .connid) (holds 6);
-      apart = eqb-true _ _ (holds 7);
-      may = eqb-true _ _ (holds 8);
-      small = ltb-true _ _ (holds 9);
+      lengthAt = eqb-true _ _ (holds 3);
+      inside = λ f. leb-true _ _ (every-field (ends r) (holds 4) f);
+      short = leb-true _ _ (holds 5);
+      connid = ⊎-map (eqb-true _ _) (λ t. ⊎-map (eqb-true _ _) (eqb-true _ _) (or-cases _ _ t)) (or-cases _ _ (holds 6));
+      connidPlace = connid-place (placeOf r multiuse) (r .connid) (holds 7);
+      apart = eqb-true _ _ (holds 8);
+      may = eqb-true _ _ (holds 9);
+      small = ltb-true _ _ (holds 10);
     }
   where
     holds : (i : ℕ) → getD (checks r) i true ≡ true

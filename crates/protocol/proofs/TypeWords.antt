@@ -1,5 +1,5 @@
--- What a row of the table says of its type is what 01's columns say of the type number: header lengths, fields by their bytes, and the rule on
--- lengths, as specs/ByType.antt writes them out.
+-- What a row of the table says of its type is what 01's columns say of the type number: header lengths, the place of the length, fields by their
+-- bytes, and the rule on lengths, as specs/ByType.antt writes them out.
 use Prim.Native.Nat.{ℕ, _+_, _≤_}
 use borrow.Author.Tests.{eq-eqb, eqb-true, not-false}
 use lib.Dec.{eqb}
@@ -9,9 +9,9 @@ use mathlib.Core.Logic.{_⊎_, _↔_, inl, inr, ⊎-elim, ⊎-map}
 use mathlib.Core.Path.{_≡_, refl, sym, ap, _∙_}
 use native.Mathlib.Omega.{arith}
 use Rattle.laws.specs.Choose.{pick}
-use Rattle.protocol.specs.ByType.{CtsOrData, FlagRule, Known, LengthRule, connidHeader, fieldsTold, headerLength, ownTold, shapeTold, taggedTold}
+use Rattle.protocol.specs.ByType.{CtsOrData, FlagRule, Known, LengthRule, connidHeader, fieldsTold, headerLength, lengthAt, ownTold, shapeTold, taggedTold}
 use Rattle.protocol.specs.FieldNumbers.{fieldsIn, numberAt, numberIn}
-use Rattle.protocol.specs.InWords.{TypesAreTheTables}
+use Rattle.protocol.specs.InWords.{LengthsStandAsTold, TypesAreTheTables}
 use Rattle.protocol.specs.Layout.{Field, has, layout, msg-length, ownFields, recv-length, seg-length, seg-offset}
 use Rattle.protocol.specs.Lengths.{lengthsFit}
 use Rattle.protocol.specs.Types.{admit, rowOf}
@@ -29,6 +29,10 @@ use Rattle.protocol.proofs.WordsHold.{types-are-the-tables}
 pub header-in-words : (k : ℕ) (r : TypeRow) → rowOf k ≡ Row r → r .header ≡ headerLength k
 unfolding pick
 header-in-words = rows-say (λ k r. r .header) headerLength refl
+
+pub lengths-stand-as-told : LengthsStandAsTold
+unfolding LengthsStandAsTold pick
+lengths-stand-as-told = rows-say (λ k r. r .«length_at») lengthAt refl
 
 pub shape-in-words : (k : ℕ) (r : TypeRow) → rowOf k ≡ Row r → r .shape ≡ shapeTold k
 unfolding pick

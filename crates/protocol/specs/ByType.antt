@@ -54,6 +54,11 @@ taggedTold = column false ((65, true) ∷ (67, true) ∷ (69, true) ∷ [])
 abbrev pub headerLength : ℕ → ℕ
 headerLength = column 0 ((3, 24) ∷ (4, 24) ∷ (64, 8) ∷ (65, 16) ∷ (66, 24) ∷ (67, 32) ∷ (68, 24) ∷ (69, 32) ∷ [])
 
+-- the place of a type's length: 3: recv_length at 16; 4: seg_length at 8; 66 to 69: msg_length at 8; 64, 65: none, "its length is the message
+-- length" of the data
+abbrev pub lengthAt : ℕ → ℕ
+lengthAt = column 0 ((3, 16) ∷ (4, 8) ∷ (66, 8) ∷ (67, 8) ∷ (68, 8) ∷ (69, 8) ∷ [])
+
 -- the bytes that CONNID_HDR adds behind the other headers. CTS: none, "a flagged multiuse is the connid"; CTSDATA: "connid 4, padding 4"; RTMs:
 -- "connid 4"
 abbrev pub connidHeader : ℕ → ℕ

@@ -11,7 +11,7 @@ use mathlib.Core.Path.{_≡_}
 use Rattle.laws.specs.Choose.{pick}
 use Rattle.laws.specs.Parts.{part}
 pub use Rattle.protocol.specs.ByType.{Known, bitOf}
-use Rattle.protocol.specs.ByType.{FlagRule, LengthRule, column, connidHeader, fieldsTold, headerLength, ownTold, shapeTold, taggedTold}
+use Rattle.protocol.specs.ByType.{FlagRule, LengthRule, column, connidHeader, fieldsTold, headerLength, lengthAt, ownTold, shapeTold, taggedTold}
 use Rattle.protocol.specs.Checks.{First, gives, refused}
 use Rattle.protocol.specs.Reading.{readOf}
 use Rattle.protocol.specs.Says.{readSays}
@@ -38,6 +38,10 @@ NumbersAreLittleEndian =
 -- a row of the table is found for the types of 01's column "Type", and for no other
 unfoldable pub TypesAreTheTables : Type 0
 TypesAreTheTables = (all : Bool) (k : ℕ) → ((r : TypeRow) × (admit all (rowOf k) ≡ Row r)) ↔ Known all k
+
+-- its row names the place of its length
+unfoldable pub LengthsStandAsTold : Type 0
+LengthsStandAsTold = (k : ℕ) (r : TypeRow) → rowOf k ≡ Row r → r .«length_at» ≡ lengthAt k
 
 -- ---- the order of the reader's refusals
 

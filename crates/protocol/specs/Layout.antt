@@ -69,6 +69,10 @@ placeBy places unit = places / unit % 16 * 4
 abbrev pub placeOf : TypeRow → Field → ℕ
 placeOf r f = placeBy (r .places) (16 ^ ordinal f)
 
+-- where the length of a type stands: of the message, the segment or the grant, whichever the type has; 0 where it has none
+unfoldable pub lengthPlace : TypeRow → ℕ
+lengthPlace r = foldr (λ f at. pick (eqb (placeOf r f) 0) at (placeOf r f)) 0 (msg-length ∷ seg-length ∷ recv-length ∷ [])
+
 -- ---- the layout
 
 -- those of some fields that pass a test

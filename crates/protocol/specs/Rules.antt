@@ -8,7 +8,7 @@ use Rattle.protocol.specs.declared.table.TypeRow.{TypeRow}
 use Rattle.protocol.specs.declared.sections.Sections.{Sections}
 use Rattle.protocol.specs.Optional.{cq-data, flagSum, flagged, flagsTaken, sections}
 use Rattle.protocol.specs.Optional as Optional
-use Rattle.protocol.specs.Layout.{Field, distinct, layout, multiuse, placeIn, placeOf, width, widths}
+use Rattle.protocol.specs.Layout.{Field, distinct, layout, lengthPlace, multiuse, placeIn, placeOf, width, widths}
 
 -- the widths at which a connid behind the other optional headers is written
 abbrev pub NumberWidth : ℕ → Type 0
@@ -24,6 +24,8 @@ pub record Sound (r : TypeRow) : Type 0 where
   pub header : r .header ≡ 4 + widths (layout r)
   pub placed : (f : Field) → placeIn (layout r) 4 f ≡ placeOf r f
   pub once : distinct (layout r) ≡ true
+  -- the length is one of its fields
+  pub lengthAt : r .«length_at» ≡ lengthPlace r
   -- even a field that the type has not, at 0, would lie inside the header
   pub inside : (f : Field) → placeOf r f + width f ≤ r .header
   -- sums of lengths do not overflow

@@ -11,26 +11,38 @@ use Rattle.protocol.specs.declared.table.Shape.the-variants.{Cts, CtsDat
 use Rattle.protocol.specs.declared.table.Found.{Found}
 use Rattle.protocol.specs.declared.table.Found.the-variants.{Row, Unknown}
 
--- type, shape; bytes of the mandatory header, where its fields stand, bytes of the connid header; tagged, served, a request; flags it must have,
--- flags it may have
-abbrev pub row : ℕ → Shape → ℕ → ℕ → ℕ → Bool → Bool → Bool → ℕ → ℕ → TypeRow
-row k s h p c t e q must may =
-    record { kind = k; shape = s; header = h; places = p; connid = c; tagged = t; served = e; request = q; must = must; may = may }
+-- type, shape; bytes of the mandatory header, where the length stands in it, where all its fields stand, bytes of the connid header; tagged,
+-- served, a request; flags it must have, flags it may have
+abbrev pub row : ℕ → Shape → ℕ → ℕ → ℕ → ℕ → Bool → Bool → Bool → ℕ → ℕ → TypeRow
+row k s h l p c t e q must may =
+    record {
+      kind = k;
+      shape = s;
+      header = h;
+      «length_at» = l;
+      places = p;
+      connid = c;
+      tagged = t;
+      served = e;
+      request = q;
+      must = must;
+      may = may;
+    }
 
 abbrev pub ctsRow : TypeRow
-ctsRow = row 3 Cts 24 (word 1 multiuse + word 2 send-id + word 3 recv-id + word 4 recv-length) 0 false false false 0x0 0x8000
+ctsRow = row 3 Cts 24 16 (word 1 multiuse + word 2 send-id + word 3 recv-id + word 4 recv-length) 0 false false false 0x0 0x8000
 
 -- The 8 bytes that 000 calls a MEDIUM packet's seg_length are the message's length (docs/DECISIONS.md)
 abbrev pub rows : List TypeRow
 rows =
     ctsRow
-    ∷ row 4 CtsData 24 (word 1 recv-id + word 2 seg-length + word 4 seg-offset) 8 false true false 0x0 0x8000
-    ∷ row 64 Eager 8 (word 1 msg-id) 4 false true true 0x4 0x8003
-    ∷ row 65 Eager 16 (word 1 msg-id + word 2 tag) 4 true true true 0xc 0x8003
-    ∷ row 66 Medium 24 (word 1 msg-id + word 2 msg-length + word 4 seg-offset) 4 false true true 0x4 0x8003
-    ∷ row 67 Medium 32 (word 1 msg-id + word 2 msg-length + word 4 seg-offset + word 6 tag) 4 true true true 0xc 0x8003
-    ∷ row 68 LongCts 24 (word 1 msg-id + word 2 msg-length + word 4 send-id + word 5 credit-request) 4 false true true 0x4 0x8003
-    ∷ row 69 LongCts 32 (word 1 msg-id + word 2 msg-length + word 4 send-id + word 5 credit-request + word 6 tag) 4 true true true 0xc 0x8003
+    ∷ row 4 CtsData 24 8 (word 1 recv-id + word 2 seg-length + word 4 seg-offset) 8 false true false 0x0 0x8000
+    ∷ row 64 Eager 8 0 (word 1 msg-id) 4 false true true 0x4 0x8003
+    ∷ row 65 Eager 16 0 (word 1 msg-id + word 2 tag) 4 true true true 0xc 0x8003
+    ∷ row 66 Medium 24 8 (word 1 msg-id + word 2 msg-length + word 4 seg-offset) 4 false true true 0x4 0x8003
+    ∷ row 67 Medium 32 8 (word 1 msg-id + word 2 msg-length + word 4 seg-offset + word 6 tag) 4 true true true 0xc 0x8003
+    ∷ row 68 LongCts 24 8 (word 1 msg-id + word 2 msg-length + word 4 send-id + word 5 credit-request) 4 false true true 0x4 0x8003
+    ∷ row 69 LongCts 32 8 (word 1 msg-id + word 2 msg-length + word 4 send-id + word 5 credit-request + word 6 tag) 4 true true true 0xc 0x8003
     ∷ []
 
 -- the first row of a table with this type

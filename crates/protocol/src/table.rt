@@ -28,6 +28,8 @@ pub struct TypeRow {
     // whether raw address (flag 0x1) and CQ data (flag 0x2) may follow; last, since a byte before the
     // flags leaves a gap behind them, over which the reader would load: 5 ns a packet
     pub request: bool,
+    // where its length stands, of the message, the segment or the grant; 0: the type has none
+    pub length_at: u8,
 }
 
 pub enum Found {
