@@ -1,4 +1,5 @@
 pub mod Fitting
+pub mod Narrow
 pub mod Rows
 pub mod OrderHolds
 pub mod WordsTold

@@ -18,7 +18,7 @@ use Rattle.protocol.specs.declared.types.Written.{Written}
 use Rattle.protocol.specs.Layout.{Field, ownFields, width}
 use Rattle.protocol.specs.Optional.{optionsFit}
 use Rattle.protocol.specs.Types.{rowOf}
-use Rattle.protocol.specs.Writing.{writeOf}
+use Rattle.protocol.specs.Writing.{Outcome, writeOf}
 use Rattle.packet_words.specs.Values.{valueCount}
 
 -- ---- the words of the values
@@ -103,6 +103,13 @@ holds there n = pick (eqb there 0) true (ltb n (2 ^ 32))
 abbrev pub connidFits : List ℕ → Bool
 connidFits v = holds (connidWord v) (connidNumber v)
 
+-- every number of 32 bits is one, whatever fields the type has
+unfoldable pub allNarrow : List ℕ → Bool
+allNarrow v =
+    ltb (numberOf v Field.msg-id) (2 ^ 32)
+    && (ltb (numberOf v Field.recv-id) (2 ^ 32)
+    && (ltb (numberOf v Field.send-id) (2 ^ 32) && (ltb (numberOf v Field.credit-request) (2 ^ 32) && ltb (connidNumber v) (2 ^ 32))))
+
 -- the type's own fields, and a connid that is there
 unfoldable pub numbersFit : TypeRow → List ℕ → Bool
 numbersFit r v = fieldsFit v (ownFields r) && connidFits v
@@ -119,16 +126,21 @@ abbrev pub putAs : ℕ → List ℕ → Written → Put
 putAs size out (Written.Refused k) = record { refusal = k .number; out = out; size = size }
 putAs size out (Written.Length n) = record { refusal = 0; out = out; size = n }
 
+-- of what the packet writer leaves
+abbrev pub putOf : ℕ → Outcome → Put
+putOf size o = putAs size (o .out) (o .answer)
+
 abbrev pub refusedPut : ℕ → List ℕ → ℕ → Put
 refusedPut k out size = record { refusal = k; out = out; size = size }
 
--- 9; then 10 (an optional header its type can't have); then a number that its field cannot hold, the first cause of 11; then the packet writer's own checks: lengths 11, 6, 21
+-- 9; then 10 (an optional header its type can't have); then a number that its field cannot hold, the first cause of 11; then the packet
+-- writer's own checks: lengths 11, 6, 21
 unfoldable pub writeTyped : Found → List ℕ → List ℕ → List ℕ → List ℕ → ℕ → Put
 writeTyped Unknown v raw body out size = refusedPut (badType .number) out size
 writeTyped (Row r) v raw body out size =
     pick (optionsFit r (headerIn v))
     (pick (numbersFit r v)
-    (putAs size (writeOf (headerIn v) raw body out .out) (writeOf (headerIn v) raw body out .answer))
+    (putOf size (writeOf (headerIn v) raw body out))
     (refusedPut (badLength .number) out size))
     (refusedPut (badFlags .number) out size)
 

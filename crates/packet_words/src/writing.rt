@@ -22,7 +22,8 @@ ghost use lib.ListN.{length};
 ghost use Rattle.protocol.specs.Layout.{ownFields};
 ghost use Rattle.protocol.specs.Optional.{optionsFit};
 ghost use Rattle.protocol.specs.Rules.{Sound};
-ghost use Rattle.packet_words.specs.Writing.{fieldsFit, holds, numbersFit, fieldsIn, cqIn, connidIn, headerIn, writeTyped, writeFrom};
+ghost use Rattle.protocol.specs.Writing.{writeOf};
+ghost use Rattle.packet_words.specs.Writing.{allNarrow, fieldsFit, holds, numbersFit, fieldsIn, cqIn, connidIn, headerIn, putOf, writeTyped, writeFrom};
 
 // The least number that 32 bits do not hold.
 const WIDE: u64 = 0x1_0000_0000;
@@ -135,6 +136,46 @@ fn header_in(values: &[u64]) -> Header
     }
 }
 
+// Whether every number of 32 bits is one: then no row has to be looked at for them.
+fn all_narrow(values: &[u64]) -> bool
+    requires { ⌜ 19 ≤ length (now values) ⌝ }
+    ensures { λ r. ⌜ r ≡ allNarrow (now (values .entry)) ⌝ }
+{
+    if WIDE <= values[1] {
+        return false;
+    }
+    if WIDE <= values[2] {
+        return false;
+    }
+    if WIDE <= values[3] {
+        return false;
+    }
+    if WIDE <= values[8] {
+        return false;
+    }
+    values[16] < WIDE
+}
+
+// The packet writer on the header that the words say.
+fn write_header(
+    values: &[u64],
+    raw_address: &[u8],
+    data: &[u8],
+    out: &mut [u8],
+    size: &mut usize,
+) -> usize
+    requires { ⌜ 19 ≤ length (now values) ⌝ }
+    ensures { λ r. ⌜ record { refusal = r; out = now (out .exit); size = now (size .exit) } ≡ putOf (now (size .entry)) (writeOf (headerIn (now (values .entry))) (now («raw_address» .entry)) (now («data» .entry)) (now (out .entry))) ⌝ }
+{
+    match packet::write(header_in(values), raw_address, data, out) {
+        Written::Refused(refusal) => refusal.number as usize,
+        Written::Length(n) => {
+            *size = n;
+            TAKEN
+        }
+    }
+}
+
 // Writes a packet of a type that the table has.
 fn write_as(
     row: TypeRow,
@@ -154,13 +195,7 @@ fn write_as(
     if !numbers_fit(row, values) {
         return BAD_NUMBER;
     }
-    match packet::write(header_in(values), raw_address, data, out) {
-        Written::Refused(refusal) => refusal.number as usize,
-        Written::Length(n) => {
-            *size = n;
-            TAKEN
-        }
-    }
+    write_header(values, raw_address, data, out, size)
 }
 
 // Writes the packet with these values, raw address and data to the start of `out`, puts its length
@@ -180,6 +215,10 @@ pub fn write(
     let kind = values[0];
     if 255 < kind {
         return BAD_TYPE;
+    }
+    // the usual case, in which the packet writer's own checks are all: its type is looked up once
+    if all_narrow(values) {
+        return write_header(values, raw_address, data, out, size);
     }
     match packet::find(kind as u8) {
         Found::Unknown => BAD_TYPE,

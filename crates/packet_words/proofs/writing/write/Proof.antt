@@ -1,12 +1,14 @@
--- `packet_words::writing::write` meets its contract: no type has a number above 255.
+-- `packet_words::writing::write` meets its contract: no type has a number above 255, and where every number of 32 bits is one the packet
+-- writer's own checks are all.
+use borrow.Author.Needs.{needs}
 use borrow.Author.Tests.{lt-leb, le-leb}
 use mathlib.Core.Path.{sym, _∙_}
 use native.Mathlib.Omega.{arith}
 use Rattle.laws.specs.Choose.{pick}
 use Rattle.packet_words.specs.Writing.{writeFrom, writeTyped}
 use Rattle.protocol.proofs.TableRule.{sound}
+use Rattle.packet_words.proofs.Narrow.{written-at-once}
 use Rattle.packet_words.proofs.Rows.{no-type}
-use borrow.Author.Needs.{needs}
 use Rattle.packet_words.proofs.writing.write.Statement.{statement}
 use Rattle.packet_words.proofs.writing.write.Tie as tie
 
@@ -20,6 +22,26 @@ shared-slice-read-kind c = search needs
 returns-2 : tie.Need-returns-2
 unfolding writeFrom writeTyped pick
 returns-2 c = rw (le-leb _ _ (c .before .before .if1 .left), no-type _ (c .if2 .taken))
+
+all-narrow-requires : tie.Need-all-narrow-requires
+all-narrow-requires c κs = search needs
+
+write-header-requires : tie.Need-write-header-requires
+write-header-requires c κs = search needs
+
+same-length : tie.Need-same-length
+same-length c = search needs
+
+returns-3 : tie.Need-returns-3
+unfolding writeFrom pick
+returns-3 c =
+    let w = c .before .before in
+    let t = w .before .before .before in
+    let n = t .before in
+    let k = n .before .before in
+    rw (le-leb _ _ (k .before .if1 .left))
+    (w .write-header .ensures
+    ∙ sym (written-at-once _ (λ i. k .shared-slice-known4 .given i .fits) (sym (n .all-narrow .ensures) ∙ t .if3 .taken) _ _ _ _ (omega arith)))
 
 cast-find : tie.Need-cast-find
 cast-find c = search needs
@@ -38,16 +60,21 @@ write-as-requires c κs =
     let w = c .before .before .before in
     (sound _ _ (sym (w .before .before .find .ensures) ∙ w .row .given .1), omega arith)
 
-returns-3 : tie.Need-returns-3
-unfolding writeFrom writeTyped pick
-returns-3 c = rw (le-leb _ _ (c .before .before .before .before .before .if1 .left), ← c .before .before .find .ensures, c .enum-told .given .1)
-
-same-length : tie.Need-same-length
-same-length c = search needs
-
 returns-4 : tie.Need-returns-4
+unfolding writeFrom writeTyped pick
+returns-4 c =
+    let f = c .before .before in
+    rw (le-leb _ _ (f .before .before .before .before .before .if1 .left), ← f .find .ensures, c .enum-told .given .1)
+
+same-length-2 : tie.Need-same-length-2
+same-length-2 c = search needs
+
+returns-5 : tie.Need-returns-5
 unfolding writeFrom pick
-returns-4 c = rw (le-leb _ _ (c .before .before .before .before .before .before .before .before .before .before .before .if1 .left), ← c .before .before .before .before .before .before .before .before .find .ensures, c .before .before .before .before .before .before .row .given .1) (c .before .before .write-as .ensures)
+returns-5 c =
+    let r = c .before .before .before .before .before .before in
+    let f = r .before .before in
+    rw (le-leb _ _ (f .before .before .before .before .before .if1 .left), ← f .find .ensures, r .row .given .1) (c .before .before .write-as .ensures)
 
 pub write-spec : {M : Type 1} → statement M
 write-spec =
@@ -56,11 +83,15 @@ write-spec =
     returns
     shared-slice-read-kind
     returns-2
+    all-narrow-requires
+    write-header-requires
+    same-length
+    returns-3
     cast-find
     find-requires
     enum-told
     enum-known-row
     write-as-requires
-    returns-3
-    same-length
-    returns-4)
+    returns-4
+    same-length-2
+    returns-5)
