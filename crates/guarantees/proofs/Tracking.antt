@@ -2,7 +2,7 @@
 use Prim.Native.Nat.{ℕ, _+_, _*_, _≤_, _<_}
 use lib.ListN.{length, getD, take}
 use lib.Seq.{ext-getD}
-use mathlib.Core.List.{List}
+use mathlib.Core.List.{List, []}
 use mathlib.Core.Path.{_≡_, refl, sym, ap, _∙_, subst, subst₂}
 use native.Mathlib.Decide.{decLt}
 use native.Mathlib.Omega.{arith}
@@ -27,6 +27,7 @@ use Rattle.engine.proofs.Worlds.{Good, byte-other, byte-own, byteIn, good-turn,
 use Rattle.laws.proofs.Reading.{getD-part}
 use Rattle.laws.proofs.Storing.{length-part, part-store}
 use Rattle.peer.proofs.Agreement.{Agrees}
+use Rattle.peer.proofs.AnswerLaws.{taken-same}
 use Rattle.peer.proofs.CoverageLaws.{Wrote, byte-at, length-bytes}
 use Rattle.peer.proofs.Entered.{agrees-kept}
 use Rattle.peer.proofs.HistoryFacts.{outcome}
@@ -53,14 +54,8 @@ buffer-reply buffer reply e h = ap (λ (n : ℕ). take n (storeAt buffer 0 reply
 -- of a grant the first 24 bytes of the buffer are the reply, of any other answer there is none
 reply-seen : (t : Target) (a : Answer) (buffer reply : List ℕ) → reply ≡ expectedReply t a → ((n : ℕ) → a ≡ Answer.Granted n → (length reply ≡ 24) × (24 ≤ length buffer))
     → replySeen (storeAt buffer 0 reply) a ≡ expectedReply t a
-reply-seen t (Answer.Refused k) buffer reply e g = refl
-reply-seen t (Answer.Posted i) buffer reply e g = refl
-reply-seen t (Answer.Cancelled i) buffer reply e g = refl
-reply-seen t Answer.Stored buffer reply e g = refl
-reply-seen t (Answer.Granted n) buffer reply e g = buffer-reply buffer reply (g n refl .0) (g n refl .1) ∙ e
-reply-seen t (Answer.Done i id n cq) buffer reply e g = refl
-reply-seen t (Answer.Truncated i id n) buffer reply e g = refl
-reply-seen t (Answer.Missing c o) buffer reply e g = refl
+reply-seen t a buffer reply e g =
+    taken-same [] a (λ n x. buffer-reply buffer reply (g n x .0) (g n x .1) ∙ e ∙ ap (expectedReply t) x) (λ i id n cq x. refl)
 
 -- the bytes of a done message
 part-bytes : (arena : List ℕ) (at n : ℕ) (gs : List Segment) → at + n ≤ length arena → ((o : ℕ) → o < n → getD arena (at + o) 0 ≡ byteOf gs o)
@@ -75,16 +70,11 @@ bytes-seen : (arena : List ℕ) (base area : ℕ) (starts : List ℕ) (gs : List
     → ((i id n : ℕ) (cq : CqData) → a ≡ Answer.Done i id n cq
     → (getD starts i 0 + n ≤ area) × ((o : ℕ) → o < n → getD arena (base + (getD starts i 0 + o)) 0 ≡ byteOf gs o))
     → bytesSeen arena base starts a ≡ expectedBytes gs a
-bytes-seen arena base area starts gs (Answer.Refused k) h d = refl
-bytes-seen arena base area starts gs (Answer.Posted i) h d = refl
-bytes-seen arena base area starts gs (Answer.Cancelled i) h d = refl
-bytes-seen arena base area starts gs Answer.Stored h d = refl
-bytes-seen arena base area starts gs (Answer.Granted n) h d = refl
-bytes-seen arena base area starts gs (Answer.Done i id n cq) h d =
-    let (inside, byte) = d i id n cq refl in
-    part-bytes arena (base + getD starts i 0) n gs (omega arith) (λ o l. ap (λ (k : ℕ). getD arena k 0) (omega arith) ∙ byte o l)
-bytes-seen arena base area starts gs (Answer.Truncated i id n) h d = refl
-bytes-seen arena base area starts gs (Answer.Missing c o) h d = refl
+bytes-seen arena base area starts gs a h d =
+    taken-same [] a (λ n x. refl)
+    (λ i id n cq x.
+    let (inside, byte) = d i id n cq x in
+    part-bytes arena (base + getD starts i 0) n gs (omega arith) (λ o l. ap (λ (k : ℕ). getD arena k 0) (omega arith) ∙ byte o l))
 
 -- ---- the peer's own call
 

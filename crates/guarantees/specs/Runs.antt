@@ -7,6 +7,7 @@ use Rattle.laws.specs.Choose.{pick}
 use Rattle.laws.specs.Parts.{part, storeAt}
 use Rattle.peer.specs.declared.types.Receive.{Receive}
 use Rattle.peer.specs.declared.types.Answer.{Answer}
+use Rattle.peer.specs.Answers.{onDone, onGranted}
 use Rattle.peer.specs.Calls.{Call}
 use Rattle.peer.specs.Says.{Saying, said}
 use Rattle.peer.specs.Starts.{noteStart}
@@ -69,25 +70,11 @@ pub record Seen : Type 0 where
   pub bytes : List ℕ
 
 abbrev pub replySeen : List ℕ → Answer → List ℕ
-replySeen buffer (Answer.Refused k) = []
-replySeen buffer (Answer.Posted i) = []
-replySeen buffer (Answer.Cancelled i) = []
-replySeen buffer Answer.Stored = []
-replySeen buffer (Answer.Granted n) = take 24 buffer
-replySeen buffer (Answer.Done i id n cq) = []
-replySeen buffer (Answer.Truncated i id n) = []
-replySeen buffer (Answer.Missing c o) = []
+replySeen buffer a = onGranted [] (λ n. take 24 buffer) a
 
 -- "the arena from p×A + start on, for the message's length", where the peer's area begins at base
 abbrev pub bytesSeen : List ℕ → ℕ → List ℕ → Answer → List ℕ
-bytesSeen arena base starts (Answer.Refused k) = []
-bytesSeen arena base starts (Answer.Posted i) = []
-bytesSeen arena base starts (Answer.Cancelled i) = []
-bytesSeen arena base starts Answer.Stored = []
-bytesSeen arena base starts (Answer.Granted n) = []
-bytesSeen arena base starts (Answer.Done i id n cq) = part arena (base + getD starts i 0) n
-bytesSeen arena base starts (Answer.Truncated i id n) = []
-bytesSeen arena base starts (Answer.Missing c o) = []
+bytesSeen arena base starts a = onDone [] (λ i id n cq. part arena (base + getD starts i 0) n) a
 
 abbrev pub seenAt : ℕ → World → List ℕ → Request → Seen
 seenAt p w starts q =

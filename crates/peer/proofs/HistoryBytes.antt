@@ -17,6 +17,7 @@ use Rattle.peer.specs.declared.types.Answer.{Answer}
 use Rattle.peer.specs.declared.types.Inbound.{Inbound}
 use Rattle.peer.specs.declared.types.Incoming.{Incoming}
 use Rattle.laws.proofs.Choosing.{clashing, or-left, or-right, pick-false, pick-true}
+use Rattle.peer.proofs.AnswerLaws.{claim-from}
 use Rattle.peer.proofs.CoverageLaws.{all-at, inside-end}
 use Rattle.peer.proofs.HistoryFacts.{Aims, Outcome, begins, bytesOf, goesOn, headOf, outcome}
 use Rattle.peer.proofs.HistorySerials.{waits}
@@ -117,21 +118,17 @@ apart-lasts limit =
 -- ---- the claim
 
 bytes-claim : (limit : ℕ) (l : Plain) (c : Call) (t : Target) (a : Answer) → Every (λ (e : Entry). Apart (e .segments)) l → Outcome limit l c t a → BytesClaim t a
-bytes-claim limit l c t (Answer.Refused k) f w = tt
-bytes-claim limit l c t (Answer.Posted i) f w = tt
-bytes-claim limit l c t (Answer.Cancelled i) f w = tt
-bytes-claim limit l c t Answer.Stored f w = tt
-bytes-claim limit l c t (Answer.Granted n) f w = tt
-bytes-claim limit l c t (Answer.Done slot id n cq) f w = (
-  length-bytes (t .entry .segments) 0 n,
-  λ o h.
-      let at : 0 + o ≡ o = omega arith in
-      subst (ByteFrom (t .entry .segments) o) (sym (bytes-at (t .entry .segments) 0 n o h ∙ ap (byteOf (t .entry .segments)) at))
-      (byte-from (t .entry .segments) o (apart-lasts limit .takesIn l c t f (w .taken))
-      (ap (covers (t .entry .segments)) (sym at) ∙ all-at (covers (t .entry .segments)) 0 _ o (w .covered) (omega (arith, w .lengthIs)))),
-)
-bytes-claim limit l c t (Answer.Truncated slot id n) f w = tt
-bytes-claim limit l c t (Answer.Missing c′ o) f w = tt
+bytes-claim limit l c t a f w =
+    claim-from a (λ e u. tt) (λ e x. tt) (λ n e x. tt)
+    (λ slot id n cq e x. (
+      length-bytes (t .entry .segments) 0 n,
+      λ o h.
+          let at : 0 + o ≡ o = omega arith in
+          subst (ByteFrom (t .entry .segments) o) (sym (bytes-at (t .entry .segments) 0 n o h ∙ ap (byteOf (t .entry .segments)) at))
+          (byte-from (t .entry .segments) o (apart-lasts limit .takesIn l c t f (x .taken))
+          (ap (covers (t .entry .segments)) (sym at) ∙ all-at (covers (t .entry .segments)) 0 _ o (x .covered) (omega (arith, x .lengthIs)))),
+    ))
+    (λ slot id n e x. tt) w
 
 pub bytes-by-segments : BytesBySegments
 unfolding BytesBySegments

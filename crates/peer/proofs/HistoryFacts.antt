@@ -13,6 +13,7 @@ use Rattle.protocol.specs.Values.{bytesAt}
 use Rattle.protocol.specs.declared.types.CqData.{CqData}
 use Rattle.protocol.specs.declared.types.Packet.{Packet}
 use Rattle.protocol.specs.declared.types.Read.{Read}
+use Rattle.peer.specs.Answers.{onTaken}
 use Rattle.peer.specs.Calls.{Call, cancel, packet, post, report}
 use Rattle.peer.specs.Claims.{takes}
 use Rattle.peer.specs.Coverage.{Segment, allOf, covers}
@@ -30,6 +31,7 @@ use Rattle.peer.specs.declared.types.Incoming.{Incoming}
 use Rattle.peer.specs.declared.types.Receive.{Receive}
 use Rattle.peer.specs.declared.types.Vacancy.{Vacancy}
 use Rattle.laws.proofs.Choosing.{and-left, and-right, branch}
+use Rattle.peer.proofs.AnswerLaws.{claim-from, claim-taken}
 use Rattle.peer.proofs.EntrySearch.{Foremost, foremost, open-at}
 use Rattle.peer.proofs.Verdicts.{medium-only}
 
@@ -80,6 +82,10 @@ taken-role w = go (w .aims)
     go (goesOn i o g) = g .role
     go (begins i r serial m) = refl
 
+-- one message in one role
+pub same-message : {u : Role} {o m : Inbound} → u ≡ receiving o → u ≡ receiving m → o ≡ m
+same-message e f = cc
+
 -- ---- what an answer says
 
 -- a message that is matched now is no longer than its receive
@@ -117,25 +123,12 @@ pub record Wholly (limit : ℕ) (l : Plain) (c : Call) (t : Target) (slot id n :
   pub fits : Fitting (t .matched) (taken .message)
 
 abbrev pub Outcome : ℕ → Plain → Call → Target → Answer → Type 0
-Outcome limit l c t (Answer.Refused k) = Unit {0}
-Outcome limit l c t (Answer.Posted i) = Unit {0}
-Outcome limit l c t (Answer.Cancelled i) = Unit {0}
-Outcome limit l c t Answer.Stored = Partly limit l c t
-Outcome limit l c t (Answer.Granted n) = Granting limit l c t n
-Outcome limit l c t (Answer.Done slot id n cq) = Wholly limit l c t slot id n cq
-Outcome limit l c t (Answer.Truncated slot id n) = Cut limit l c t slot id n
-Outcome limit l c t (Answer.Missing c′ o) = Unit {0}
+Outcome limit l c t a =
+    onTaken (Unit {0}) (Partly limit l c t) (Granting limit l c t) (Wholly limit l c t) (Cut limit l c t) a
 
 -- an answer that takes the packet
 pub taken-by : {limit : ℕ} {l : Plain} {c : Call} {t : Target} (a : Answer) → Outcome limit l c t a → takes a ≡ true → Taken limit l c t
-taken-by (Answer.Refused k) w e = absurd (false≢true e)
-taken-by (Answer.Posted i) w e = absurd (false≢true e)
-taken-by (Answer.Cancelled i) w e = absurd (false≢true e)
-taken-by Answer.Stored w e = w .taken
-taken-by (Answer.Granted n) w e = w .partly .taken
-taken-by (Answer.Done slot id n cq) w e = w .taken
-taken-by (Answer.Truncated slot id n) w e = w .taken
-taken-by (Answer.Missing c o) w e = absurd (false≢true e)
+taken-by a w e = claim-taken a (claim-from a (λ e u. tt) (λ e x. x .taken) (λ n e x. x .partly .taken) (λ i id n cq e x. x .taken) (λ i id n e x. x .taken) w) e
 
 -- ---- the tests, one after the other
 

@@ -21,8 +21,9 @@ use Rattle.peer.specs.declared.types.Inbound.{Inbound}
 use Rattle.peer.specs.declared.types.Incoming.{Incoming}
 use Rattle.peer.specs.declared.types.Receive.{Receive}
 use Rattle.laws.proofs.Choosing.{or-cases}
+use Rattle.peer.proofs.AnswerLaws.{claim-from}
 use Rattle.peer.proofs.CoverageLaws.{all-at, inside-end}
-use Rattle.peer.proofs.HistoryFacts.{Aims, Outcome, Taken, begins, bytesOf, goesOn, headOf, outcome, taken-role}
+use Rattle.peer.proofs.HistoryFacts.{Aims, Outcome, Taken, begins, bytesOf, goesOn, headOf, outcome, same-message, taken-role}
 use Rattle.peer.proofs.HistorySerials.{waits}
 use Rattle.peer.proofs.HistorySteps.{Every, Lasting, every-entry}
 use Rattle.peer.proofs.PacketsRead.{read-formed}
@@ -128,31 +129,25 @@ few-grants limit n e o big p short =
     le-div-iff-mul-le {k = limit - 32} (omega arith) .1 (omega (arith, suc-mul (length (e .grants)) (limit - 32), p .reach short))
 
 grant-claim : (limit : ℕ) (l : Plain) (c : Call) (t : Target) (a : Answer) → 64 ≤ limit → Every (Pays limit) l → Outcome limit l c t a → GrantClaim limit t a
-grant-claim limit l c t (Answer.Refused k) big f w = tt
-grant-claim limit l c t (Answer.Posted i) big f w = tt
-grant-claim limit l c t (Answer.Cancelled i) big f w = tt
-grant-claim limit l c t Answer.Stored big f w = tt
-grant-claim limit l c t (Answer.Granted n) big f w =
-    let taken = w .partly .taken in
-    let q = taken .message in
-    let known = taken-role taken in
+grant-claim limit l c t a big f w =
+    claim-from a (λ e u. tt) (λ e x. tt)
+    (λ n e x.
+    let taken = x .partly .taken in
     record {
       few = λ o role.
-          let same : q ≡ o = cc in
+          let same : taken .message ≡ o = same-message (taken-role taken) role in
           subst (λ (x : Inbound). length (n ∷ t .entry .grants) ≤ roundUp (x .message .length - t .entry .rtm) (limit - 32)) same
-          (few-grants limit n (t .entry) q big (paid-taken limit l c t f taken) (w .short));
-    }
-grant-claim limit l c t (Answer.Done slot id n cq) big f w =
-    let q = w .taken .message in
-    let known = taken-role (w .taken) in
+          (few-grants limit n (t .entry) (taken .message) big (paid-taken limit l c t f taken) (x .short));
+    })
+    (λ slot id n cq e x.
     record {
       adds = λ o role long.
-          let same : o ≡ q = cc in
-          all-granted limit (t .entry) q (paid-taken limit l c t f (w .taken)) (w .covered) (ap (λ (x : Inbound). isLong (x .message .shape)) (sym same) ∙ long)
-          ∙ sym (w .lengthIs);
-    }
-grant-claim limit l c t (Answer.Truncated slot id n) big f w = tt
-grant-claim limit l c t (Answer.Missing c′ o) big f w = tt
+          let same : o ≡ x .taken .message = same-message role (taken-role (x .taken)) in
+          all-granted limit (t .entry) (x .taken .message) (paid-taken limit l c t f (x .taken)) (x .covered)
+          (ap (λ (y : Inbound). isLong (y .message .shape)) (sym same) ∙ long)
+          ∙ sym (x .lengthIs);
+    })
+    (λ slot id n e x. tt) w
 
 pub grants-bounded : GrantsBounded
 unfolding GrantsBounded

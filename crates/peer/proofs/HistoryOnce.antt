@@ -14,8 +14,9 @@ use Rattle.peer.specs.Plain.{Entry, Plain, Role, Target, enter, freshPla
 use Rattle.peer.specs.declared.types.Answer.{Answer}
 use Rattle.peer.specs.declared.types.Inbound.{Inbound}
 use Rattle.peer.specs.declared.types.Incoming.{Incoming}
-use Rattle.laws.proofs.Choosing.{branch, clashing, pick-first}
+use Rattle.laws.proofs.Choosing.{branch, clashing, pick-first, tested}
 use Rattle.laws.proofs.Listing.{set-there}
+use Rattle.peer.proofs.AnswerLaws.{untaken-is}
 use Rattle.peer.proofs.HistoryFacts.{Aims, Taken, begins, goesOn}
 use Rattle.peer.proofs.HistorySerials.{Numbered, Passes, aims-used, fresh-numbered, goes-on, numbered, passes, roleAt, serialAt, stays, used, waits}
 use Rattle.peer.proofs.HistorySteps.{Entered, asBefore, entered, withCancel, withEnd, withGrant, withPost, withSegment}
@@ -59,14 +60,7 @@ match-ends {limit} {l} {c} {t} {a} {l′} w x = go w (m .0) (m .1)
     go (withEnd t a w k) x y = ended w noEntry y refl
 
 done-takes : (t : Target) (a : Answer) → isDone t a ≡ true → takes a ≡ true
-done-takes t (Answer.Refused k) e = e
-done-takes t (Answer.Posted i) e = e
-done-takes t (Answer.Cancelled i) e = e
-done-takes t Answer.Stored e = refl
-done-takes t (Answer.Granted n) e = refl
-done-takes t (Answer.Done slot id n cq) e = e
-done-takes t (Answer.Truncated slot id n) e = refl
-done-takes t (Answer.Missing c o) e = e
+done-takes t a e = ⊎-elim (λ x. x) (λ x. clashing (isDone t a) e (untaken-is false false (λ n. false) (λ i id n cq. true) (λ i id n. false) a x)) (tested (takes a))
 
 -- a done ends a receive's use
 done-ends : {limit : ℕ} {l : Plain} {c : Call} {t : Target} {a : Answer} {l′ : Plain} → Entered limit l c t a l′ → isDone t a ≡ true

@@ -19,6 +19,7 @@ use Rattle.peer.specs.declared.types.Answer.{Answer}
 use Rattle.peer.specs.declared.types.Inbound.{Inbound}
 use Rattle.peer.specs.declared.types.Incoming.{Incoming}
 use Rattle.peer.specs.declared.types.Receive.{Receive}
+use Rattle.peer.proofs.AnswerLaws.{claim-from}
 use Rattle.peer.proofs.HistoryFacts.{Aims, Brings, Fitting, Outcome, Taken, begins, goesOn, headOf, outcome, taken-by}
 
 in-order : {l : Plain} {h : Incoming} {bytes : List ℕ} {t : Target} {o : Inbound} (q : Packet) → incomingOf q ≡ h → Aims l h bytes t o
@@ -70,23 +71,18 @@ module _ (limit : ℕ) (l : Plain) (bs : List ℕ) (room : ℕ) (q : Packet) (e 
       }
 
   claim : (a : Answer) → Outcome limit l (packet bs room) t a → TruncateClaim l q t a
-  claim (Answer.Refused k) w = tt
-  claim (Answer.Posted i) w = tt
-  claim (Answer.Cancelled i) w = tt
-  claim Answer.Stored w = roomy (w .taken) (w .fits)
-  claim (Answer.Granted n) w = roomy (w .partly .taken) (w .partly .fits)
-  claim (Answer.Done slot id n cq) w = roomy (w .taken) (w .fits)
-  claim (Answer.Truncated slot id n) w =
-      let head = same-head limit bs room q e (w .taken .brings) in
-      let order = in-order q head (w .taken .aims) (w .matched) in
+  claim a w =
+      claim-from a (λ e u. tt) (λ e x. roomy (x .taken) (x .fits)) (λ n e x. roomy (x .partly .taken) (x .partly .fits)) (λ slot id n cq e x. roomy (x .taken) (x .fits))
+      (λ slot id n is x.
+      let head = same-head limit bs room q e (x .taken .brings) in
+      let order = in-order q head (x .taken .aims) (x .matched) in
       record {
         order = order;
-        slotIs = w .slotIs;
-        idIs = w .idIs ∙ ap (λ (h : Incoming). h .id) (sym head);
-        lengthIs = w .lengthIs ∙ ap (λ (h : Incoming). h .length) (sym head);
-        above = subst (λ (r : Receive). r .capacity < n) (waited q head (w .taken .aims) (w .matched) order .0) (w .above);
-      }
-  claim (Answer.Missing c o) w = tt
+        slotIs = x .slotIs;
+        idIs = x .idIs ∙ ap (λ (h : Incoming). h .id) (sym head);
+        lengthIs = x .lengthIs ∙ ap (λ (h : Incoming). h .length) (sym head);
+        above = subst (λ (r : Receive). r .capacity < n) (waited q head (x .taken .aims) (x .matched) order .0) (x .above);
+      }) w
 
 pub truncated-above-capacity : TruncatedAboveCapacity
 unfolding TruncatedAboveCapacity

@@ -14,6 +14,7 @@ pub mod Yields
 pub mod Replies
 pub mod RefusedCalls
 pub mod EntrySearch
+pub mod AnswerLaws
 pub mod HistoryFacts
 pub mod HistorySteps
 pub mod HistoryDone

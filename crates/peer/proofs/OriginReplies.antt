@@ -2,14 +2,15 @@
 -- the statements of specs/Origins.antt on replies and writes.
 use Prim.Native.Nat.{ℕ, _+_, _-_, _^_, _≤_, _<_, min, max}
 use lib.ListN.{length, getD}
-use mathlib.Core.List.{List, _∷_}
+use mathlib.Core.List.{List, [], _∷_}
 use mathlib.Core.Logic.{_⊎_, inl, inr}
-use mathlib.Core.Path.{_≡_, refl, sym, ap, _∙_, subst, subst₂}
+use mathlib.Core.Path.{_≡_, sym, ap, _∙_, subst, subst₂}
 use native.Mathlib.Nat.{mul-le-mul}
 use native.Mathlib.Omega.{arith}
 use Rattle.protocol.specs.Cts.{ctsBytes}
 use Rattle.protocol.specs.CtsWords.{CtsReadBack, ReadsAsCts}
 use Rattle.protocol.specs.InWords.{NumbersAreLittleEndian}
+use Rattle.peer.specs.Answers.{onAccepted}
 use Rattle.peer.specs.Calls.{Call}
 use Rattle.peer.specs.Claims.{SegmentIn, WriteClaim, history}
 use Rattle.peer.specs.Coverage.{Segment}
@@ -18,9 +19,9 @@ use Rattle.peer.specs.Expected.{expected, expectedReply, messageIn, mess
 use Rattle.laws.specs.Choose.{pick}
 use Rattle.peer.specs.InWords.{LongIs68And69}
 use Rattle.peer.specs.Incomings.{isLong}
-use Rattle.peer.specs.Origins.{AcceptedFromOrigin, Comes, GrantIsACts, Origin, OriginClaim, OwnClaim, OwnSegment, ReplyClaim}
+use Rattle.peer.specs.Origins.{AcceptedFromOrigin, Comes, GrantIsACts, Origin, OriginClaim, OwnClaim, OwnSegment, ReplyClaim, originOfCall, originsOf}
 use Rattle.peer.specs.PacketBytes.{idIn, lengthAs, lengthIn, offsetIn, typeIn}
-use Rattle.peer.specs.Plain.{Plain, Role, Target, receiving, segmentOf}
+use Rattle.peer.specs.Plain.{Plain, Target, segmentOf}
 use Rattle.peer.specs.declared.types.Answer.{Answer}
 use Rattle.peer.specs.declared.types.Inbound.{Inbound}
 use Rattle.peer.specs.declared.types.Incoming.{Incoming}
@@ -29,8 +30,9 @@ use Rattle.peer.specs.declared.types.Receive.{Receive}
 use Rattle.wire.specs.LittleEndian.{leAt}
 use Rattle.protocol.proofs.CtsRead.{cts-read-back}
 use Rattle.protocol.proofs.WordsHold.{numbers-are-little-endian}
+use Rattle.peer.proofs.AnswerLaws.{claim-both, untaken-is}
 use Rattle.peer.proofs.BytesHold.{bytes-told, read-says}
-use Rattle.peer.proofs.HistoryFacts.{Aims, Granting, Outcome, Taken, begins, bytesOf, goesOn, headOf, outcome, taken-role}
+use Rattle.peer.proofs.HistoryFacts.{Aims, Granting, Outcome, Taken, begins, bytesOf, goesOn, headOf, outcome, same-message, taken-role}
 use Rattle.peer.proofs.OriginsHold.{accepted-from-origin}
 use Rattle.peer.proofs.WordsHold.{long-is-68-and-69}
 
@@ -57,10 +59,6 @@ long-length : (bs : List ℕ) → (typeIn bs ≡ 68) ⊎ (typeIn bs ≡ 69) → 
 unfolding lengthIn pick
 long-length bs (inl e) = ap (λ (k : ℕ). lengthAs k bs) e
 long-length bs (inr e) = ap (λ (k : ℕ). lengthAs k bs) e
-
--- one message in one role
-same-message : {u : Role} {o m : Inbound} → u ≡ receiving o → u ≡ receiving m → o ≡ m
-same-message e f = cc
 
 module _ (limit : ℕ) (low : 64 ≤ limit) (l : Plain) (c : Call) (t : Target) (g : Origin) where
   granted-cts : (n : ℕ) → Granting limit l c t n → Comes g t → ReplyClaim g (Answer.Granted n) (expectedReply t (Answer.Granted n))
@@ -102,20 +100,17 @@ module _ (limit : ℕ) (low : 64 ≤ limit) (l : Plain) (c : Call) (t : Target) 
       recv = ap (λ (x : Message). x .id) message ∙ k .begun .id
 
   reply-claim : (a : Answer) → Outcome limit l c t a → OriginClaim g t a → ReplyClaim g a (expectedReply t a)
-  reply-claim (Answer.Refused k) w o = refl
-  reply-claim (Answer.Posted i) w o = refl
-  reply-claim (Answer.Cancelled i) w o = refl
-  reply-claim Answer.Stored w o = refl
-  reply-claim (Answer.Granted n) w o = granted-cts n w o
-  reply-claim (Answer.Done slot id n cq) w o = refl
-  reply-claim (Answer.Truncated slot id n) w o = refl
-  reply-claim (Answer.Missing x y) w o = refl
+  reply-claim a w o =
+      claim-both a (λ e x y. untaken-is [] [] _ (λ i id n cq. []) (λ i id n. []) a e) (λ e x y. ap (expectedReply t) e)
+      (λ n e x y. subst (λ (b : Answer). ReplyClaim g (Answer.Granted n) (expectedReply t b)) (sym e) (granted-cts n x y))
+      (λ slot id n cq e x y. ap (expectedReply t) e) (λ slot id n e x y. ap (expectedReply t) e) w o
 
 pub grant-is-a-cts : GrantIsACts
 unfolding GrantIsACts
 grant-is-a-cts area limit calls c low =
     let l : Plain = history area limit calls in
-    reply-claim limit low l c _ _ (expected area limit l c) (outcome area limit l c) (unfold AcceptedFromOrigin in accepted-from-origin area limit calls c)
+    reply-claim limit low l c _ (originOfCall limit l (originsOf area limit calls) c (expected area limit l c)) (expected area limit l c)
+    (outcome area limit l c) (unfold AcceptedFromOrigin in accepted-from-origin area limit calls c)
 
 -- ---- what is written
 
@@ -150,11 +145,10 @@ module _ (area limit : ℕ) (l : Plain) (c : Call) (t : Target) (g : Origin) (at
       offset = ap (λ (x : Segment). x .offset) is ∙ read-says limit (w .brings .text) (w .brings .read) (w .brings .reads) .offset
 
   pub own-claim : (a : Answer) → Outcome limit l c t a → OriginClaim g t a → WriteClaim area t a at bytes → OwnClaim area g c a at bytes
-  own-claim (Answer.Refused k) w o s = s
-  own-claim (Answer.Posted i) w o s = s
-  own-claim (Answer.Cancelled i) w o s = s
-  own-claim Answer.Stored w o s = own-segment (w .taken) o s
-  own-claim (Answer.Granted n) w o s = own-segment (w .partly .taken) o s
-  own-claim (Answer.Done slot id n cq) w o s = own-segment (w .taken) (o .comes) s
-  own-claim (Answer.Truncated slot id n) w o s = s
-  own-claim (Answer.Missing x y) w o s = s
+  own-claim a w o s =
+      claim-both a (λ e f x. x) (λ e f x. f x) (λ n e f x. f x) (λ slot id n cq e f x. f x) (λ slot id n e f x. x) own s
+    where
+      own : onAccepted (Unit {0}) (SegmentIn area t at bytes → OwnSegment area g c at bytes) a
+      own =
+          claim-both a (λ e x y. tt) (λ e x y. own-segment (x .taken) y) (λ n e x y. own-segment (x .partly .taken) y)
+          (λ slot id n cq e x y. own-segment (x .taken) (y .comes)) (λ slot id n e x y. tt) w o

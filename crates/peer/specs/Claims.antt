@@ -11,6 +11,7 @@ use Rattle.protocol.specs.Reading.{readOf}
 use Rattle.peer.specs.declared.types.Answer.{Answer}
 use Rattle.peer.specs.declared.types.Inbound.{Inbound}
 use Rattle.peer.specs.declared.types.Receive.{Receive}
+use Rattle.peer.specs.Answers.{onAccepted, onDone, onGranted, onTaken}
 use Rattle.peer.specs.Calls.{Call, cancel, packet, post, report}
 use Rattle.peer.specs.Coverage.{Segment, covers, inside, allOf}
 use Rattle.peer.specs.Expected.{expected, targetOfCall, expectedBytes}
@@ -47,14 +48,7 @@ pub record Unfinished (t : Target) : Type 0 where
   pub covered : Covered t message false
 
 abbrev pub DoneClaim : Target → Answer → Type 0
-DoneClaim t (Answer.Refused k) = Unit {0}
-DoneClaim t (Answer.Posted i) = Unit {0}
-DoneClaim t (Answer.Cancelled i) = Unit {0}
-DoneClaim t Answer.Stored = Unfinished t
-DoneClaim t (Answer.Granted n) = Unfinished t
-DoneClaim t (Answer.Done slot id n cq) = Finished t slot id n
-DoneClaim t (Answer.Truncated slot id n) = Unit {0}
-DoneClaim t (Answer.Missing c o) = Unit {0}
+DoneClaim t a = onTaken (Unit {0}) (Unfinished t) (λ n. Unfinished t) (λ slot id n cq. Finished t slot id n) (λ slot id n. Unit {0}) a
 
 -- "reported done exactly then ..: at its match if empty, otherwise at the packet with which accepted segments have covered every byte"
 unfoldable pub DoneWhenCovered : Type 0
@@ -77,25 +71,11 @@ pub record InOrder (l : Plain) (q : Packet) (t : Target) : Type 0 where
 
 -- the answer takes the packet: it accepts its segment, or truncates its message
 abbrev pub takes : Answer → Bool
-takes (Answer.Refused k) = false
-takes (Answer.Posted i) = false
-takes (Answer.Cancelled i) = false
-takes Answer.Stored = true
-takes (Answer.Granted n) = true
-takes (Answer.Done slot id n cq) = true
-takes (Answer.Truncated slot id n) = true
-takes (Answer.Missing c o) = false
+takes a = onTaken false true (λ n. true) (λ slot id n cq. true) (λ slot id n. true) a
 
 -- the answer comes with a CTS
 abbrev pub isGrant : Answer → Bool
-isGrant (Answer.Refused k) = false
-isGrant (Answer.Posted i) = false
-isGrant (Answer.Cancelled i) = false
-isGrant Answer.Stored = false
-isGrant (Answer.Granted n) = true
-isGrant (Answer.Done slot id n cq) = false
-isGrant (Answer.Truncated slot id n) = false
-isGrant (Answer.Missing c o) = false
+isGrant a = onGranted false (λ n. true) a
 
 -- "messages are matched in message order to the oldest fitting receive"
 unfoldable pub MatchedInOrder : Type 0
@@ -121,14 +101,8 @@ pub record HasRoom (l : Plain) (q : Packet) (t : Target) : Type 0 where
   pub roomy : (m : t .matched ≡ true) (i : InOrder l q t) → incomingOf q .length ≤ i .receive .capacity
 
 abbrev pub TruncateClaim : Plain → Packet → Target → Answer → Type 0
-TruncateClaim l q t (Answer.Refused k) = Unit {0}
-TruncateClaim l q t (Answer.Posted i) = Unit {0}
-TruncateClaim l q t (Answer.Cancelled i) = Unit {0}
-TruncateClaim l q t Answer.Stored = HasRoom l q t
-TruncateClaim l q t (Answer.Granted n) = HasRoom l q t
-TruncateClaim l q t (Answer.Done slot id n cq) = HasRoom l q t
-TruncateClaim l q t (Answer.Truncated slot id n) = Truncates l q t slot id n
-TruncateClaim l q t (Answer.Missing c o) = Unit {0}
+TruncateClaim l q t a =
+    onTaken (Unit {0}) (HasRoom l q t) (λ n. HasRoom l q t) (λ slot id n cq. HasRoom l q t) (λ slot id n. Truncates l q t slot id n) a
 
 unfoldable pub TruncatedAboveCapacity : Type 0
 TruncatedAboveCapacity =
@@ -140,14 +114,7 @@ TruncatedAboveCapacity =
 -- ---- once
 
 abbrev pub isDone : Target → Answer → Bool
-isDone t (Answer.Refused k) = false
-isDone t (Answer.Posted i) = false
-isDone t (Answer.Cancelled i) = false
-isDone t Answer.Stored = false
-isDone t (Answer.Granted n) = false
-isDone t (Answer.Done slot id n cq) = true
-isDone t (Answer.Truncated slot id n) = false
-isDone t (Answer.Missing c o) = false
+isDone t a = onDone false (λ slot id n cq. true) a
 
 -- the packet is taken by a match now
 abbrev pub isMatch : Target → Answer → Bool
@@ -232,17 +199,13 @@ pub record ByteFrom (gs : List Segment) (o b : ℕ) : Type 0 where
   pub byte : b ≡ getD (segmentAt gs index .bytes) (o - segmentAt gs index .offset) 0
   pub only : (k : ℕ) → k < length gs → inside (segmentAt gs k) o ≡ true → k ≡ index
 
+-- the message's bytes are bs
+abbrev pub BytesAre : List Segment → ℕ → List ℕ → Type 0
+BytesAre gs n bs = (length bs ≡ n) × ((o : ℕ) → o < n → ByteFrom gs o (getD bs o 0))
+
 abbrev pub BytesClaim : Target → Answer → Type 0
-BytesClaim t (Answer.Refused k) = Unit {0}
-BytesClaim t (Answer.Posted i) = Unit {0}
-BytesClaim t (Answer.Cancelled i) = Unit {0}
-BytesClaim t Answer.Stored = Unit {0}
-BytesClaim t (Answer.Granted n) = Unit {0}
-BytesClaim t (Answer.Done slot id n cq) =
-    (length (expectedBytes (t .entry .segments) (Answer.Done slot id n cq)) ≡ n)
-    × ((o : ℕ) → o < n → ByteFrom (t .entry .segments) o (getD (expectedBytes (t .entry .segments) (Answer.Done slot id n cq)) o 0))
-BytesClaim t (Answer.Truncated slot id n) = Unit {0}
-BytesClaim t (Answer.Missing c o) = Unit {0}
+BytesClaim t a =
+    onDone (Unit {0}) (λ slot id n cq. BytesAre (t .entry .segments) n (expectedBytes (t .entry .segments) (Answer.Done slot id n cq))) a
 
 -- a done message holds, at every offset, the byte of the one accepted segment that covers it
 unfoldable pub BytesBySegments : Type 0
@@ -267,14 +230,7 @@ pub record SegmentIn (area : ℕ) (t : Target) (at : ℕ) (bytes : List ℕ) : T
 
 -- "Each accepted segment puts its own data into its own range of its own buffer and changes no other arena byte"
 abbrev pub WriteClaim : ℕ → Target → Answer → ℕ → List ℕ → Type 0
-WriteClaim area t (Answer.Refused k) at bytes = bytes ≡ []
-WriteClaim area t (Answer.Posted i) at bytes = bytes ≡ []
-WriteClaim area t (Answer.Cancelled i) at bytes = bytes ≡ []
-WriteClaim area t Answer.Stored at bytes = SegmentIn area t at bytes
-WriteClaim area t (Answer.Granted n) at bytes = SegmentIn area t at bytes
-WriteClaim area t (Answer.Done slot id n cq) at bytes = SegmentIn area t at bytes
-WriteClaim area t (Answer.Truncated slot id n) at bytes = bytes ≡ []
-WriteClaim area t (Answer.Missing c o) at bytes = bytes ≡ []
+WriteClaim area t a at bytes = onAccepted (bytes ≡ []) (SegmentIn area t at bytes) a
 
 -- ---- grants
 
@@ -295,14 +251,8 @@ pub record FewGrants (limit : ℕ) (t : Target) (n : ℕ) : Type 0 where
   pub few : (o : Inbound) → t .entry .role ≡ receiving o → length (n ∷ t .entry .grants) ≤ roundUp (o .message .length - t .entry .rtm) (limit - 32)
 
 abbrev pub GrantClaim : ℕ → Target → Answer → Type 0
-GrantClaim limit t (Answer.Refused k) = Unit {0}
-GrantClaim limit t (Answer.Posted i) = Unit {0}
-GrantClaim limit t (Answer.Cancelled i) = Unit {0}
-GrantClaim limit t Answer.Stored = Unit {0}
-GrantClaim limit t (Answer.Granted n) = FewGrants limit t n
-GrantClaim limit t (Answer.Done slot id n cq) = GrantsAdd t n
-GrantClaim limit t (Answer.Truncated slot id n) = Unit {0}
-GrantClaim limit t (Answer.Missing c o) = Unit {0}
+GrantClaim limit t a =
+    onTaken (Unit {0}) (Unit {0}) (λ n. FewGrants limit t n) (λ slot id n cq. GrantsAdd t n) (λ slot id n. Unit {0}) a
 
 -- at every limit that a set-up takes
 unfoldable pub GrantsBounded : Type 0

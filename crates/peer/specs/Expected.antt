@@ -20,6 +20,7 @@ use Rattle.peer.specs.declared.types.Found.{Found}
 use Rattle.peer.specs.declared.types.Fit.{Fit}
 use Rattle.peer.specs.declared.types.Vacancy.{Vacancy}
 use Rattle.peer.specs.declared.types.Answer.{Answer}
+use Rattle.peer.specs.Answers.{onDone, onGranted}
 use Rattle.peer.specs.Calls.{Call, post, packet, cancel, report}
 use Rattle.peer.specs.Coverage.{Segment, covers, allOf, bytesFrom}
 use Rattle.peer.specs.Effects.{opened, grantOf}
@@ -168,22 +169,8 @@ messageIn t = messageOf (t .entry .role)
 
 -- "a CTS in the first 24 reply bytes" for the message, if the answer is granted; "no other answer touches the reply buffer"
 abbrev pub expectedReply : Target → Answer → List ℕ
-expectedReply t (Answer.Refused k) = []
-expectedReply t (Answer.Posted i) = []
-expectedReply t (Answer.Cancelled i) = []
-expectedReply t Answer.Stored = []
-expectedReply t (Answer.Granted n) = ctsBytes (messageIn t .«send_id») (messageIn t .id) n
-expectedReply t (Answer.Done i id n cq) = []
-expectedReply t (Answer.Truncated i id n) = []
-expectedReply t (Answer.Missing c o) = []
+expectedReply t a = onGranted [] (λ n. ctsBytes (messageIn t .«send_id») (messageIn t .id) n) a
 
 -- the bytes of a message that is answered done, by its accepted segments
 abbrev pub expectedBytes : List Segment → Answer → List ℕ
-expectedBytes gs (Answer.Refused k) = []
-expectedBytes gs (Answer.Posted i) = []
-expectedBytes gs (Answer.Cancelled i) = []
-expectedBytes gs Answer.Stored = []
-expectedBytes gs (Answer.Granted n) = []
-expectedBytes gs (Answer.Done i id n cq) = bytesFrom gs 0 n
-expectedBytes gs (Answer.Truncated i id n) = []
-expectedBytes gs (Answer.Missing c o) = []
+expectedBytes gs a = onDone [] (λ i id n cq. bytesFrom gs 0 n) a

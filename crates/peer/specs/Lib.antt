@@ -3,6 +3,7 @@ pub mod Says
 pub mod Incomings
 pub mod Matching
 pub mod Judging
+pub mod Answers
 pub mod Effects
 pub mod Calls
 pub mod Coverage

@@ -10,6 +10,7 @@ use Rattle.laws.specs.Choose.{pick}
 use Rattle.protocol.specs.CtsWords.{ReadsAsCts}
 use Rattle.protocol.specs.InWords.{bitOf, flagsIn, headIn, rawEnd}
 use Rattle.protocol.specs.declared.types.CqData.{CqData}
+use Rattle.peer.specs.Answers.{onAccepted, onGranted, onPosted, onTaken}
 use Rattle.peer.specs.Calls.{Call, cancel, packet, post, report}
 use Rattle.peer.specs.Checks.{Differs}
 use Rattle.peer.specs.Claims.{history, isMatch}
@@ -41,14 +42,7 @@ originAt gs i = getD gs i noOrigin
 -- ---- the origins, by slot, after one call more and its answer
 
 abbrev pub notePost : List Origin → Receive → Answer → List Origin
-notePost gs r (Answer.Refused k) = gs
-notePost gs r (Answer.Posted i) = set gs i (record { posted = r; rtm = [] })
-notePost gs r (Answer.Cancelled i) = gs
-notePost gs r Answer.Stored = gs
-notePost gs r (Answer.Granted n) = gs
-notePost gs r (Answer.Done i id n cq) = gs
-notePost gs r (Answer.Truncated i id n) = gs
-notePost gs r (Answer.Missing c o) = gs
+notePost gs r a = onPosted gs (λ i. set gs i (record { posted = r; rtm = [] })) a
 
 -- a packet that matches the receive of the entry t is its message's origin
 abbrev pub noteOrigin : Target → List Origin → Call → Answer → List Origin
@@ -123,14 +117,7 @@ pub record DoneFrom (g : Origin) (t : Target) (slot id n : ℕ) (cq : CqData) : 
   pub cqIs : cq ≡ comes .message .message .«cq_data»
 
 abbrev pub OriginClaim : Origin → Target → Answer → Type 0
-OriginClaim g t (Answer.Refused k) = Unit {0}
-OriginClaim g t (Answer.Posted i) = Unit {0}
-OriginClaim g t (Answer.Cancelled i) = Unit {0}
-OriginClaim g t Answer.Stored = Comes g t
-OriginClaim g t (Answer.Granted n) = Comes g t
-OriginClaim g t (Answer.Done slot id n cq) = DoneFrom g t slot id n cq
-OriginClaim g t (Answer.Truncated slot id n) = Unit {0}
-OriginClaim g t (Answer.Missing c o) = Unit {0}
+OriginClaim g t a = onTaken (Unit {0}) (Comes g t) (λ n. Comes g t) (λ slot id n cq. DoneFrom g t slot id n cq) (λ slot id n. Unit {0}) a
 
 -- the origin of the entry that a call's packet goes to, the packet itself being it where it matches
 abbrev pub originOfCall : ℕ → Plain → List Origin → Call → Answer → Origin
@@ -157,28 +144,15 @@ pub record OwnSegment (area : ℕ) (g : Origin) (c : Call) (at : ℕ) (bytes : L
   pub inArea : g .posted .start + g .posted .capacity ≤ area
 
 abbrev pub OwnClaim : ℕ → Origin → Call → Answer → ℕ → List ℕ → Type 0
-OwnClaim area g c (Answer.Refused k) at bytes = bytes ≡ []
-OwnClaim area g c (Answer.Posted i) at bytes = bytes ≡ []
-OwnClaim area g c (Answer.Cancelled i) at bytes = bytes ≡ []
-OwnClaim area g c Answer.Stored at bytes = OwnSegment area g c at bytes
-OwnClaim area g c (Answer.Granted n) at bytes = OwnSegment area g c at bytes
-OwnClaim area g c (Answer.Done slot id n cq) at bytes = OwnSegment area g c at bytes
-OwnClaim area g c (Answer.Truncated slot id n) at bytes = bytes ≡ []
-OwnClaim area g c (Answer.Missing x o) at bytes = bytes ≡ []
+OwnClaim area g c a at bytes = onAccepted (bytes ≡ []) (OwnSegment area g c at bytes) a
 
 -- ---- the reply
 
 -- "a CTS in the first 24 reply bytes" for the message, by the matching packet's send_id and id, "and answers granted"; "no other answer
 -- touches the reply buffer"
 abbrev pub ReplyClaim : Origin → Answer → List ℕ → Type 0
-ReplyClaim g (Answer.Refused k) reply = reply ≡ []
-ReplyClaim g (Answer.Posted i) reply = reply ≡ []
-ReplyClaim g (Answer.Cancelled i) reply = reply ≡ []
-ReplyClaim g Answer.Stored reply = reply ≡ []
-ReplyClaim g (Answer.Granted n) reply = ((i : ℕ) → getD (g .rtm) i 0 < 256) → ReadsAsCts reply (leAt 4 (g .rtm) 16) (idIn (g .rtm)) n
-ReplyClaim g (Answer.Done slot id n cq) reply = reply ≡ []
-ReplyClaim g (Answer.Truncated slot id n) reply = reply ≡ []
-ReplyClaim g (Answer.Missing c o) reply = reply ≡ []
+ReplyClaim g a reply =
+    onGranted (reply ≡ []) (λ n. ((i : ℕ) → getD (g .rtm) i 0 < 256) → ReadsAsCts reply (leAt 4 (g .rtm) 16) (idIn (g .rtm)) n) a
 
 -- at every limit that a set-up takes
 unfoldable pub GrantIsACts : Type 0

@@ -15,6 +15,7 @@ use Rattle.peer.specs.declared.types.Incoming.{Incoming}
 use Rattle.peer.specs.declared.types.Found.{Found}
 use Rattle.peer.specs.declared.types.Fit.{Fit}
 use Rattle.peer.specs.declared.types.Answer.{Answer}
+use Rattle.peer.specs.Answers.{onCancelled, onPosted, onTaken}
 use Rattle.peer.specs.Calls.{Call, post, packet, cancel, report}
 use Rattle.peer.specs.Coverage.{Segment}
 use Rattle.peer.specs.Effects.{opened, extended}
@@ -115,6 +116,15 @@ targetOf l h bytes = targetIn l h (segmentOf h bytes) (openIn (h .id) 0 (roles (
 abbrev pub put : Plain → ℕ → Entry → Plain
 put l i e = record { next = l .next; posts = l .posts; entries = set (l .entries) i e }
 
+-- one receive more
+abbrev pub posted : Plain → ℕ → Receive → Plain
+posted l i r =
+    record {
+      next = l .next;
+      posts = l .posts + 1;
+      entries = set (l .entries) i (record { role = waiting r; serial = l .posts; segments = []; rtm = 0; grants = [] });
+    }
+
 -- "moves next on by one mod 2^32" at a match
 abbrev pub nextAfter : Plain → Target → ℕ
 nextAfter l t = pick (t .matched) ((l .next + 1) % 4294967296) (l .next)
@@ -128,43 +138,19 @@ grantedEntry n e =
     record { role = extendedRole n (e .role); serial = e .serial; segments = e .segments; rtm = e .rtm; grants = n ∷ e .grants }
 
 unfoldable pub enterPost : Plain → Receive → Answer → Plain
-enterPost l r (Answer.Refused k) = l
-enterPost l r (Answer.Posted i) =
-    record {
-      next = l .next;
-      posts = l .posts + 1;
-      entries = set (l .entries) i (record { role = waiting r; serial = l .posts; segments = []; rtm = 0; grants = [] });
-    }
-enterPost l r (Answer.Cancelled i) = l
-enterPost l r Answer.Stored = l
-enterPost l r (Answer.Granted n) = l
-enterPost l r (Answer.Done i id n cq) = l
-enterPost l r (Answer.Truncated i id n) = l
-enterPost l r (Answer.Missing c o) = l
+enterPost l r a = onPosted l (λ i. posted l i r) a
 
 unfoldable pub enterSegment : Plain → Target → Answer → Plain
-enterSegment l t (Answer.Refused k) = l
-enterSegment l t (Answer.Posted i) = l
-enterSegment l t (Answer.Cancelled i) = l
-enterSegment l t Answer.Stored = settle l t (t .entry)
-enterSegment l t (Answer.Granted n) = settle l t (grantedEntry n (t .entry))
-enterSegment l t (Answer.Done i id n cq) = settle l t noEntry
-enterSegment l t (Answer.Truncated i id n) = settle l t noEntry
-enterSegment l t (Answer.Missing c o) = l
+enterSegment l t a =
+    onTaken l (settle l t (t .entry)) (λ n. settle l t (grantedEntry n (t .entry))) (λ i id n cq. settle l t noEntry)
+    (λ i id n. settle l t noEntry) a
 
 unfoldable pub enterRead : Plain → List ℕ → Read → Answer → Plain
 enterRead l bs (Read.Refused k) a = l
 enterRead l bs (Read.Packet q) a = enterSegment l (targetOf l (incomingOf q) (bytesAt bs (q .«data»))) a
 
 unfoldable pub enterCancel : Plain → Answer → Plain
-enterCancel l (Answer.Refused k) = l
-enterCancel l (Answer.Posted i) = l
-enterCancel l (Answer.Cancelled i) = put l i noEntry
-enterCancel l Answer.Stored = l
-enterCancel l (Answer.Granted n) = l
-enterCancel l (Answer.Done i id n cq) = l
-enterCancel l (Answer.Truncated i id n) = l
-enterCancel l (Answer.Missing c o) = l
+enterCancel l a = onCancelled l (λ i. put l i noEntry) a
 
 unfoldable pub enter : ℕ → Plain → Call → Answer → Plain
 enter limit l (post r) a = enterPost l r a

@@ -4,18 +4,12 @@ use Prim.Native.Nat.{ℕ}
 use mathlib.Core.List.{List}
 use lib.ListN.{set}
 use Rattle.peer.specs.declared.types.Answer.{Answer}
+use Rattle.peer.specs.Answers.{onPosted}
 use Rattle.peer.specs.Calls.{Call, post, packet, cancel, report}
 
 -- the starts, by slot, after one call more and its answer
 abbrev pub noteStart : List ℕ → Call → Answer → List ℕ
-noteStart starts (post r) (Answer.Refused k) = starts
-noteStart starts (post r) (Answer.Posted i) = set starts i (r .start)
-noteStart starts (post r) (Answer.Cancelled i) = starts
-noteStart starts (post r) Answer.Stored = starts
-noteStart starts (post r) (Answer.Granted n) = starts
-noteStart starts (post r) (Answer.Done i id n cq) = starts
-noteStart starts (post r) (Answer.Truncated i id n) = starts
-noteStart starts (post r) (Answer.Missing c o) = starts
+noteStart starts (post r) a = onPosted starts (λ i. set starts i (r .start)) a
 noteStart starts (packet bs room) a = starts
 noteStart starts (cancel i) a = starts
 noteStart starts (report i) a = starts
