@@ -7,9 +7,9 @@ use Rattle.guarantees.specs.Delivery.{AllDelivered, Delivered, Delivered
 use Rattle.guarantees.specs.Runs.{callsOf}
 use Rattle.peer.specs.Calls.{Call}
 use Rattle.peer.specs.Claims.{BytesBySegments, CountsUp, Distinct, DoneWhenCovered, GrantsBounded, InOrder, MatchedByCount, MatchedInOrder, Once, TruncateClaim, TruncatedAboveCapacity, answersOf, history, idsOf, isDone, isMatch, plainAfter, receivesOf, takes}
-use Rattle.peer.specs.Expected.{expected, targetOfCall}
+use Rattle.peer.specs.Expected.{enter, expected, targetOfCall}
 use Rattle.peer.specs.Origins.{AcceptedFromOrigin, GrantIsACts, Origin, noOrigins, noteOrigin, originsFrom, originsOf}
-use Rattle.peer.specs.Plain.{Plain, enter, freshPlain}
+use Rattle.peer.specs.Plain.{Plain, freshPlain}
 use Rattle.peer.specs.declared.types.Answer.{Answer}
 use Rattle.engine.proofs.WordsHold.{ready-fits}
 use Rattle.engine.proofs.Worlds.{sized}

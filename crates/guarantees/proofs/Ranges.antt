@@ -10,9 +10,9 @@ use Rattle.guarantees.specs.Delivery.{AllWrite, OwnRange, Writes, demand
 use Rattle.guarantees.specs.Runs.{Request, Seen, callOf, freshWorld, noStarts, seenAt, turnOf}
 use Rattle.laws.specs.Choose.{pick}
 use Rattle.peer.specs.Calls.{Call}
-use Rattle.peer.specs.Expected.{expected, targetOfCall}
+use Rattle.peer.specs.Expected.{enter, expected, targetOfCall}
 use Rattle.peer.specs.Origins.{Origin, noOrigins, noteOrigin}
-use Rattle.peer.specs.Plain.{Plain, enter, freshPlain}
+use Rattle.peer.specs.Plain.{Plain, freshPlain}
 use Rattle.peer.specs.Starts.{noteStart}
 use Rattle.peer.specs.declared.types.Answer.{Answer}
 use Rattle.guarantees.proofs.Seeing.{fresh-tracks}

@@ -13,8 +13,8 @@ use Rattle.engine.specs.Steps.{World, wordsOf}
 use Rattle.engine.specs.declared.types.Ready.{Ready}
 use Rattle.guarantees.specs.Delivery.{SeenByHistory, demanded, plainRun}
 use Rattle.guarantees.specs.Runs.{Request, Seen, callOf, callsOf, freshWorld, noStarts, observe, seenAt, turnOf}
-use Rattle.peer.specs.Expected.{expected}
-use Rattle.peer.specs.Plain.{Plain, enter, freshPlain}
+use Rattle.peer.specs.Expected.{enter, expected}
+use Rattle.peer.specs.Plain.{Plain, freshPlain}
 use Rattle.peer.specs.Starts.{noteStart}
 use Rattle.peer.specs.State.{freeSlot, freshPeer, isFree, phaseAt, slotCount}
 use Rattle.peer.specs.declared.types.Peer.{Peer}

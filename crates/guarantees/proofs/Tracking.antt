@@ -11,22 +11,22 @@ use Rattle.engine.specs.Steps.{Turn, World, callTurn, putBack, wordsOf}
 use Rattle.guarantees.specs.Delivery.{Writes, demanded}
 use Rattle.guarantees.specs.Runs.{Act, Request, Seen, bufferOf, bytesSeen, callOf, cancel, packet, post, replySeen, report, seenAt, turnOf}
 use Rattle.laws.specs.Parts.{part, storeAt}
-use Rattle.protocol.specs.declared.types.CqData.{CqData}
+use Rattle.peer.specs.Answers.{onDone}
 use Rattle.peer.specs.Calls.{peerStep}
 use Rattle.peer.specs.Claims.{WriteClaim}
 use Rattle.peer.specs.Coverage.{Segment, byteOf, bytesFrom, inside}
 use Rattle.peer.specs.Effects.{Effect}
-use Rattle.peer.specs.Expected.{expected, expectedBytes, expectedReply, targetOfCall}
+use Rattle.peer.specs.Expected.{enter, expected, expectedBytes, expectedReply, targetOfCall}
 use Rattle.peer.specs.Says.{said}
 use Rattle.peer.specs.Origins.{Origin, OwnClaim, originOfCall}
-use Rattle.peer.specs.Plain.{Plain, Target, enter}
+use Rattle.peer.specs.Plain.{Plain, Target}
 use Rattle.peer.specs.Starts.{noteStart}
 use Rattle.peer.specs.declared.types.Answer.{Answer}
 use Rattle.peer.specs.declared.types.Peer.{Peer}
 use Rattle.engine.proofs.Worlds.{Good, byte-other, byte-own, byteIn, good-turn, kept, lent-lengths, part-inside, peer-other, peer-own, turn-none, turn-own, words-cover, words-other, words-own}
 use Rattle.laws.proofs.Reading.{getD-part}
 use Rattle.laws.proofs.Storing.{length-part, part-store}
-use Rattle.peer.proofs.Agreement.{Agrees}
+use Rattle.peer.proofs.Agreement.{Agrees, meets, mirrors}
 use Rattle.peer.proofs.AnswerLaws.{taken-same}
 use Rattle.peer.proofs.CoverageLaws.{Wrote, byte-at, length-bytes}
 use Rattle.peer.proofs.Entered.{agrees-kept}
@@ -34,7 +34,7 @@ use Rattle.peer.proofs.HistoryFacts.{outcome}
 use Rattle.peer.proofs.Kept.{Kept}
 use Rattle.peer.proofs.OriginReplies.{own-claim}
 use Rattle.peer.proofs.OriginsHold.{Trace, call-claim}
-use Rattle.peer.proofs.Replies.{Yielded, roomOf, step-room, step-yields}
+use Rattle.peer.proofs.Replies.{Holds, Replying, Yielded, met-yields, roomOf, step-replies}
 use Rattle.peer.proofs.Steps.{Stepped, stepped}
 use Rattle.peer.proofs.Yields.{Starts, starts-stepped}
 
@@ -51,11 +51,22 @@ pub record Tracks (p : ℕ) (w : World) (starts : List ℕ) (l : Plain) : Type 0
 buffer-reply : (buffer reply : List ℕ) → length reply ≡ 24 → 24 ≤ length buffer → take 24 (storeAt buffer 0 reply) ≡ reply
 buffer-reply buffer reply e h = ap (λ (n : ℕ). take n (storeAt buffer 0 reply)) (sym e) ∙ (unfold part in part-store buffer 0 reply (omega arith))
 
+-- the room that a call lends for its reply
+pub room-of : (a : Act) → roomOf (callOf a) ≡ length (bufferOf a)
+room-of (post r) = refl
+room-of (packet bs buffer) = refl
+room-of (cancel i) = refl
+room-of (report i) = refl
+
 -- of a grant the first 24 bytes of the buffer are the reply, of any other answer there is none
-reply-seen : (t : Target) (a : Answer) (buffer reply : List ℕ) → reply ≡ expectedReply t a → ((n : ℕ) → a ≡ Answer.Granted n → (length reply ≡ 24) × (24 ≤ length buffer))
+reply-seen : (t : Target) (a : Answer) (buffer reply : List ℕ) → reply ≡ expectedReply t a → Replying (length buffer) reply a
     → replySeen (storeAt buffer 0 reply) a ≡ expectedReply t a
 reply-seen t a buffer reply e g =
-    taken-same [] a (λ n x. buffer-reply buffer reply (g n x .0) (g n x .1) ∙ e ∙ ap (expectedReply t) x) (λ i id n cq x. refl)
+    taken-same [] a
+    (λ n x.
+    let (size, room) = subst (Replying (length buffer) reply) x g in
+    buffer-reply buffer reply size room ∙ e ∙ ap (expectedReply t) x)
+    (λ i id n cq x. refl)
 
 -- the bytes of a done message
 part-bytes : (arena : List ℕ) (at n : ℕ) (gs : List Segment) → at + n ≤ length arena → ((o : ℕ) → o < n → getD arena (at + o) 0 ≡ byteOf gs o)
@@ -67,13 +78,12 @@ part-bytes arena at n gs h f =
     getD-part arena at n i 0 q′ ∙ f i q′ ∙ ap (byteOf gs) (omega arith) ∙ sym (byte-at gs 0 n i q′))
 
 bytes-seen : (arena : List ℕ) (base area : ℕ) (starts : List ℕ) (gs : List Segment) (a : Answer) → base + area ≤ length arena
-    → ((i id n : ℕ) (cq : CqData) → a ≡ Answer.Done i id n cq
-    → (getD starts i 0 + n ≤ area) × ((o : ℕ) → o < n → getD arena (base + (getD starts i 0 + o)) 0 ≡ byteOf gs o))
+    → onDone (Unit {0}) (λ i id n cq. Holds area (λ x. getD arena (base + x) 0) starts gs i n) a
     → bytesSeen arena base starts a ≡ expectedBytes gs a
 bytes-seen arena base area starts gs a h d =
     taken-same [] a (λ n x. refl)
     (λ i id n cq x.
-    let (inside, byte) = d i id n cq x in
+    let (inside, byte) = subst (onDone (Unit {0}) (λ i id n cq. Holds area (λ x. getD arena (base + x) 0) starts gs i n)) x d in
     part-bytes arena (base + getD starts i 0) n gs (omega arith) (λ o l. ap (λ (k : ℕ). getD arena k 0) (omega arith) ∙ byte o l))
 
 -- ---- the peer's own call
@@ -105,18 +115,16 @@ module _ (p : ℕ) (w : World) (starts : List ℕ) (l : Plain) (t : Tracks p w s
 
   yields : Yielded (w .engine .area) (byteIn w′ p) starts (targetOfCall (w .engine .limit) l (callOf a)) f
   yields =
-      step-yields (w .engine .area) (w .engine .limit) (peerAt (w .engine) p) (wordsOf w p) (byteIn w p) (byteIn w′ p) l starts (t .good .each p (t .below))
-      (words-cover w (t .good) p (t .below)) (t .agrees) (t .from) (callOf a) wrote
+      met-yields (w .engine .area) (w .engine .limit) (peerAt (w .engine) p) (wordsOf w p) (byteIn w p) (byteIn w′ p) l starts (t .good .each p (t .below))
+      (words-cover w (t .good) p (t .below)) (t .agrees) (t .from)
+      (meets (w .engine .area) (w .engine .limit) (peerAt (w .engine) p) (wordsOf w p) l (t .good .each p (t .below)) (mirrors (t .agrees)) (callOf a) .1)
+      wrote
 
   -- a grant leaves room for its CTS
-  roomy : (n : ℕ) → f .answer ≡ Answer.Granted n → (length (f .reply) ≡ 24) × (24 ≤ length (bufferOf a))
-  roomy n e = go (f .reply) a (step-room (w .engine .area) (w .engine .limit) (peerAt (w .engine) p) (wordsOf w p) (callOf a) n e)
-    where
-      go : (reply : List ℕ) (b : Act) → (length reply ≡ 24) × (24 ≤ roomOf (callOf b)) → (length reply ≡ 24) × (24 ≤ length (bufferOf b))
-      go reply (post r) x = x
-      go reply (packet bs buffer) x = x
-      go reply (cancel i) x = x
-      go reply (report i) x = x
+  roomy : Replying (length (bufferOf a)) (f .reply) (f .answer)
+  roomy =
+      subst (λ (n : ℕ). Replying n (f .reply) (f .answer)) (room-of a)
+      (step-replies (w .engine .area) (w .engine .limit) (peerAt (w .engine) p) (wordsOf w p) (callOf a))
 
   tracked : Tracks p w′ (noteStart starts (callOf a) (f .answer)) (enter (w .engine .limit) l (callOf a) (expected (w .engine .area) (w .engine .limit) l (callOf a)))
   tracked =

@@ -16,26 +16,26 @@ use Rattle.protocol.specs.declared.types.Packet.{Packet}
 use Rattle.protocol.specs.declared.types.Read.{Read}
 use Rattle.peer.specs.Calls.{Call}
 use Rattle.peer.specs.Claims.{AllBytes, BytesClaim, CountsUp, Distinct, DoneClaim, GrantClaim, InOrder, TruncateClaim, idsOf, isDone, isMatch, receivesOf, takes}
-use Rattle.peer.specs.Expected.{expected, expectedBytes, expectedReply, targetOfCall}
+use Rattle.peer.specs.Expected.{enter, expected, expectedBytes, plainStep, targetOfCall}
 use Rattle.peer.specs.Says.{said}
 use Rattle.peer.specs.Origins.{Origin, OriginClaim, OwnClaim, ReplyClaim, noOrigins, noteOrigin, originOfCall}
-use Rattle.peer.specs.Plain.{Plain, enter, freshPlain}
+use Rattle.peer.specs.Plain.{Plain, freshPlain}
 use Rattle.peer.specs.declared.types.Answer.{Answer}
 
 -- what 01 demands of one call after the history l
 abbrev pub demanded : ℕ → ℕ → Plain → Call → Seen
 demanded area limit l c =
     record {
-      answer = expected area limit l c;
-      says = said (expected area limit l c);
-      reply = expectedReply (targetOfCall limit l c) (expected area limit l c);
-      bytes = expectedBytes (targetOfCall limit l c .entry .segments) (expected area limit l c);
+      answer = plainStep area limit l c .answer;
+      says = said (plainStep area limit l c .answer);
+      reply = plainStep area limit l c .reply;
+      bytes = plainStep area limit l c .bytes;
     }
 
 -- and of a list of them
 unfoldable pub plainRun : ℕ → ℕ → Plain → List Call → List Seen
 plainRun area limit l [] = []
-plainRun area limit l (c ∷ cs) = demanded area limit l c ∷ plainRun area limit (enter limit l c (expected area limit l c)) cs
+plainRun area limit l (c ∷ cs) = demanded area limit l c ∷ plainRun area limit (plainStep area limit l c .after) cs
 
 -- in every run all that a peer sees (answers with every number, reply packets, and of done messages the bytes, read off the arena) is what
 -- 01 demands after the history of that peer's calls alone

@@ -164,7 +164,7 @@ step-held area limit p ws (Call.packet bs room) v h b =
     read (Read.Refused k) x = h
     read (Read.Packet q) x =
         carry-held limit p ws (incomingOf q) (bytesAt bs (q .«data»)) (judge p ws (incomingOf q)) h (read-held limit bs q b x)
-        (judged area p ws (incomingOf q) (length (bytesAt bs (q .«data»))) v (read-formed limit bs q x))
+        (judged p ws (incomingOf q) (length (bytesAt bs (q .«data»))) (read-formed limit bs q x))
 step-held area limit p ws (Call.cancel i) v h b =
     branch (λ (f : Effect). PeerHeld (f .peer)) _ _ _ (λ x. h) (λ x. at (phaseAt (p .slots) i))
   where

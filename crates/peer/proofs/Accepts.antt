@@ -1,38 +1,35 @@
 -- Each call's answer, entered into the history, leaves a plain receiver that says what the peer and its map say.
 use Prim.Native.Nat.{ℕ, _+_, _*_, _≤_, _<_}
 use lib.ListN.{length}
-use mathlib.Core.Bool.{true, false, false≢true}
+use mathlib.Core.Bool.{true, false≢true}
 use mathlib.Core.List.{List, [], _∷_}
 use mathlib.Core.Logic.{_⊎_, inl, inr}
-use mathlib.Core.Path.{_≡_, refl, sym, ap, ap₂, _∙_, subst, subst₂}
+use mathlib.Core.Path.{_≡_, refl, sym, ap, _∙_, subst, subst₂}
 use native.Mathlib.Omega.{arith}
 use Rattle.bitmap.specs.Map.{cleared, marked}
+use Rattle.peer.specs.Calls.{packet}
 use Rattle.peer.specs.Coverage.{Segment, covers, inside}
-use Rattle.peer.specs.Effects.{accept, advance, begun, carry, extended, grantOf, opened, progressOf, settledAs, truncatedAt, withPhase}
+use Rattle.peer.specs.Effects.{extended, grantOf, opened, settledAs}
 use Rattle.peer.specs.Formed.{Formed}
 use Rattle.peer.specs.Incomings.{isLong}
-use Rattle.peer.specs.Matching.{findOpen}
-use Rattle.peer.specs.Plain.{Entry, Plain, Target, begunEntry, enterSegment, entryAt, extendedRole, grantedEntry, grown, matchTarget, nextAfter, noEntry, openIn, receiving, segmentOf, settle, targetIn, targetOf}
+use Rattle.peer.specs.Plain.{Entry, Plain, Target, begunEntry, enterAt, entryAt, extendedRole, grantedEntry, grown, nextAfter, noEntry, receiving, segmentOf}
 use Rattle.peer.specs.State.{phaseAt}
 use Rattle.peer.specs.View.{roleOf}
-use Rattle.peer.specs.declared.types.Fit.{Fit}
-use Rattle.peer.specs.declared.types.Found.{Found}
 use Rattle.peer.specs.declared.types.Inbound.{Inbound}
 use Rattle.peer.specs.declared.types.Incoming.{Incoming}
 use Rattle.peer.specs.declared.types.Peer.{Peer}
 use Rattle.peer.specs.declared.types.Phase.{Phase}
 use Rattle.peer.specs.declared.types.Progress.{Progress}
 use Rattle.peer.specs.declared.types.Receive.{Receive}
-use Rattle.peer.specs.declared.types.Verdict.{Verdict}
 use Rattle.bitmap.proofs.BitLaws.{length-cleared}
-use Rattle.laws.proofs.Choosing.{or-cases, pick-false, pick-true}
+use Rattle.laws.proofs.Choosing.{or-cases}
 use Rattle.peer.proofs.Agreement.{Agrees, more-bits}
 use Rattle.peer.proofs.CoverageLaws.{Bits, Content, Wrote, bits-cleared, bits-same, content-same, content-written, inside-end}
-use Rattle.peer.proofs.Entered.{Change, agrees-kept, agrees-set, freed, others-cleared, others-kept, others-marked}
+use Rattle.peer.proofs.Entered.{Change, agrees-set, others-cleared, others-kept, others-marked}
 use Rattle.peer.proofs.Kept.{Standing, begun-standing, continued-standing}
-use Rattle.peer.proofs.Roles.{SameFit, fit-same, open-same, role-at, to, unfit}
+use Rattle.peer.proofs.Roles.{role-at}
 use Rattle.peer.proofs.Valid.{Valid}
-use Rattle.peer.proofs.Verdicts.{Begins, Continues, Judged, Matched, chosen-at, continued-at}
+use Rattle.peer.proofs.Verdicts.{Begins, Continues, continued-at}
 
 -- ---- a segment is accepted
 
@@ -77,12 +74,12 @@ still-open area p ws′ mem′ l i o q e e′ t er el ek g x y =
     }
 
 -- the next id is n from now on; the target t is in slot i
-pub settled-agrees : (area limit : ℕ) (p : Peer) (n : ℕ) (ws ws′ : List ℕ) (mem mem′ : ℕ → ℕ) (l : Plain) (i : ℕ) (o : Inbound) (t : Target) (g : Progress)
+pub settled-agrees : (area limit : ℕ) (p : Peer) (n : ℕ) (ws ws′ : List ℕ) (mem mem′ : ℕ → ℕ) (l : Plain) (bs : List ℕ) (room i : ℕ) (o : Inbound) (t : Target) (g : Progress)
     → Agrees p ws mem l
     → n ≡ nextAfter l t → t .index ≡ i → Taken area p ws′ mem′ l i o (t .entry)
-    → Agrees (settledAs limit (record { next = n; slots = p .slots }) i o g .peer) ws′ mem′ (enterSegment l t (settledAs limit (record { next = n; slots = p .slots }) i o g .answer))
-unfolding settledAs enterSegment
-settled-agrees area limit p n ws ws′ mem mem′ l i o t Progress.Whole a en ei k =
+    → Agrees (settledAs limit (record { next = n; slots = p .slots }) i o g .peer) ws′ mem′ (enterAt l (packet bs room) t (settledAs limit (record { next = n; slots = p .slots }) i o g .answer))
+unfolding settledAs
+settled-agrees area limit p n ws ws′ mem mem′ l bs room i o t Progress.Whole a en ei k =
     rw ei
     (agrees-set p ws ws′ mem mem′ l i Phase.Free noEntry n (nextAfter l t) a
     (record {
@@ -96,12 +93,12 @@ settled-agrees area limit p n ws ws′ mem mem′ l i o t Progress.Whole a en ei
       contents = k .contents;
     })
     en)
-settled-agrees area limit p n ws ws′ mem mem′ l i o t Progress.Due a en ei k =
+settled-agrees area limit p n ws ws′ mem mem′ l bs room i o t Progress.Due a en ei k =
     let m : ℕ = grantOf limit (o .message) in
     rw ei
     (agrees-set p ws ws′ mem mem′ l i (Phase.Open (extended m o)) (grantedEntry m (t .entry)) n (nextAfter l t) a
     (still-open area p ws′ mem′ l i o (extended m o) (t .entry) (grantedEntry m (t .entry)) k refl refl refl (omega arith) (ap (extendedRole m) (k .role)) refl) en)
-settled-agrees area limit p n ws ws′ mem mem′ l i o t Progress.Partial a en ei k =
+settled-agrees area limit p n ws ws′ mem mem′ l bs room i o t Progress.Partial a en ei k =
     rw ei
     (agrees-set p ws ws′ mem mem′ l i (Phase.Open o) (t .entry) n (nextAfter l t) a
     (still-open area p ws′ mem′ l i o o (t .entry) (t .entry) k refl refl refl (omega arith) (k .role) refl) en)
@@ -120,12 +117,6 @@ covers-below g gs n h b k e = go (or-cases (inside g k) (covers gs k) e)
 
 module _ (area limit : ℕ) (p : Peer) (ws : List ℕ) (mem mem′ : ℕ → ℕ) (l : Plain) (h : Incoming) (bytes : List ℕ) (v : Valid area (p .slots))
     (form : Formed h (length bytes)) (words : area ≤ 64 * length ws) (agrees : Agrees p ws mem l) where
-  -- the open message that the packet belongs to
-  pub open-target : (i : ℕ) (o : Inbound) → findOpen (h .id) 0 (p .slots) ≡ Found.At i o
-      → targetOf l h bytes ≡ record { index = i; entry = grown (entryAt (l .entries) i) (segmentOf h bytes); matched = false }
-  unfolding targetOf targetIn
-  open-target i o e = ap (targetIn l h (segmentOf h bytes)) (ap (openIn (h .id) 0) (sym (agrees .same)) ∙ sym (open-same (h .id) 0 (p .slots)) ∙ e)
-
   pub more-taken : (i : ℕ) (o : Inbound) → Continues p ws h i o → Wrote area mem mem′ (o .receive .start + h .offset) bytes
       → Taken area p (marked ws (o .receive .start + h .offset) (length bytes)) mem′ l i o (grown (entryAt (l .entries) i) (segmentOf h bytes))
   more-taken i o c wrote =
@@ -138,14 +129,14 @@ module _ (area limit : ℕ) (p : Peer) (ws : List ℕ) (mem mem′ : ℕ → ℕ
         others = λ k q n e.
             bits-same ws _ (q .receive .start) (q .message .length) (entryAt (l .entries) k .segments)
             (others-marked area p i o v s ws (o .receive .start + h .offset) (length bytes) (omega arith)
-            (omega (arith, form .size, c .inLength, s .within .inRange)) k q n e)
+            (omega (arith, form .size, c .inLength (s .within .inLength), s .within .inRange)) k q n e)
             (agrees .bits k q e);
         content = content-written area mem mem′ (o .receive .start) (o .message .length) (segmentOf h bytes) (entryAt (l .entries) i .segments)
             (omega (arith, s .within .inArea, s .within .inRange)) wrote (agrees .content i o (at .1));
         contents = λ k q n e.
             content-same mem mem′ (q .receive .start) (q .message .length) (entryAt (l .entries) k .segments)
             (others-kept area p i o v s mem mem′ (o .receive .start + h .offset) bytes wrote (omega arith)
-            (omega (arith, form .size, c .inLength, s .within .inRange)) k q n e)
+            (omega (arith, form .size, c .inLength (s .within .inLength), s .within .inRange)) k q n e)
             (agrees .content k q e);
       }
     where
@@ -155,26 +146,9 @@ module _ (area limit : ℕ) (p : Peer) (ws : List ℕ) (mem mem′ : ℕ → ℕ
       at : (i < length (p .slots)) × (phaseAt (p .slots) i ≡ Phase.Open o)
       at = continued-at p ws h i o c
 
-  -- the receive that the packet is matched to
-  abbrev pub begunAt : ℕ → Receive → Target
-  begunAt i r = record { index = i; entry = begunEntry r (entryAt (l .entries) i .serial) h (segmentOf h bytes); matched = true }
-
-  pub match-target : (i : ℕ) (r : Receive) → Matched p h i r → targetOf l h bytes ≡ begunAt i r
-  unfolding targetOf targetIn matchTarget
-  match-target i r m =
-      ap (targetIn l h (segmentOf h bytes)) (ap (openIn (h .id) 0) (sym (agrees .same)) ∙ sym (open-same (h .id) 0 (p .slots)) ∙ m .unopened)
-      ∙ go _ _ (m .chosen) (fit-same (p .slots) (l .entries) (agrees .ordered) h (agrees .same))
-    where
-      go : (f f′ : Fit) → f ≡ Fit.To i r (m .age) → SameFit (p .slots) (l .entries) f f′ → matchTarget h (segmentOf h bytes) f′ ≡ begunAt i r
-      go _ _ e unfit = absurd (let u : _≡_ {A = ℕ} 0 1 = cc in omega arith)
-      go _ _ e (to j q a at) =
-          let ij : j ≡ i = cc in
-          let qr : q ≡ r = cc in
-          ap₂ begunAt ij qr
-
   pub begun-taken : (i : ℕ) (r : Receive) → Begins p h i r → Wrote area mem mem′ (r .start + h .offset) bytes
       → Taken area p (marked (cleared ws (r .start) (r .capacity)) (r .start + h .offset) (length bytes)) mem′ l i (opened r h)
-      (begunAt i r .entry)
+      (begunEntry r (entryAt (l .entries) i .serial) h (segmentOf h bytes))
   begun-taken i r b wrote =
       record {
         standing = s;
@@ -203,38 +177,3 @@ module _ (area limit : ℕ) (p : Peer) (ws : List ℕ) (mem mem′ : ℕ → ℕ
 
       no-cover : (k : ℕ) → covers [] k ≡ true → ⊥
       no-cover k e = false≢true (unfold covers in e)
-
-  -- a match moves the next id on
-  moved : (i : ℕ) (r : Receive) → advance p .next ≡ nextAfter l (begunAt i r)
-  moved i r = ap (λ (n : ℕ). advance (record { next = n; slots = p .slots }) .next) (agrees .next) ∙ sym (pick-true _ _ refl)
-
-  -- nothing is written
-  same : Wrote area mem mem′ 0 [] → Agrees p ws mem′ l
-  same w = agrees-kept area p ws mem mem′ l v (λ y h. w .kept y h (inr (omega arith))) agrees
-
-  pub packet-entered : (d : Verdict) → Judged p ws h d → Wrote area mem mem′ (carry limit p ws h bytes d .at) (carry limit p ws h bytes d .bytes)
-      → Agrees (carry limit p ws h bytes d .peer) (carry limit p ws h bytes d .words) mem′ (enterSegment l (targetOf l h bytes) (carry limit p ws h bytes d .answer))
-  unfolding carry
-  packet-entered (Verdict.Refuse k) j w = unfold enterSegment in same w
-  packet-entered (Verdict.Truncate i) j w =
-      unfold truncatedAt enterSegment in
-      subst (λ (t : Target). Agrees (advance (withPhase p i Phase.Free)) ws mem′ (settle l t noEntry)) (sym (match-target i (j .receive) (j .matched)))
-      (agrees-set p ws ws mem′ mem′ l i Phase.Free noEntry _ _ (same w) (freed p ws mem′ l i (chosen-at p h i (j .receive) (j .matched) .0) (same w))
-      (moved i (j .receive)))
-  packet-entered (Verdict.Begin i r) j w =
-      unfold begun accept in
-      subst (λ (t : Target). Agrees (settledAs limit (advance p) i (opened r h) (progressOf (ws′ r) (opened r h)) .peer) (ws′ r) mem′
-      (enterSegment l t (settledAs limit (advance p) i (opened r h) (progressOf (ws′ r) (opened r h)) .answer))) (sym (match-target i r (j .matched)))
-      (settled-agrees area limit p (advance p .next) ws (ws′ r) mem mem′ l i (opened r h) (begunAt i r) (progressOf (ws′ r) (opened r h)) agrees
-      (moved i r) refl (begun-taken i r j w))
-    where
-      ws′ : Receive → List ℕ
-      ws′ r = marked (cleared ws (r .start) (r .capacity)) (r .start + h .offset) (length bytes)
-  packet-entered (Verdict.More i o) j w =
-      unfold accept in
-      subst (λ (t : Target). Agrees (settledAs limit p i o (progressOf ws′ o) .peer) ws′ mem′ (enterSegment l t (settledAs limit p i o (progressOf ws′ o) .answer)))
-      (sym (open-target i o (j .found)))
-      (settled-agrees area limit p (p .next) ws ws′ mem mem′ l i o _ (progressOf ws′ o) agrees (agrees .next ∙ sym (pick-false _ _ refl)) refl (more-taken i o j w))
-    where
-      ws′ : List ℕ
-      ws′ = marked ws (o .receive .start + h .offset) (length bytes)

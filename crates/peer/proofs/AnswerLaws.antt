@@ -1,11 +1,21 @@
 -- The table of answers that take a packet: a claim follows from others if it does so at each of them, and all other answers are alike.
 use Prim.Native.Nat.{ℕ}
 use mathlib.Core.Bool.{true, false, false≢true, true≢false}
+use mathlib.Core.List.{List}
 use mathlib.Core.Path.{_≡_, refl}
+use native.Mathlib.Omega.{arith}
 use Rattle.protocol.specs.declared.types.CqData.{CqData}
-use Rattle.peer.specs.Answers.{onTaken}
-use Rattle.peer.specs.Claims.{takes}
+use Rattle.peer.specs.Answers.{onGranted, onTaken}
+use Rattle.peer.specs.Claims.{isGrant, takes}
+use Rattle.peer.specs.Coverage.{Segment}
+use Rattle.peer.specs.Effects.{grantOf, settledAs}
+use Rattle.peer.specs.Expected.{expectTaken}
+use Rattle.peer.specs.Says.{refused, said}
 use Rattle.peer.specs.declared.types.Answer.{Answer}
+use Rattle.peer.specs.declared.types.Inbound.{Inbound}
+use Rattle.peer.specs.declared.types.Peer.{Peer}
+use Rattle.peer.specs.declared.types.Progress.{Progress}
+use Rattle.laws.proofs.Choosing.{pick-either}
 
 -- one claim from two others
 pub claim-both : {U S A R W Q : Type 0} {G H K : ℕ → Type 0} {D E F : ℕ → ℕ → ℕ → CqData → Type 0} {T X Y : ℕ → ℕ → ℕ → Type 0} (a : Answer)
@@ -66,3 +76,39 @@ taken-same u (Answer.Granted n) x y = x n refl
 taken-same u (Answer.Done slot id n cq) x y = y slot id n cq refl
 taken-same u (Answer.Truncated slot id n) x y = refl
 taken-same u (Answer.Missing received first) x y = refl
+
+-- what is claimed of a grant, and of all others
+pub granted-or-not : {U G : Type 0} (a : Answer) → onGranted U (λ n. G) a → (isGrant a ≡ false → U) × (isGrant a ≡ true → G)
+granted-or-not (Answer.Refused k) w = (λ e. w, λ e. absurd (false≢true e))
+granted-or-not (Answer.Posted slot) w = (λ e. w, λ e. absurd (false≢true e))
+granted-or-not (Answer.Cancelled slot) w = (λ e. w, λ e. absurd (false≢true e))
+granted-or-not Answer.Stored w = (λ e. w, λ e. absurd (false≢true e))
+granted-or-not (Answer.Granted n) w = (λ e. absurd (true≢false e), λ e. w)
+granted-or-not (Answer.Done slot id n cq) w = (λ e. w, λ e. absurd (false≢true e))
+granted-or-not (Answer.Truncated slot id n) w = (λ e. w, λ e. absurd (false≢true e))
+granted-or-not (Answer.Missing received first) w = (λ e. w, λ e. absurd (false≢true e))
+
+-- ---- which answers take a packet
+
+-- such an answer is no refusal
+pub takes-unrefused : (a : Answer) → takes a ≡ true → said a .word ≡ refused → ⊥
+takes-unrefused (Answer.Refused k) e x = false≢true e
+takes-unrefused (Answer.Posted slot) e x = false≢true e
+takes-unrefused (Answer.Cancelled slot) e x = false≢true e
+takes-unrefused Answer.Stored e x = let z : _≡_ {A = ℕ} 0 1 = cc in omega arith
+takes-unrefused (Answer.Granted n) e x = let z : _≡_ {A = ℕ} 0 1 = cc in omega arith
+takes-unrefused (Answer.Done slot id n cq) e x = let z : _≡_ {A = ℕ} 0 1 = cc in omega arith
+takes-unrefused (Answer.Truncated slot id n) e x = let z : _≡_ {A = ℕ} 0 1 = cc in omega arith
+takes-unrefused (Answer.Missing received first) e x = false≢true e
+
+-- that of an accepted segment does
+pub settled-takes : (limit : ℕ) (p : Peer) (i : ℕ) (o : Inbound) (g : Progress) → takes (settledAs limit p i o g .answer) ≡ true
+unfolding settledAs
+settled-takes limit p i o Progress.Whole = refl
+settled-takes limit p i o Progress.Due = refl
+settled-takes limit p i o Progress.Partial = refl
+
+pub expect-takes : (limit i : ℕ) (o : Inbound) (gs : List Segment) → takes (expectTaken limit i o gs) ≡ true
+unfolding expectTaken
+expect-takes limit i o gs =
+    pick-either (λ (a : Answer). takes a ≡ true) _ refl (pick-either (λ (a : Answer). takes a ≡ true) _ {a = Answer.Granted (grantOf limit (o .message))} {b = Answer.Stored} refl refl)

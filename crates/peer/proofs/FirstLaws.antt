@@ -32,6 +32,12 @@ module _ {C : Type 0} (fails : C → Type 0) (number : C → ℕ) where
         earlier = λ x m. ⊎-elim (λ e y. n (subst fails e y)) (λ m. f .earlier x m) (List·Memᴰ·cases-cons m);
       }
 
+  -- it is the same for all that is no refusal
+  pub gone-unrefused : (cs : List C) (s t : Saying) → (s .word ≡ refused → ⊥) → (t .word ≡ refused → ⊥) → Gone cs s → Gone cs t
+  gone-unrefused [] s t n m g = m
+  gone-unrefused (c ∷ cs) s t n m (inl (f, e)) = absurd (n (said-refused e))
+  gone-unrefused (c ∷ cs) s t n m (inr (x, g)) = inr (x, gone-unrefused cs s t n m g)
+
   first-given : (cs : List C) (s : Saying) → Gone cs s → (k : ℕ) → s ≡ say refused (k ∷ []) → (c : C) × FirstToFail fails cs c × (number c ≡ k)
   first-given [] s g k e = absurd (g (said-refused e))
   first-given (c ∷ cs) s (inl (f, x)) k e =

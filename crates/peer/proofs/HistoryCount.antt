@@ -9,9 +9,9 @@ use Rattle.laws.specs.Choose.{pick}
 use Rattle.protocol.specs.InWords.{NumbersAreLittleEndian}
 use Rattle.peer.specs.Calls.{Call}
 use Rattle.peer.specs.Claims.{AllBytes, AreBytes, MatchedByCount, answersOf, idAt, idsOf, isMatch, numbersOf, takes}
-use Rattle.peer.specs.Expected.{expected, targetOfCall}
+use Rattle.peer.specs.Expected.{enter, expected, targetOfCall}
 use Rattle.peer.specs.Matching.{ahead}
-use Rattle.peer.specs.Plain.{Plain, Target, enter, enterPost, freshPlain}
+use Rattle.peer.specs.Plain.{Plain, Target, freshPlain}
 use Rattle.peer.specs.declared.types.Answer.{Answer}
 use Rattle.peer.specs.declared.types.Inbound.{Inbound}
 use Rattle.peer.specs.declared.types.Incoming.{Incoming}
@@ -19,8 +19,7 @@ use Rattle.wire.specs.LittleEndian.{leAt}
 use Rattle.laws.proofs.Choosing.{branch, pick-first}
 use Rattle.protocol.proofs.WordsHold.{numbers-are-little-endian}
 use Rattle.peer.proofs.BytesHold.{read-says}
-use Rattle.peer.proofs.HistoryFacts.{Aims, begins, goesOn, outcome, taken-by}
-use Rattle.peer.proofs.HistorySteps.{Entered, asBefore, entered, withCancel, withEnd, withGrant, withPost, withSegment}
+use Rattle.peer.proofs.HistoryFacts.{Aims, Entered, asBefore, begins, entered, goesOn, outcome, taken-by, withCancel, withEnd, withGrant, withPost, withSegment}
 
 -- ---- the next id
 
@@ -28,9 +27,9 @@ use Rattle.peer.proofs.HistorySteps.{Entered, asBefore, entered, withCa
 next-after : {limit : ℕ} {l : Plain} {c : Call} {t : Target} {a : Answer} {l′ : Plain} → Entered limit l c t a l′
     → l′ .next ≡ pick (isMatch t a) ((l .next + 1) % 4294967296) (l .next)
 unfolding pick
-next-after (asBefore t a e) = rw e
-next-after (withPost t i r) = unfold enterPost in refl
-next-after (withCancel t i) = refl
+next-after (asBefore t a e n) = rw e
+next-after (withPost t i r e) = refl
+next-after (withCancel t i n) = refl
 next-after (withSegment t w) = refl
 next-after (withGrant t n w) = refl
 next-after (withEnd t a w e) = rw e

@@ -1,4 +1,5 @@
--- An answer taken apart: which packet a call brings, where its segment goes, and what was tested on the way.
+-- An answer taken apart: which packet a call brings, where its segment goes, what was tested on the way, and what is entered. One walk
+-- through the tests of the plain receiver.
 use Prim.Native.Nat.{ℕ, _+_, _≤_, _<_}
 use borrow.Author.Tests.{ltb-true, ltb-false}
 use lib.Dec.{leb, ltb}
@@ -7,21 +8,24 @@ use mathlib.Core.List.{List}
 use mathlib.Core.Path.{_≡_, refl}
 use native.Mathlib.Omega.{arith}
 use Rattle.bitmap.specs.Offsets.{someOf}
+use Rattle.laws.specs.Choose.{pick}
 use Rattle.protocol.specs.Reading.{readOf}
-use Rattle.protocol.specs.Refusals.{badLength, badSlot, beyondGrant, differs, early, late, overlaps, repeated, shortReply}
+use Rattle.protocol.specs.Refusals.{badLength, badSlot, beyondGrant, differs, early, late, noReceive, noSlot, overlaps, repeated, shortReply}
 use Rattle.protocol.specs.Values.{bytesAt}
 use Rattle.protocol.specs.declared.types.CqData.{CqData}
 use Rattle.protocol.specs.declared.types.Packet.{Packet}
 use Rattle.protocol.specs.declared.types.Read.{Read}
+use Rattle.protocol.specs.declared.types.Refusal.{Refusal}
 use Rattle.peer.specs.Answers.{onTaken}
 use Rattle.peer.specs.Calls.{Call, cancel, packet, post, report}
 use Rattle.peer.specs.Claims.{takes}
-use Rattle.peer.specs.Coverage.{Segment, allOf, covers}
+use Rattle.peer.specs.Coverage.{allOf, covers}
 use Rattle.peer.specs.Effects.{grantOf, opened}
-use Rattle.peer.specs.Expected.{anyOverlap, expectAgain, expectCancel, expectData, expectFit, expectFound, expectMore, expectNew, expectPlace, expectPost, expectRead, expectReport, expectTaken, expected, lowestIdle, targetOfCall, targetOfRead}
+use Rattle.peer.specs.Expected.{Ruling, accepting, anyOverlap, enter, expectAgain, expectCancel, expectData, expectFit, expectFound, expectMore, expectNew, expectPacket, expectPlace, expectPost, expectRead, expectReport, expectTaken, expected, lowestIdle, refusing, targetOfCall}
 use Rattle.peer.specs.Incomings.{incomingOf, isLong, isRtm}
 use Rattle.peer.specs.Matching.{ahead}
-use Rattle.peer.specs.Plain.{Plain, Role, Target, begunEntry, entryAt, firstPosted, grown, idle, matchTarget, nowhere, openIn, receiving, roles, segmentOf, targetIn, targetOf, waiting}
+use Rattle.peer.specs.Origins.{Origin, noteOrigin}
+use Rattle.peer.specs.Plain.{Plain, Role, Target, begunAt, enterAt, entryAt, firstPosted, grantedEntry, idle, moreAt, noEntry, nowhere, openIn, posted, put, receiving, roles, segmentOf, settle, waiting}
 use Rattle.peer.specs.State.{slotCount}
 use Rattle.peer.specs.declared.types.Answer.{Answer}
 use Rattle.peer.specs.declared.types.Fit.{Fit}
@@ -66,9 +70,9 @@ pub record Matches (l : Plain) (h : Incoming) (i : ℕ) (r : Receive) (serial : 
 -- the target, and its message
 pub data Aims (l : Plain) (h : Incoming) (bytes : List ℕ) : Target → Inbound → Type 0 where
   goesOn : (i : ℕ) (o : Inbound) → Goes l h i o
-      → Aims l h bytes (record { index = i; entry = grown (entryAt (l .entries) i) (segmentOf h bytes); matched = false }) o
+      → Aims l h bytes (moreAt l i (segmentOf h bytes)) o
   begins : (i : ℕ) (r : Receive) (serial : ℕ) → Matches l h i r serial
-      → Aims l h bytes (record { index = i; entry = begunEntry r serial h (segmentOf h bytes); matched = true }) (opened r h)
+      → Aims l h bytes (begunAt h i r serial (segmentOf h bytes)) (opened r h)
 
 pub record Taken (limit : ℕ) (l : Plain) (c : Call) (t : Target) : Type 0 where
   pub brings : Brings limit c
@@ -130,118 +134,158 @@ Outcome limit l c t a =
 pub taken-by : {limit : ℕ} {l : Plain} {c : Call} {t : Target} (a : Answer) → Outcome limit l c t a → takes a ≡ true → Taken limit l c t
 taken-by a w e = claim-taken a (claim-from a (λ e u. tt) (λ e x. x .taken) (λ n e x. x .partly .taken) (λ i id n cq e x. x .taken) (λ i id n e x. x .taken) w) e
 
--- ---- the tests, one after the other
+-- ---- what a call enters
 
-module _ (limit : ℕ) (l : Plain) (c : Call) (b : Brings limit c) where
-  O : Target → Answer → Type 0
-  O = Outcome limit l c
+-- the plain receiver after a call with target t and answer a
+pub data Entered (limit : ℕ) (l : Plain) (c : Call) : Target → Answer → Plain → Type 0 where
+  asBefore : (t : Target) (a : Answer) → takes a ≡ false → ((gs : List Origin) → noteOrigin t gs c a ≡ gs) → Entered limit l c t a l
+  withPost : (t : Target) (i : ℕ) (r : Receive) → c ≡ post r → Entered limit l c t (Answer.Posted i) (posted l i r)
+  withCancel : (t : Target) (i : ℕ) → ((gs : List Origin) → noteOrigin t gs c (Answer.Cancelled i) ≡ gs) → Entered limit l c t (Answer.Cancelled i) (put l i noEntry)
+  withSegment : (t : Target) → Partly limit l c t → Entered limit l c t Answer.Stored (settle l t (t .entry))
+  withGrant : (t : Target) (n : ℕ) → Granting limit l c t n → Entered limit l c t (Answer.Granted n) (settle l t (grantedEntry n (t .entry)))
+  withEnd : (t : Target) (a : Answer) → Taken limit l c t → takes a ≡ true → Entered limit l c t a (settle l t noEntry)
 
-  segment : Segment
-  segment = segmentOf (headOf b) (bytesOf b)
+abbrev Walked : ℕ → Plain → Call → Target → Answer → Type 0
+Walked limit l c t a = Outcome limit l c t a × Entered limit l c t a (enterAt l c t a)
 
-  accepted : (t : Target) (o : Inbound) → Aims l (headOf b) (bytesOf b) t o → Fitting (t .matched) o
-      → O t (expectTaken limit (t .index) o (t .entry .segments))
+-- ---- the tests of a packet, one after the other
+
+module _ (limit : ℕ) (l : Plain) (bs : List ℕ) (room : ℕ) (q : Packet) (reads : readOf false limit bs ≡ Read.Packet q) where
+  abbrev b : Brings limit (packet bs room)
+  b = record { text = bs; room = room; read = q; call = refl; reads = reads }
+
+  abbrev h : Incoming
+  h = incomingOf q
+
+  abbrev body : List ℕ
+  body = bytesAt bs (q .«data»)
+
+  O : Ruling → Type 0
+  O x = Walked limit l (packet bs room) (x .target) (x .answer)
+
+  shut : (k : Refusal) → O (refusing k)
+  unfolding O pick
+  shut k = (tt, asBefore nowhere (Answer.Refused k) refl (λ gs. refl))
+
+  accepted : (t : Target) (o : Inbound) → Aims l h body t o → Fitting (t .matched) o → O (accepting limit o t)
   unfolding O expectTaken
   accepted t o a f =
-      let w : Taken limit l c t = record { brings = b; message = o; aims = a } in
-      branch (Outcome limit l c t) _ _ _
-      (λ x. record { taken = w; covered = x; slotIs = refl; idIs = refl; lengthIs = refl; cqIs = refl; fits = f })
-      (λ x. branch (Outcome limit l c t) _ (Answer.Granted (grantOf limit (o .message))) Answer.Stored
-      (λ y. record {
-        partly = record { taken = w; covered = x; fits = f };
+      let w : Taken limit l (packet bs room) t = record { brings = b; message = o; aims = a } in
+      branch (Walked limit l (packet bs room) t) _ _ _
+      (λ x. (record { taken = w; covered = x; slotIs = refl; idIs = refl; lengthIs = refl; cqIs = refl; fits = f }, withEnd t _ w refl))
+      (λ x.
+      let p : Partly limit l (packet bs room) t = record { taken = w; covered = x; fits = f } in
+      branch (Walked limit l (packet bs room) t) _ (Answer.Granted (grantOf limit (o .message))) Answer.Stored
+      (λ y.
+      let g : Granting limit l (packet bs room) t (grantOf limit (o .message)) = record {
+        partly = p;
         long = and-left (isLong (o .message .shape)) _ y;
         amount = refl;
         short = ltb-true _ _ (and-right (allOf (covers (t .entry .segments)) 0 (o .message .granted)) _ (and-right (isLong (o .message .shape)) _ y));
-      })
-      (λ y. record { taken = w; covered = x; fits = f }))
+      } in
+      (g, withGrant t _ g))
+      (λ y. (p, withSegment t p)))
 
   more : (i : ℕ) (o : Inbound) → entryAt (l .entries) i .role ≡ receiving o
-      → (isLong (o .message .shape) ≡ true → headOf b .offset + headOf b .size ≤ o .message .granted)
-      → O (targetIn l (headOf b) segment (Found.At i o)) (expectMore limit l (headOf b) (bytesOf b) i o)
-  unfolding O segment targetIn expectMore
+      → (isLong (o .message .shape) ≡ true → h .offset + h .size ≤ o .message .granted) → O (expectMore limit l h body i o)
+  unfolding expectMore
   more i o e g =
-      branch (Outcome limit l c _) (someOf (covers (entryAt (l .entries) i .segments)) (headOf b .offset) (headOf b .size)) (Answer.Refused repeated) _
-      (λ x. tt) (λ x. accepted _ o (goesOn i o (record { role = e; new = x; inGrant = g })) (λ y. absurd (false≢true y)))
+      branch O (someOf (covers (entryAt (l .entries) i .segments)) (h .offset) (h .size)) _ _ (λ x. shut repeated)
+      (λ x. accepted _ o (goesOn i o (record { role = e; new = x; inGrant = g })) (λ y. absurd (false≢true y)))
 
-  again : (i : ℕ) (o : Inbound) → entryAt (l .entries) i .role ≡ receiving o
-      → O (targetIn l (headOf b) segment (Found.At i o)) (expectAgain limit l (headOf b) (bytesOf b) i o)
-  unfolding O expectAgain
-  again i o e =
-      branch (Outcome limit l c _) _ _ (Answer.Refused differs)
-      (λ x. more i o e (λ long. absurd (medium-only (o .message) (headOf b) x long))) (λ x. tt)
+  again : (i : ℕ) (o : Inbound) → entryAt (l .entries) i .role ≡ receiving o → O (expectAgain limit l h body i o)
+  unfolding expectAgain
+  again i o e = branch O _ _ _ (λ x. more i o e (λ long. absurd (medium-only (o .message) h x long))) (λ x. shut differs)
 
-  granted : (i : ℕ) (o : Inbound) → entryAt (l .entries) i .role ≡ receiving o
-      → O (targetIn l (headOf b) segment (Found.At i o)) (expectData limit l (headOf b) (bytesOf b) i o)
-  unfolding O expectData
+  granted : (i : ℕ) (o : Inbound) → entryAt (l .entries) i .role ≡ receiving o → O (expectData limit l h body i o)
+  unfolding expectData
   granted i o e =
-      branch (Outcome limit l c _) _ _ (Answer.Refused late)
-      (λ long. branch (Outcome limit l c _) (ltb (o .message .granted) (headOf b .offset + headOf b .size)) (Answer.Refused beyondGrant) _
-      (λ x. tt) (λ x. more i o e (λ y. ltb-false _ _ x)))
-      (λ x. tt)
+      branch O _ _ _
+      (λ long. branch O (ltb (o .message .granted) (h .offset + h .size)) _ _ (λ x. shut beyondGrant) (λ x. more i o e (λ y. ltb-false _ _ x)))
+      (λ x. shut late)
 
-  fitted : (f : Fit) → firstPosted (headOf b) 0 Fit.Unfit (l .entries) ≡ f → isRtm (headOf b .shape) ≡ true → ahead (headOf b .id) (l .next) ≡ 0
-      → O (matchTarget (headOf b) segment f) (expectFit limit (headOf b) (bytesOf b) f)
-  unfolding O segment matchTarget expectFit
-  fitted Fit.Unfit e rtm next = tt
+  fitted : (f : Fit) → firstPosted h 0 Fit.Unfit (l .entries) ≡ f → isRtm (h .shape) ≡ true → ahead (h .id) (l .next) ≡ 0 → O (expectFit limit h body f)
+  unfolding expectFit
+  fitted Fit.Unfit e rtm next = shut noReceive
   fitted (Fit.To i r serial) e rtm next =
-      let m : Matches l (headOf b) i r serial = record { rtm = rtm; next = next; chosen = foremost (headOf b) (l .entries) i r serial e } in
-      branch (Outcome limit l c _) (ltb (r .capacity) (headOf b .length)) (Answer.Truncated i (headOf b .id) (headOf b .length)) _
-      (λ x. record {
-        taken = record { brings = b; message = opened r (headOf b); aims = begins i r serial m };
-        matched = refl;
-        slotIs = refl;
-        idIs = refl;
-        lengthIs = refl;
-        above = ltb-true (r .capacity) (headOf b .length) x;
-      })
-      (λ x. accepted _ _ (begins i r serial m) (λ y. ltb-false (r .capacity) (headOf b .length) x))
+      let m : Matches l h i r serial = record { rtm = rtm; next = next; chosen = foremost h (l .entries) i r serial e } in
+      let w : Taken limit l (packet bs room) (begunAt h i r serial (segmentOf h body)) = record { brings = b; message = opened r h; aims = begins i r serial m } in
+      branch O (ltb (r .capacity) (h .length)) _ _
+      (λ x. unfold O in (
+        record { taken = w; matched = refl; slotIs = refl; idIs = refl; lengthIs = refl; above = ltb-true (r .capacity) (h .length) x },
+        withEnd _ _ w refl,
+      ))
+      (λ x. accepted _ _ (begins i r serial m) (λ y. ltb-false (r .capacity) (h .length) x))
 
-  fresh : isRtm (headOf b .shape) ≡ true → O (targetIn l (headOf b) segment Found.Nothing) (expectNew limit l (headOf b) (bytesOf b))
-  unfolding O targetIn expectNew
+  fresh : isRtm (h .shape) ≡ true → O (expectNew limit l h body)
+  unfolding expectNew
   fresh rtm =
-      branch (Outcome limit l c _) (ltb 2147483647 (ahead (headOf b .id) (l .next))) (Answer.Refused late) _ (λ x. tt) (λ x.
-      branch (Outcome limit l c _) (ltb 0 (ahead (headOf b .id) (l .next))) (Answer.Refused early) _ (λ y. tt) (λ y.
-      fitted _ refl rtm (omega (arith, ltb-false 0 (ahead (headOf b .id) (l .next)) y))))
+      branch O (ltb 2147483647 (ahead (h .id) (l .next))) _ _ (λ x. shut late) (λ x.
+      branch O (ltb 0 (ahead (h .id) (l .next))) _ _ (λ y. shut early) (λ y.
+      fitted _ refl rtm (omega (arith, ltb-false 0 (ahead (h .id) (l .next)) y))))
 
-  found : (f : Found) → openIn (headOf b .id) 0 (roles (l .entries)) ≡ f
-      → O (targetIn l (headOf b) segment f) (expectFound limit l (headOf b) (bytesOf b) f)
-  unfolding O expectFound
+  found : (f : Found) → openIn (h .id) 0 (roles (l .entries)) ≡ f → O (expectFound limit l h body f)
+  unfolding expectFound
   found (Found.At i o) e =
-      let r = open-at (l .entries) (headOf b .id) i o e in
-      branch (Outcome limit l c _) _ _ _ (λ x. again i o r) (λ x. granted i o r)
-  found Found.Nothing e = branch (Outcome limit l c _) _ _ (Answer.Refused late) (λ x. fresh x) (λ x. tt)
+      let r = open-at (l .entries) (h .id) i o e in
+      branch O _ _ _ (λ x. again i o r) (λ x. granted i o r)
+  found Found.Nothing e = branch O _ _ _ (λ x. fresh x) (λ x. shut late)
 
-pub outcome : (area limit : ℕ) (l : Plain) (c : Call) → Outcome limit l c (targetOfCall limit l c) (expected area limit l c)
-unfolding targetOfCall expected expectPost expectRead targetOf O segment
-outcome area limit l (post r) =
-    branch P (ltb area (r .start + r .capacity)) (Answer.Refused badLength) _ (λ x. tt) (λ x.
-    branch P (anyOverlap r (roles (l .entries))) (Answer.Refused overlaps) _ (λ y. tt) (λ y. go (lowestIdle 0 (roles (l .entries)))))
+-- ---- every call
+
+walked : (area limit : ℕ) (l : Plain) (c : Call) → Walked limit l c (targetOfCall limit l c) (expected area limit l c)
+unfolding targetOfCall expected expectPost expectPacket expectRead O pick
+walked area limit l (post r) =
+    branch P (ltb area (r .start + r .capacity)) _ _ (λ x. shut badLength) (λ x.
+    branch P (anyOverlap r (roles (l .entries))) _ _ (λ y. shut overlaps) (λ y. go (lowestIdle 0 (roles (l .entries)))))
   where
     P : Answer → Type 0
-    P = Outcome limit l (post r) nowhere
+    P = Walked limit l (post r) nowhere
+
+    shut : (k : Refusal) → P (Answer.Refused k)
+    shut k = (tt, asBefore nowhere _ refl (λ gs. refl))
 
     go : (v : Vacancy) → P (expectPlace v)
-    go Vacancy.Full = tt
-    go (Vacancy.Slot i) = tt
-outcome area limit l (packet bs room) =
-    branch (Outcome limit l (packet bs room) _) (ltb room 24) (Answer.Refused shortReply) _ (λ x. tt) (λ x. go (readOf false limit bs) refl)
+    go Vacancy.Full = shut noSlot
+    go (Vacancy.Slot i) = (tt, withPost nowhere i r refl)
+walked area limit l (packet bs room) =
+    branch (λ (x : Ruling). Walked limit l (packet bs room) (x .target) (x .answer)) (ltb room 24) _ _ (λ x. shut shortReply) (λ x. go (readOf false limit bs) refl)
   where
-    go : (x : Read) → readOf false limit bs ≡ x → Outcome limit l (packet bs room) (targetOfRead l bs x) (expectRead limit l bs x)
-    go (Read.Refused k) e = tt
-    go (Read.Packet q) e =
-        let b : Brings limit (packet bs room) = record { text = bs; room = room; read = q; call = refl; reads = e } in
-        found limit l (packet bs room) b (openIn (incomingOf q .id) 0 (roles (l .entries))) refl
-outcome area limit l (cancel i) =
-    branch (Outcome limit l (cancel i) nowhere) (leb slotCount i) (Answer.Refused badSlot) _ (λ x. tt) (λ x. go (entryAt (l .entries) i .role))
+    shut : (k : Refusal) → Walked limit l (packet bs room) nowhere (Answer.Refused k)
+    shut k = (tt, asBefore nowhere _ refl (λ gs. refl))
+
+    go : (x : Read) → readOf false limit bs ≡ x → Walked limit l (packet bs room) (expectRead limit l bs x .target) (expectRead limit l bs x .answer)
+    go (Read.Refused k) e = shut k
+    go (Read.Packet q) e = found limit l bs room q e (openIn (incomingOf q .id) 0 (roles (l .entries))) refl
+walked area limit l (cancel i) = branch P (leb slotCount i) _ _ (λ x. shut) (λ x. go (entryAt (l .entries) i .role))
   where
-    go : (u : Role) → Outcome limit l (cancel i) nowhere (expectCancel i u)
-    go idle = tt
-    go (waiting r) = tt
-    go (receiving o) = tt
-outcome area limit l (report i) =
-    branch (Outcome limit l (report i) nowhere) (leb slotCount i) (Answer.Refused badSlot) _ (λ x. tt) (λ x. go (entryAt (l .entries) i .role))
+    P : Answer → Type 0
+    P = Walked limit l (cancel i) nowhere
+
+    shut : P (Answer.Refused badSlot)
+    shut = (tt, asBefore nowhere _ refl (λ gs. refl))
+
+    go : (u : Role) → P (expectCancel i u)
+    go idle = shut
+    go (waiting r) = (tt, withCancel nowhere i (λ gs. refl))
+    go (receiving o) = (tt, withCancel nowhere i (λ gs. refl))
+walked area limit l (report i) = branch P (leb slotCount i) _ _ (λ x. shut) (λ x. go (entryAt (l .entries) i .role))
   where
-    go : (u : Role) → Outcome limit l (report i) nowhere (expectReport (entryAt (l .entries) i .segments) u)
-    go idle = tt
-    go (waiting r) = tt
-    go (receiving o) = tt
+    P : Answer → Type 0
+    P = Walked limit l (report i) nowhere
+
+    shut : P (Answer.Refused badSlot)
+    shut = (tt, asBefore nowhere _ refl (λ gs. refl))
+
+    go : (u : Role) → P (expectReport (entryAt (l .entries) i .segments) u)
+    go idle = shut
+    go (waiting r) = shut
+    go (receiving o) = (tt, asBefore nowhere _ refl (λ gs. refl))
+
+pub outcome : (area limit : ℕ) (l : Plain) (c : Call) → Outcome limit l c (targetOfCall limit l c) (expected area limit l c)
+outcome area limit l c = walked area limit l c .0
+
+pub entered : (area limit : ℕ) (l : Plain) (c : Call)
+    → Entered limit l c (targetOfCall limit l c) (expected area limit l c) (enter limit l c (expected area limit l c))
+unfolding enter
+entered area limit l c = walked area limit l c .1

@@ -9,17 +9,16 @@ use native.Mathlib.Omega.{arith}
 use Rattle.laws.specs.Choose.{pick}
 use Rattle.peer.specs.Calls.{Call}
 use Rattle.peer.specs.Claims.{Distinct, Once, answersOf, isDone, isMatch, numbersOf, receivesOf, takes}
-use Rattle.peer.specs.Expected.{expected, targetOfCall}
-use Rattle.peer.specs.Plain.{Entry, Plain, Role, Target, enter, freshPlain, grantedEntry, idle, nextAfter, noEntry, receiving, waiting}
+use Rattle.peer.specs.Expected.{enter, expected, targetOfCall}
+use Rattle.peer.specs.Plain.{Entry, Plain, Role, Target, freshPlain, grantedEntry, idle, nextAfter, noEntry, receiving, waiting}
 use Rattle.peer.specs.declared.types.Answer.{Answer}
 use Rattle.peer.specs.declared.types.Inbound.{Inbound}
 use Rattle.peer.specs.declared.types.Incoming.{Incoming}
 use Rattle.laws.proofs.Choosing.{branch, clashing, pick-first, tested}
 use Rattle.laws.proofs.Listing.{set-there}
 use Rattle.peer.proofs.AnswerLaws.{untaken-is}
-use Rattle.peer.proofs.HistoryFacts.{Aims, Taken, begins, goesOn}
+use Rattle.peer.proofs.HistoryFacts.{Aims, Entered, Taken, asBefore, begins, entered, goesOn, withCancel, withEnd, withGrant, withPost, withSegment}
 use Rattle.peer.proofs.HistorySerials.{Numbered, Passes, aims-used, fresh-numbered, goes-on, numbered, passes, roleAt, serialAt, stays, used, waits}
-use Rattle.peer.proofs.HistorySteps.{Entered, asBefore, entered, withCancel, withEnd, withGrant, withPost, withSegment}
 
 -- ---- a receive that is named
 
@@ -52,9 +51,9 @@ match-ends {limit} {l} {c} {t} {a} {l′} w x = go w (m .0) (m .1)
     ended {t} w e y g = ends-set waits l (nextAfter l t) (t .index) e (aims-used (w .aims) .0) (aims-waits (w .aims) y) g
 
     go : {t : Target} {a : Answer} {l′ : Plain} → Entered limit l c t a l′ → takes a ≡ true → t .matched ≡ true → Ends waits l (t .index) l′
-    go (asBefore t a e) x y = clashing (takes a) x e
-    go (withPost t i r) x y = absurd (false≢true x)
-    go (withCancel t i) x y = absurd (false≢true x)
+    go (asBefore t a e n) x y = clashing (takes a) x e
+    go (withPost t i r e) x y = absurd (false≢true x)
+    go (withCancel t i n) x y = absurd (false≢true x)
     go (withSegment t w) x y = ended (w .taken) (t .entry) y (stays (w .taken))
     go (withGrant t n w) x y = ended (w .partly .taken) (grantedEntry n (t .entry)) y (goes-on n (w .partly .taken))
     go (withEnd t a w k) x y = ended w noEntry y refl
@@ -65,9 +64,9 @@ done-takes t a e = ⊎-elim (λ x. x) (λ x. clashing (isDone t a) e (untaken-is
 -- a done ends a receive's use
 done-ends : {limit : ℕ} {l : Plain} {c : Call} {t : Target} {a : Answer} {l′ : Plain} → Entered limit l c t a l′ → isDone t a ≡ true
     → Ends used l (t .index) l′
-done-ends (asBefore t a e) x = clashing (takes a) (done-takes t a x) e
-done-ends (withPost t i r) x = absurd (false≢true x)
-done-ends (withCancel t i) x = absurd (false≢true x)
+done-ends (asBefore t a e n) x = clashing (takes a) (done-takes t a x) e
+done-ends (withPost t i r e) x = absurd (false≢true x)
+done-ends (withCancel t i n) x = absurd (false≢true x)
 done-ends (withSegment t w) x = absurd (false≢true x)
 done-ends (withGrant t n w) x = absurd (false≢true x)
 done-ends {l} (withEnd t a w k) x =

@@ -9,7 +9,7 @@ use mathlib.Core.Path.{_≡_, refl, sym, ap, _∙_, subst₂}
 use native.Mathlib.Nat.{le-refl}
 use native.Mathlib.Omega.{arith}
 use Rattle.peer.specs.Calls.{Call}
-use Rattle.peer.specs.Plain.{Entry, Plain, Role, Target, enterPost, entryAt, extendedRole, freshPlain, grantedEntry, idle, nextAfter, noEntry, receiving, waiting}
+use Rattle.peer.specs.Plain.{Entry, Plain, Role, Target, entryAt, extendedRole, freshPlain, grantedEntry, idle, nextAfter, noEntry, posted, receiving, waiting}
 use Rattle.peer.specs.State.{slotCount}
 use Rattle.peer.specs.declared.types.Answer.{Answer}
 use Rattle.peer.specs.declared.types.Inbound.{Inbound}
@@ -17,8 +17,7 @@ use Rattle.peer.specs.declared.types.Incoming.{Incoming}
 use Rattle.peer.specs.declared.types.Receive.{Receive}
 use Rattle.laws.proofs.Choosing.{clashing}
 use Rattle.laws.proofs.Listing.{replicate-each, set-cases}
-use Rattle.peer.proofs.HistoryFacts.{Aims, Taken, begins, goesOn, taken-role}
-use Rattle.peer.proofs.HistorySteps.{Entered, asBefore, withCancel, withEnd, withGrant, withPost, withSegment}
+use Rattle.peer.proofs.HistoryFacts.{Aims, Entered, Taken, asBefore, begins, goesOn, taken-role, withCancel, withEnd, withGrant, withPost, withSegment}
 
 abbrev pub used : Role → Bool
 used idle = false
@@ -85,8 +84,7 @@ passes-set l n i e f =
         subst₂ (λ (k : ℕ) (d : Entry). Was (entryAt (l .entries) k) d) (sym (x .0)) (sym (x .1)) (f (ap (λ (d : Entry). used (d .role)) (sym (x .1)) ∙ u))
     go j u (inr x) = was-same _ _ x u
 
-passes-post : (l : Plain) (i : ℕ) (r : Receive) → Passes l (enterPost l r (Answer.Posted i))
-unfolding enterPost
+passes-post : (l : Plain) (i : ℕ) (r : Receive) → Passes l (posted l i r)
 passes-post l i r =
     record {
       place = i;
@@ -119,9 +117,9 @@ pub goes-on : {limit : ℕ} {l : Plain} {c : Call} {t : Target} (n : ℕ) → Ta
 goes-on n w = ap (λ (u : Role). waits (extendedRole n u)) (taken-role w)
 
 pub passes : {limit : ℕ} {l : Plain} {c : Call} {t : Target} {a : Answer} {l′ : Plain} → Entered limit l c t a l′ → Passes l l′
-passes {l} (asBefore t a e) = record { place = 0; more = le-refl (l .posts); came = λ j u. inl (was-same _ _ refl u) }
-passes {l} (withPost t i r) = passes-post l i r
-passes {l} (withCancel t i) = passes-set l (l .next) i noEntry (λ x. absurd (false≢true x))
+passes {l} (asBefore t a e n) = record { place = 0; more = le-refl (l .posts); came = λ j u. inl (was-same _ _ refl u) }
+passes {l} (withPost t i r e) = passes-post l i r
+passes {l} (withCancel t i n) = passes-set l (l .next) i noEntry (λ x. absurd (false≢true x))
 passes {l} (withSegment t w) = passes-set l (nextAfter l t) (t .index) (t .entry) (λ x. taken-was (w .taken) (t .entry) refl (stays (w .taken)))
 passes {l} (withGrant t n w) =
     passes-set l (nextAfter l t) (t .index) (grantedEntry n (t .entry))

@@ -1,23 +1,17 @@
 -- A call leaves a peer that can be where it found one, keeps the number of slots and of map words, and writes inside the area only.
 use Prim.Native.Nat.{ℕ, _+_, _-_, _≤_, _<_}
-use borrow.Author.Tests.{ltb-false, leb-false, le-leb, ne-eqb}
+use borrow.Author.Tests.{le-leb, ne-eqb}
 use lib.Dec.{eqb}
 use lib.ListN.{length, set, length-set}
 use mathlib.Core.Bool.{false, _||_}
 use mathlib.Core.List.{List}
-use mathlib.Core.Path.{_≡_, refl, sym, ap, ap₂, _∙_}
+use mathlib.Core.Path.{_≡_, refl, sym, ap, ap₂, _∙_, subst}
 use native.Mathlib.Omega.{arith}
 use Rattle.bitmap.specs.Map.{cleared, marked}
-use Rattle.protocol.specs.Reading.{readOf}
-use Rattle.protocol.specs.Refusals.{badSlot, noSlot}
-use Rattle.protocol.specs.Values.{bytesAt}
-use Rattle.protocol.specs.declared.types.Packet.{Packet}
-use Rattle.protocol.specs.declared.types.Read.{Read}
-use Rattle.peer.specs.Calls.{Call, cancel, cancelAt, cancelEffect, countOlder, countPosted, missingIn, packet, packetEffect, peerStep, placed, placedIn, post, postEffect, readEffect, renumbered, renumberedPhase, report, reportAt, reportEffect, someInTheWay}
-use Rattle.peer.specs.Effects.{Effect, accept, advance, begun, carry, extended, grantOf, opened, progressOf, quiet, settledAs, truncatedAt, withPhase}
+use Rattle.peer.specs.Calls.{Call, countOlder, countPosted, missingIn, peerStep, placed, renumbered, renumberedPhase, someInTheWay}
+use Rattle.peer.specs.Effects.{Effect, accept, advance, begun, extended, grantOf, opened, progressOf, quiet, settledAs, truncatedAt, withPhase}
 use Rattle.peer.specs.Formed.{Formed}
 use Rattle.peer.specs.Incomings.{incomingOf}
-use Rattle.peer.specs.Judging.{judge}
 use Rattle.peer.specs.Matching.{vacancy}
 use Rattle.peer.specs.State.{clash, inTheWay, overlap, phaseAt, phaseFits, slotCount, slotWith}
 use Rattle.peer.specs.declared.types.Answer.{Answer}
@@ -33,16 +27,14 @@ use Rattle.peer.specs.declared.types.Progress.the-variants.{Due, Partial
 use Rattle.peer.specs.declared.types.Receive.{Receive}
 use Rattle.peer.specs.declared.types.Slot.{Slot}
 use Rattle.peer.specs.declared.types.Vacancy.{Vacancy}
-use Rattle.peer.specs.declared.types.Vacancy.the-variants.{Full}
-use Rattle.peer.specs.declared.types.Verdict.{Verdict}
-use Rattle.peer.specs.declared.types.Verdict.the-variants.{Begin, More, Refuse, Truncate}
 use Rattle.bitmap.proofs.BitLaws.{length-cleared, length-marked}
-use Rattle.laws.proofs.Choosing.{branch, or-left, or-neither}
+use Rattle.laws.proofs.Choosing.{or-left, or-neither}
 use Rattle.peer.proofs.Ages.{length-renumbered, older-below, phase-renumbered, valid-renumbered}
 use Rattle.peer.proofs.PacketsRead.{read-formed}
 use Rattle.peer.proofs.Slots.{found-nothing, stands-at, vacant, way-clear}
+use Rattle.peer.proofs.StepCases.{StepCase, begins, cancelled, continues, dataOf, posted, refused, reported, step-case, truncated}
 use Rattle.peer.proofs.Valid.{Valid, Within, open-within, posted-within, valid-set, within-open}
-use Rattle.peer.proofs.Verdicts.{Begins, Continues, Judged, chosen-at, continued-at, judged}
+use Rattle.peer.proofs.Verdicts.{Begins, Continues, chosen-at, continued-at}
 
 pub record Kept (area : ℕ) (p : Peer) (ws : List ℕ) (f : Effect) : Type 0 where
   pub valid : Valid area (f .peer .slots)
@@ -144,27 +136,12 @@ continued-standing area p ws h i o v c =
       apart = λ k l m. ap (λ (f : Phase). clash f (phaseAt (p .slots) k)) (sym (at .1)) ∙ v .pairs i k (at .0) l (λ x. m (sym x));
     }
 
-carry-kept : (area limit : ℕ) (p : Peer) (ws : List ℕ) (h : Incoming) (bytes : List ℕ) (d : Verdict) → Valid area (p .slots) → Formed h (length bytes)
-    → Judged p ws h d → Kept area p ws (carry limit p ws h bytes d)
-unfolding carry begun truncatedAt
-carry-kept area limit p ws h bytes (Verdict.Refuse k) v form j = quiet-kept area p p ws (Answer.Refused k) v refl
-carry-kept area limit p ws h bytes (Verdict.Truncate i) v form j =
-    quiet-kept area p (advance (withPhase p i Phase.Free)) ws (Answer.Truncated i (h .id) (h .length))
-    (valid-free area (p .slots) i (chosen-at p h i (j .receive) (j .matched) .0) v) (length-set (p .slots) i _)
-carry-kept area limit p ws h bytes (Verdict.Begin i r) v form j =
-    accept-kept area limit (advance p) p (cleared ws (r .start) (r .capacity)) ws i (opened r h) (h .offset) bytes v
-    (begun-standing area p h (length bytes) i r v form j) refl (length-cleared ws (r .start) (r .capacity))
-    (omega (arith, form .size, form .inside (j .matched .rtm)))
-carry-kept area limit p ws h bytes (Verdict.More i o) v form j =
-    accept-kept area limit p p ws ws i o (h .offset) bytes v (continued-standing area p ws h i o v j) refl refl (omega (arith, form .size, j .inLength))
-
 -- ---- a post
 
-placed-kept : (area : ℕ) (p : Peer) (ws : List ℕ) (r : Receive) (y : Vacancy) → vacancy 0 (p .slots) ≡ y → Valid area (p .slots)
-    → r .start + r .capacity ≤ area → someInTheWay r (p .slots) ≡ false → Kept area p ws (placedIn p ws r y)
-unfolding placedIn placed
-placed-kept area p ws r Vacancy.Full e v a c = quiet-kept area p p ws (Answer.Refused noSlot) v refl
-placed-kept area p ws r (Vacancy.Slot i) e v a c =
+placed-kept : (area : ℕ) (p : Peer) (ws : List ℕ) (r : Receive) (i : ℕ) → vacancy 0 (p .slots) ≡ Vacancy.Slot i → Valid area (p .slots)
+    → r .start + r .capacity ≤ area → someInTheWay r (p .slots) ≡ false → Kept area p ws (quiet (placed p r i) ws (Answer.Posted i))
+unfolding placed
+placed-kept area p ws r i e v a c =
     quiet-kept area p (placed p r i) ws (Answer.Posted i)
     (valid-set area all i (Phase.Posted r young) (omega (arith, at .0, length-renumbered (p .slots) (p .slots))) (valid-renumbered area (p .slots) v)
     (unfold phaseFits in le-leb (r .start + r .capacity) area a)
@@ -194,33 +171,28 @@ placed-kept area p ws r (Vacancy.Slot i) e v a c =
 
 pub step-kept : (area limit : ℕ) (p : Peer) (ws : List ℕ) (c : Call) → Valid area (p .slots) → length (p .slots) ≡ slotCount
     → Kept area p ws (peerStep area limit p ws c)
-unfolding peerStep postEffect packetEffect readEffect cancelEffect reportEffect
-step-kept area limit p ws (post r) v e =
-    branch (Kept area p ws) _ _ _ (λ x. quiet-kept area p p ws _ v refl) (λ x.
-    branch (Kept area p ws) _ _ _ (λ y. quiet-kept area p p ws _ v refl)
-    (λ y. placed-kept area p ws r (vacancy 0 (p .slots)) refl v (ltb-false area _ x) y))
-step-kept area limit p ws (packet bs room) v e =
-    branch (Kept area p ws) _ _ _ (λ x. quiet-kept area p p ws _ v refl) (λ x. read (readOf false limit bs) refl)
+unfolding truncatedAt begun
+step-kept area limit p ws c v e = go (step-case area limit p ws c)
   where
-    read : (d : Read) → readOf false limit bs ≡ d → Kept area p ws (readEffect limit p ws bs d)
-    read (Read.Refused k) x = quiet-kept area p p ws (Answer.Refused k) v refl
-    read (Read.Packet q) x =
-        carry-kept area limit p ws (incomingOf q) (bytesAt bs (q .«data»)) (judge p ws (incomingOf q)) v (read-formed limit bs q x)
-        (judged area p ws (incomingOf q) (length (bytesAt bs (q .«data»))) v (read-formed limit bs q x))
-step-kept area limit p ws (cancel i) v e =
-    branch (Kept area p ws) _ _ _ (λ x. quiet-kept area p p ws _ v refl) (λ x. at (phaseAt (p .slots) i) (omega (arith, leb-false slotCount i x)))
-  where
-    freed : i < length (p .slots) → Kept area p ws (quiet (withPhase p i Phase.Free) ws (Answer.Cancelled i))
-    freed h = quiet-kept area p (withPhase p i Phase.Free) ws (Answer.Cancelled i) (valid-free area (p .slots) i h v) (length-set (p .slots) i _)
+    freed : (q : Peer) (i : ℕ) (a : Answer) → q .slots ≡ set (p .slots) i (slotWith Phase.Free) → i < length (p .slots) → Kept area p ws (quiet q ws a)
+    freed q i a x h =
+        quiet-kept area p q ws a (subst (Valid area) (sym x) (valid-free area (p .slots) i h v)) (ap length x ∙ length-set (p .slots) i _)
 
-    at : (f : Phase) → i < length (p .slots) → Kept area p ws (cancelAt p ws i f)
-    at Phase.Free h = unfold cancelAt in quiet-kept area p p ws (Answer.Refused badSlot) v refl
-    at (Phase.Posted r a) h = unfold cancelAt in freed h
-    at (Phase.Open o) h = unfold cancelAt in freed h
-step-kept area limit p ws (report i) v e =
-    branch (Kept area p ws) _ _ _ (λ x. quiet-kept area p p ws _ v refl) (λ x. at (phaseAt (p .slots) i))
-  where
-    at : (f : Phase) → Kept area p ws (reportAt p ws f)
-    at Phase.Free = unfold reportAt in quiet-kept area p p ws (Answer.Refused badSlot) v refl
-    at (Phase.Posted r a) = unfold reportAt in quiet-kept area p p ws (Answer.Refused badSlot) v refl
-    at (Phase.Open o) = unfold reportAt in quiet-kept area p p ws (missingIn ws o) v refl
+    go : {c : Call} {f : Effect} → StepCase area limit p ws c f → Kept area p ws f
+    go (refused c k m) = quiet-kept area p p ws (Answer.Refused k) v refl
+    go (posted r i x a w) = placed-kept area p ws r i x v a w
+    go (cancelled i l u) = freed (withPhase p i Phase.Free) i (Answer.Cancelled i) refl (omega arith)
+    go (reported i o x) = quiet-kept area p p ws (missingIn ws o) v refl
+    go (truncated bs room q a i j) =
+        freed (advance (withPhase p i Phase.Free)) i (Answer.Truncated i (incomingOf q .id) (incomingOf q .length)) refl
+        (chosen-at p (incomingOf q) i (j .receive) (j .matched) .0)
+    go (begins bs room q a i r b) =
+        let h : Incoming = incomingOf q in
+        let form = read-formed limit bs q (a .reads) in
+        accept-kept area limit (advance p) p (cleared ws (r .start) (r .capacity)) ws i (opened r h) (h .offset) (dataOf bs q) v
+        (begun-standing area p h (length (dataOf bs q)) i r v form b) refl (length-cleared ws (r .start) (r .capacity))
+        (omega (arith, form .size, form .inside (b .matched .rtm)))
+    go (continues bs room q a i o k) =
+        let s = continued-standing area p ws (incomingOf q) i o v k in
+        accept-kept area limit p p ws ws i o (incomingOf q .offset) (dataOf bs q) v s refl refl
+        (omega (arith, read-formed limit bs q (a .reads) .size, k .inLength (s .within .inLength)))

@@ -1,8 +1,10 @@
+pub mod AnswerLaws
 pub mod Slots
 pub mod Valid
 pub mod Verdicts
 pub mod Ages
 pub mod PacketsRead
+pub mod StepCases
 pub mod Kept
 pub mod CoverageLaws
 pub mod Roles
@@ -14,7 +16,6 @@ pub mod Yields
 pub mod Replies
 pub mod RefusedCalls
 pub mod EntrySearch
-pub mod AnswerLaws
 pub mod HistoryFacts
 pub mod HistorySteps
 pub mod HistoryDone
@@ -36,6 +37,7 @@ pub mod PostChecked
 pub mod BytesHold
 pub mod PacketChecked
 pub mod ViewSearch
+pub mod AnswersChecked
 pub mod AcceptOrRefuse
 pub mod HistoryChecked
 pub mod SlotMovesHold

@@ -1,8 +1,7 @@
 -- Each answer of a peer's call leaves what 01 says: the statement of specs/Moves.antt.
 use Prim.Native.Nat.{ℕ, _+_, _*_, _%_, _≤_, _<_}
-use borrow.Author.Tests.{leb-false}
 use lib.ListN.{length, drop}
-use mathlib.Core.Bool.{false}
+use mathlib.Core.Bool.{false, true≢false}
 use mathlib.Core.List.{List}
 use mathlib.Core.Logic.{_⊎_, inl, inr, ⊎-elim}
 use mathlib.Core.Path.{_≡_, refl, sym, ap, _∙_}
@@ -11,20 +10,17 @@ use Rattle.bitmap.specs.Map.{cleared, marked}
 use Rattle.protocol.specs.CtsWords.{CtsReadBack}
 use Rattle.protocol.specs.InWords.{headIn}
 use Rattle.protocol.specs.Reading.{readOf}
-use Rattle.protocol.specs.Refusals.{badLength, badSlot, noSlot, overlaps, shortReply}
 use Rattle.protocol.specs.Values.{bytesAt}
 use Rattle.protocol.specs.declared.types.Packet.{Packet}
 use Rattle.protocol.specs.declared.types.Read.{Read}
-use Rattle.protocol.specs.declared.types.Refusal.{Refusal}
-use Rattle.peer.specs.Calls.{Call, cancel, cancelAt, cancelEffect, missingIn, packet, packetEffect, peerStep, placedIn, post, postEffect, readEffect, report, reportAt, reportEffect}
-use Rattle.peer.specs.Effects.{Effect, accept, begun, carry, extended, grantOf, landed, opened, progressOf, refuse, settledAs, truncatedAt}
+use Rattle.peer.specs.Calls.{Call, missingIn, packet, report}
+use Rattle.peer.specs.Effects.{Effect, accept, begun, extended, grantOf, landed, opened, progressOf, quiet, settledAs, truncatedAt, withPhase}
 use Rattle.peer.specs.Formed.{Formed}
 use Rattle.peer.specs.Incomings.{incomingOf}
-use Rattle.peer.specs.Judging.{judge}
-use Rattle.peer.specs.Matching.{vacancy}
-use Rattle.peer.specs.Moves.{AllIn, Beginning, GoingOn, Moved, MovesAreAsSaid, SomeMissing}
+use Rattle.peer.specs.Moves.{AllIn, Beginning, GoingOn, Moved, MovesAreAsSaid, SomeMissing, Taking}
 use Rattle.peer.specs.PacketBytes.{offsetIn}
-use Rattle.peer.specs.State.{phaseAt, slotCount}
+use Rattle.peer.specs.Plain.{idle}
+use Rattle.peer.specs.State.{isFree, phaseAt}
 use Rattle.peer.specs.View.{roleOf}
 use Rattle.peer.specs.declared.types.Answer.{Answer}
 use Rattle.peer.specs.declared.types.Inbound.{Inbound}
@@ -33,10 +29,7 @@ use Rattle.peer.specs.declared.types.Peer.{Peer}
 use Rattle.peer.specs.declared.types.Phase.{Phase}
 use Rattle.peer.specs.declared.types.Progress.{Progress}
 use Rattle.peer.specs.declared.types.Receive.{Receive}
-use Rattle.peer.specs.declared.types.Vacancy.{Vacancy}
-use Rattle.peer.specs.declared.types.Verdict.{Verdict}
 use Rattle.bitmap.proofs.BitLaws.{length-cleared, length-marked}
-use Rattle.laws.proofs.Choosing.{branch}
 use Rattle.laws.proofs.Comparing.{le-or-lt}
 use Rattle.protocol.proofs.CtsRead.{cts-read-back}
 use Rattle.peer.proofs.BitMoves.{Reached, count-listed, first-lowest, match-marked, more-marked, reached}
@@ -47,32 +40,13 @@ use Rattle.peer.proofs.OriginsHold.{begun-by}
 use Rattle.peer.proofs.PacketsRead.{read-formed}
 use Rattle.peer.proofs.SlotMovesHold.{free-moves, matching, placed-moves, quiet-lent, set-now, set-only, truncated-moves}
 use Rattle.peer.proofs.Slots.{found-open}
+use Rattle.peer.proofs.StepCases.{StepCase, begins, cancelled, continues, posted, refused, reported, step-case, truncated}
 use Rattle.peer.proofs.Valid.{Valid, fits-valid}
-use Rattle.peer.proofs.Verdicts.{Begins, Continues, Judged, chosen-at, continued-at, judged}
-
-refused-moves : (limit : ℕ) (p : Peer) (ws : List ℕ) (c : Call) (k : Refusal) → Moved limit p ws c (refuse p ws k) (Answer.Refused k)
-refused-moves limit p ws c k = record { peer = refl; lent = quiet-lent p ws (Answer.Refused k) }
+use Rattle.peer.proofs.Verdicts.{Begins, Continues, chosen-at, continued-at}
 
 module _ (limit : ℕ) (p : Peer) (ws : List ℕ) (eight : length (p .slots) ≡ 8) where
-  post-moves : (r : Receive) (y : Vacancy) → vacancy 0 (p .slots) ≡ y → Moved limit p ws (post r) (placedIn p ws r y) (placedIn p ws r y .answer)
-  unfolding placedIn
-  post-moves r Vacancy.Full e = refused-moves limit p ws (post r) noSlot
-  post-moves r (Vacancy.Slot i) e = (r, refl, placed-moves p ws eight r i e)
-
-  cancel-moves : (i : ℕ) → i < length (p .slots) → (f : Phase) → phaseAt (p .slots) i ≡ f
-      → Moved limit p ws (cancel i) (cancelAt p ws i f) (cancelAt p ws i f .answer)
-  unfolding cancelAt
-  cancel-moves i l Phase.Free e = refused-moves limit p ws (cancel i) badSlot
-  cancel-moves i l (Phase.Posted r a) e =
-      (refl, free-moves p ws eight i l (λ x. let y = sym (ap roleOf e) ∙ x in let z : _≡_ {A = ℕ} 0 1 = cc in omega arith))
-  cancel-moves i l (Phase.Open o) e =
-      (refl, free-moves p ws eight i l (λ x. let y = sym (ap roleOf e) ∙ x in let z : _≡_ {A = ℕ} 0 1 = cc in omega arith))
-
-  report-moves : (i : ℕ) (f : Phase) → phaseAt (p .slots) i ≡ f → Moved limit p ws (report i) (reportAt p ws f) (reportAt p ws f .answer)
-  unfolding reportAt
-  report-moves i Phase.Free e = refused-moves limit p ws (report i) badSlot
-  report-moves i (Phase.Posted r a) e = refused-moves limit p ws (report i) badSlot
-  report-moves i (Phase.Open o) e =
+  report-moves : (i : ℕ) (o : Inbound) → phaseAt (p .slots) i ≡ Phase.Open o → Moved limit p ws (report i) (quiet p ws (missingIn ws o)) (missingIn ws o)
+  report-moves i o e =
       let (os, fall, each, count) = count-listed ws (o .receive .start) (o .message .length) in
       let (below, before, at) = first-lowest ws (o .receive .start) (o .message .length) in (
         i,
@@ -106,21 +80,27 @@ module _ (limit : ℕ) (p : Peer) (ws : List ℕ) (eight : length (p .slots) ≡
     beyond : AllIn now o (o .message .granted) → SomeMissing now o (o .message .length) → o .message .granted < o .message .length
     beyond all (x, l, z) = ⊎-elim (λ h. omega arith) (λ h. absurd (omega (arith, all x h))) (le-or-lt (o .message .granted) x)
 
+    -- slot i has the phase x from now on
+    taking : (x : Phase) (a : Answer) (reply : List ℕ)
+        → Taking p ws (packet bs room) i o (landed now at bytes (record { peer = withPhase q i x; answer = a; reply = reply }))
+    taking x a reply =
+        record {
+          text = bs;
+          room = room;
+          call = refl;
+          how = how;
+          only = set-only p eight i inside x n;
+          words = words;
+          place = place;
+          content = content;
+        }
+
     settled-moves : (g : Progress) → Reached now o g → Moved limit p ws (packet bs room) (Landed g) (Landed g .answer)
     unfolding settledAs grantOf
     settled-moves Progress.Whole w = (
       o,
       record {
-        taking = record {
-          text = bs;
-          room = room;
-          call = refl;
-          how = how;
-          only = set-only p eight i inside Phase.Free n;
-          words = words;
-          place = place;
-          content = content;
-        };
+        taking = taking Phase.Free _ _;
         now = set-now p eight i inside Phase.Free;
         idIs = refl;
         lengthIs = refl;
@@ -133,16 +113,7 @@ module _ (limit : ℕ) (p : Peer) (ws : List ℕ) (eight : length (p .slots) ≡
       i,
       o,
       record {
-        taking = record {
-          text = bs;
-          room = room;
-          call = refl;
-          how = how;
-          only = set-only p eight i inside (Phase.Open (extended (grantOf limit (o .message)) o)) n;
-          words = words;
-          place = place;
-          content = content;
-        };
+        taking = taking (Phase.Open (extended (grantOf limit (o .message)) o)) _ _;
         message = extended (grantOf limit (o .message)) o;
         now = set-now p eight i inside (Phase.Open (extended (grantOf limit (o .message)) o));
         more = record {
@@ -168,26 +139,8 @@ module _ (limit : ℕ) (p : Peer) (ws : List ℕ) (eight : length (p .slots) ≡
             (omega (arith, grant-left limit (o .message)));
       },
     )
-    settled-moves Progress.Partial w = (
-      i,
-      o,
-      record {
-        taking = record {
-          text = bs;
-          room = room;
-          call = refl;
-          how = how;
-          only = set-only p eight i inside (Phase.Open o) n;
-          words = words;
-          place = place;
-          content = content;
-        };
-        now = set-now p eight i inside (Phase.Open o);
-        missing = w .0;
-        waits = w .1;
-        reply = refl;
-      },
-    )
+    settled-moves Progress.Partial w =
+        (i, o, record { taking = taking (Phase.Open o) _ _; now = set-now p eight i inside (Phase.Open o); missing = w .0; waits = w .1; reply = refl })
 
   -- ---- a packet that was read
 
@@ -242,7 +195,7 @@ module _ (limit : ℕ) (p : Peer) (ws : List ℕ) (eight : length (p .slots) ≡
           stays = refl;
           bits = more-marked ws bs (o .receive) (o .receive .start + h .offset) (length bytes) (ap (λ (x : ℕ). o .receive .start + x) (says .offset))
               (sym (form .size) ∙ says .size)
-              (omega (arith, form .size, c .inLength, s .within .inRange, s .within .inArea));
+              (omega (arith, form .size, c .inLength (s .within .inLength), s .within .inRange, s .within .inArea));
         }))
         (length-marked ws (o .receive .start + h .offset) (length bytes)) (ap (λ (x : ℕ). o .receive .start + x) (says .offset))
         (bytes-told limit bs q e .rest) (progressOf now o) (reached now o)
@@ -253,40 +206,25 @@ module _ (limit : ℕ) (p : Peer) (ws : List ℕ) (eight : length (p .slots) ≡
         now : List ℕ
         now = marked ws (o .receive .start + h .offset) (length bytes)
 
-    carried-moves : (d : Verdict) → Judged p ws h d → Moved limit p ws (packet bs room) (carry limit p ws h bytes d) (carry limit p ws h bytes d .answer)
-    unfolding carry
-    carried-moves (Verdict.Refuse k) j = refused-moves limit p ws (packet bs room) k
-    carried-moves (Verdict.Truncate i) j = unfold truncatedAt in truncated-moves p ws eight bs h says room i j
-    carried-moves (Verdict.Begin i r) j = begun-moves i r j
-    carried-moves (Verdict.More i o) j = more-moves i o j
-
 -- ---- every call
 
 pub moves-are-as-said : MovesAreAsSaid
-unfolding MovesAreAsSaid peerStep postEffect packetEffect readEffect cancelEffect reportEffect
-moves-are-as-said area limit p ws (post r) fit eight words =
-    branch P _ _ _ (λ x. refused-moves limit p ws (post r) badLength) (λ x.
-    branch P _ _ _ (λ y. refused-moves limit p ws (post r) overlaps) (λ y. post-moves limit p ws eight r (vacancy 0 (p .slots)) refl))
+unfolding MovesAreAsSaid
+moves-are-as-said area limit p ws c fit eight words = go (step-case area limit p ws c)
   where
-    P : Effect → Type 0
-    P f = Moved limit p ws (post r) f (f .answer)
-moves-are-as-said area limit p ws (packet bs room) fit eight words =
-    branch P _ _ _ (λ x. refused-moves limit p ws (packet bs room) shortReply) (λ x. read (readOf false limit bs) refl)
-  where
-    P : Effect → Type 0
-    P f = Moved limit p ws (packet bs room) f (f .answer)
-
     v : Valid area (p .slots)
     v = fits-valid area p fit
 
-    read : (d : Read) → readOf false limit bs ≡ d → P (readEffect limit p ws bs d)
-    read (Read.Refused k) e = refused-moves limit p ws (packet bs room) k
-    read (Read.Packet q) e =
-        carried-moves limit p ws eight area v words bs room q e (judge p ws (incomingOf q))
-        (judged area p ws (incomingOf q) (length (bytesAt bs (q .«data»))) v (read-formed limit bs q e))
-moves-are-as-said area limit p ws (cancel i) fit eight words =
-    branch (λ (f : Effect). Moved limit p ws (cancel i) f (f .answer)) _ _ _ (λ x. refused-moves limit p ws (cancel i) badSlot)
-    (λ x. cancel-moves limit p ws eight i (omega (arith, leb-false slotCount i x)) (phaseAt (p .slots) i) refl)
-moves-are-as-said area limit p ws (report i) fit eight words =
-    branch (λ (f : Effect). Moved limit p ws (report i) f (f .answer)) _ _ _ (λ x. refused-moves limit p ws (report i) badSlot)
-    (λ x. report-moves limit p ws eight i (phaseAt (p .slots) i) refl)
+    used : (f : Phase) → isFree f ≡ false → roleOf f ≡ idle → ⊥
+    used Phase.Free u x = true≢false u
+    used (Phase.Posted r a) u x = let z : _≡_ {A = ℕ} 0 1 = cc in omega arith
+    used (Phase.Open o) u x = let z : _≡_ {A = ℕ} 0 1 = cc in omega arith
+
+    go : {c : Call} {f : Effect} → StepCase area limit p ws c f → Moved limit p ws c f (f .answer)
+    go (refused c k m) = record { peer = refl; lent = quiet-lent p ws (Answer.Refused k) }
+    go (posted r i e a w) = (r, refl, placed-moves p ws eight r i e)
+    go (cancelled i l u) = (refl, free-moves p ws eight i (omega arith) (used (phaseAt (p .slots) i) u))
+    go (reported i o e) = report-moves limit p ws eight i o e
+    go (truncated bs room q a i j) = unfold truncatedAt in truncated-moves p ws eight bs (incomingOf q) (read-says limit bs q (a .reads)) room i j
+    go (begins bs room q a i r b) = begun-moves limit p ws eight area v words bs room q (a .reads) i r b
+    go (continues bs room q a i o k) = more-moves limit p ws eight area v words bs room q (a .reads) i o k

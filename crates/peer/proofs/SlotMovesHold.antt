@@ -7,15 +7,17 @@ use mathlib.Core.Logic.{⊎-elim}
 use mathlib.Core.Path.{_≡_, refl, sym, ap, _∙_, subst}
 use native.Mathlib.Omega.{arith}
 use Rattle.peer.specs.Calls.{countPosted, packet, placed, renumbered, renumberedPhase}
+use Rattle.peer.specs.Coverage.{Segment}
 use Rattle.peer.specs.Effects.{advance, quiet, truncatedAt, withPhase}
 use Rattle.peer.specs.InWords.{NothingFoundIsNoneOpen}
 use Rattle.peer.specs.Matching.{oldest, vacancy}
 use Rattle.peer.specs.SlotMoves.{Cancelling, Matching, OnlySlot, Posting, Truncating, Untouched, roleAt}
-use Rattle.peer.specs.Plain.{Entry, entryAt, idle}
+use Rattle.peer.specs.Plain.{Entry, idle}
 use Rattle.peer.specs.State.{isFree, phaseAt, slotWith}
 use Rattle.peer.specs.View.{roleOf, rolesOf, viewOf}
 use Rattle.peer.specs.declared.types.Answer.{Answer}
 use Rattle.peer.specs.declared.types.Fit.{Fit}
+use Rattle.peer.specs.declared.types.Inbound.{Inbound}
 use Rattle.peer.specs.declared.types.Incoming.{Incoming}
 use Rattle.peer.specs.declared.types.Peer.{Peer}
 use Rattle.peer.specs.declared.types.Phase.{Phase}
@@ -23,7 +25,7 @@ use Rattle.peer.specs.declared.types.Receive.{Receive}
 use Rattle.peer.specs.declared.types.Slot.{Slot}
 use Rattle.peer.specs.declared.types.Vacancy.{Vacancy}
 use Rattle.laws.proofs.Choosing.{pick-cases, pick-true}
-use Rattle.peer.proofs.AcceptOrRefuse.{rtm-of}
+use Rattle.peer.proofs.AnswersChecked.{rtm-of}
 use Rattle.peer.proofs.Ages.{length-renumbered, phase-renumbered}
 use Rattle.peer.proofs.BytesHold.{Says}
 use Rattle.peer.proofs.EntrySearch.{Foremost, foremost}
@@ -31,7 +33,7 @@ use Rattle.peer.proofs.PacketChecked.{fits-words}
 use Rattle.peer.proofs.Roles.{open-same, role-of-slot}
 use Rattle.peer.proofs.Slots.{phase-other, phase-same, stands-at, vacant}
 use Rattle.peer.proofs.Verdicts.{CutOff, Matched, chosen-at}
-use Rattle.peer.proofs.ViewSearch.{entries-oldest, entriesOf, entryOf}
+use Rattle.peer.proofs.ViewSearch.{entries-oldest, entriesOf, entry-at, entryOf}
 use Rattle.peer.proofs.WordsHold.{nothing-found-is-none-open}
 
 -- ---- one slot replaced
@@ -139,18 +141,16 @@ module _ (p : Peer) (ws : List ℕ) (eight : length (p .slots) ≡ 8) where
           waits = chosen-at p h i r m .1;
           fit = fits-words (viewOf p ws) bs h says r .0 (first .fit);
           oldest = λ j s b x y.
-              let same = entry-at (p .slots) j ∙ ap entryOf x in
+              let same = entry-at none (p .slots) j ∙ ap (entryOf none) x in
               subst (λ (n : ℕ). m .age ≤ n) (ap (λ (e : Entry). e .serial) same)
               (first .first j s (ap (λ (e : Entry). e .role) same) (fits-words (viewOf p ws) bs h says s .1 y));
         }
       where
-        entry-at : (ss : List Slot) (j : ℕ) → entryAt (entriesOf ss) j ≡ entryOf (phaseAt ss j)
-        entry-at [] j = refl
-        entry-at (s ∷ ss) zero = refl
-        entry-at (s ∷ ss) (suc j) = entry-at ss j
+        none : Inbound → List Segment
+        none o = []
 
-        first : Foremost h (entriesOf (p .slots)) i r (m .age)
-        first = foremost h (entriesOf (p .slots)) i r (m .age) (sym (entries-oldest h 0 Fit.Unfit (p .slots)) ∙ m .chosen)
+        first : Foremost h (entriesOf none (p .slots)) i r (m .age)
+        first = foremost h (entriesOf none (p .slots)) i r (m .age) (sym (entries-oldest none h 0 Fit.Unfit (p .slots)) ∙ m .chosen)
 
     pub truncated-moves : (room i : ℕ) → CutOff p h i → Truncating p ws (packet bs room) i (h .id) (h .length) (truncatedAt p ws i h)
     unfolding truncatedAt

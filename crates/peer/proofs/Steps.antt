@@ -1,47 +1,43 @@
 -- One step of the peer and of the plain receiver: the same answer, and they go on agreeing.
 use Prim.Native.Nat.{ℕ, zero, suc, _+_, _*_, _≤_, _<_}
-use borrow.Author.Tests.{leb-false, lt-ltb, le-ltb}
+use borrow.Author.Tests.{lt-ltb, le-ltb}
 use lib.Dec.{ltb}
 use lib.ListN.{length, set, replicate, List·getD-eq-default}
 use lib.Seq.{getD-set-same, getD-set-other}
-use mathlib.Core.Bool.{true, false}
+use mathlib.Core.Bool.{true}
 use mathlib.Core.List.{List, []}
 use mathlib.Core.Logic.{inr}
 use mathlib.Core.Path.{_≡_, refl, sym, ap, ap₂, _∙_, subst}
 use native.Mathlib.Decide.{decLt, ℕ-discrete}
 use native.Mathlib.Omega.{arith}
-use Rattle.protocol.specs.Reading.{readOf}
-use Rattle.protocol.specs.Refusals.{shortReply}
-use Rattle.protocol.specs.Values.{bytesAt}
-use Rattle.protocol.specs.declared.types.Read.{Read}
 use Rattle.protocol.specs.declared.types.Refusal.{Refusal}
-use Rattle.peer.specs.Calls.{Call, cancel, cancelAt, cancelEffect, countOlder, countPosted, packet, packetEffect, peerStep, placed, placedIn, post, postEffect, readEffect, renumbered, renumberedPhase, report, reportAt, reportEffect}
+use Rattle.bitmap.specs.Map.{cleared, marked}
+use Rattle.peer.specs.Calls.{Call, cancel, countOlder, countPosted, packet, peerStep, placed, post, renumbered, renumberedPhase, report}
 use Rattle.peer.specs.Coverage.{covers}
-use Rattle.peer.specs.Effects.{Effect, quiet, refuse, withPhase}
-use Rattle.peer.specs.Expected.{expected}
+use Rattle.peer.specs.Effects.{Effect, accept, advance, begun, opened, progressOf, truncatedAt}
+use Rattle.peer.specs.Expected.{enter, expected}
 use Rattle.peer.specs.Incomings.{incomingOf, isLong}
-use Rattle.peer.specs.Judging.{judge}
-use Rattle.peer.specs.Matching.{vacancy}
-use Rattle.peer.specs.Plain.{Entry, Plain, enter, enterCancel, enterPost, enterRead, enterSegment, entryAt, freshPlain, noEntry, put, waiting}
+use Rattle.peer.specs.Plain.{Entry, Plain, Target, begunAt, enterAt, entryAt, freshPlain, moreAt, nextAfter, noEntry, nowhere, segmentOf, waiting}
 use Rattle.peer.specs.State.{clash, freeSlot, freshPeer, phaseAt, phaseFits, slotCount, slotWith}
 use Rattle.peer.specs.declared.types.Answer.{Answer}
 use Rattle.peer.specs.declared.types.Inbound.{Inbound}
+use Rattle.peer.specs.declared.types.Incoming.{Incoming}
 use Rattle.peer.specs.declared.types.Peer.{Peer}
 use Rattle.peer.specs.declared.types.Phase.{Phase}
 use Rattle.peer.specs.declared.types.Receive.{Receive}
 use Rattle.peer.specs.declared.types.Slot.{Slot}
-use Rattle.peer.specs.declared.types.Vacancy.{Vacancy}
-use Rattle.laws.proofs.Choosing.{branch}
-use Rattle.peer.proofs.Accepts.{packet-entered}
+use Rattle.laws.proofs.Choosing.{pick-false, pick-true}
+use Rattle.peer.proofs.Accepts.{begun-taken, more-taken, settled-agrees}
 use Rattle.peer.proofs.Ages.{length-renumbered, older-below, order-kept, phase-renumbered}
-use Rattle.peer.proofs.Agreement.{Agrees, step-answer}
+use Rattle.peer.proofs.Agreement.{Agrees, Meets, alike-same, begins, cancelled, continues, meets, mirrors, posted, refused, reported, truncated}
 use Rattle.peer.proofs.CoverageLaws.{Bits, Content, Wrote}
 use Rattle.peer.proofs.Entered.{agrees-kept, agrees-set, freed}
 use Rattle.peer.proofs.PacketsRead.{read-formed}
 use Rattle.peer.proofs.Roles.{role-lengths, roles-renumbered, roles-set}
 use Rattle.peer.proofs.Slots.{Stands, phase-other, phase-same, stands-at, vacant}
+use Rattle.peer.proofs.StepCases.{dataOf}
 use Rattle.peer.proofs.Valid.{Valid}
-use Rattle.peer.proofs.Verdicts.{judged}
+use Rattle.peer.proofs.Verdicts.{chosen-at}
 
 -- ---- a receive is posted
 
@@ -154,8 +150,8 @@ module _ (p : Peer) (ws : List ℕ) (mem : ℕ → ℕ) (l : Plain) (r : Receive
             subst (λ (y : Entry). Content mem (o .receive .start) (o .message .length) (y .segments)) (sym (w .1)) (a .content j o (w .0));
       }
 
-  pub placed-agrees : Agrees (placed p r i) ws mem (enterPost l r (Answer.Posted i))
-  unfolding placed enterPost ss es e
+  pub placed-agrees : Agrees (placed p r i) ws mem (Rattle.peer.specs.Plain.posted l i r)
+  unfolding placed ss es e
   placed-agrees = posted-agrees
 
 -- ---- every call
@@ -167,75 +163,53 @@ pub record Stepped (area limit : ℕ) (p : Peer) (ws : List ℕ) (mem′ : ℕ �
 
 module _ (area limit : ℕ) (p : Peer) (ws : List ℕ) (mem mem′ : ℕ → ℕ) (l : Plain) (v : Valid area (p .slots)) (eight : length (p .slots) ≡ slotCount)
     (big : area ≤ 64 * length ws) (agrees : Agrees p ws mem l) where
-  Fine : (Answer → Plain) → Effect → Type 0
-  Fine put f = Wrote area mem mem′ (f .at) (f .bytes) → Agrees (f .peer) (f .words) mem′ (put (f .answer))
-
   -- nothing is written
   same : Wrote area mem mem′ 0 [] → Agrees p ws mem′ l
   same w = agrees-kept area p ws mem mem′ l v (λ y h. w .kept y h (inr (omega arith))) agrees
 
-  entered-post : (r : Receive) → Fine (enterPost l r) (postEffect area p ws r)
-  unfolding Fine postEffect enterPost
-  entered-post r =
-      branch (Fine (enterPost l r)) _ _ _ (λ x w. same w) (λ x.
-      branch (Fine (enterPost l r)) _ _ _ (λ y w. same w) (λ y. place (vacancy 0 (p .slots)) refl))
-    where
-      place : (y : Vacancy) → vacancy 0 (p .slots) ≡ y → Fine (enterPost l r) (placedIn p ws r y)
-      place Vacancy.Full e = unfold placedIn in λ w. same w
-      place (Vacancy.Slot i) e = unfold placedIn in λ w. placed-agrees p ws mem′ l r i (same w) (vacant 0 (p .slots) i e)
+  -- a match moves the next id on
+  moved : (t : Target) → t .matched ≡ true → advance p .next ≡ nextAfter l t
+  moved t x = ap (λ (n : ℕ). advance (record { next = n; slots = p .slots }) .next) (agrees .next) ∙ sym (pick-true _ _ x)
 
-  entered-packet : (bs : List ℕ) (room : ℕ) → Fine (enterRead l bs (readOf false limit bs)) (packetEffect limit p ws bs room)
-  unfolding Fine packetEffect
-  entered-packet bs room =
-      branch (Fine (enterRead l bs (readOf false limit bs))) _ _ _ (λ x. kept (readOf false limit bs) shortReply) (λ x. read (readOf false limit bs) refl)
-    where
-      kept : (d : Read) (k : Refusal) → Fine (enterRead l bs d) (refuse p ws k)
-      kept (Read.Refused m) k = unfold enterRead in λ w. same w
-      kept (Read.Packet q) k = unfold enterRead enterSegment in λ w. same w
+  shut : (c : Call) (k : Refusal) → Wrote area mem mem′ 0 [] → Agrees p ws mem′ (enterAt l c nowhere (Answer.Refused k))
+  shut (post r) k w = same w
+  shut (packet bs room) k w = same w
+  shut (cancel i) k w = same w
+  shut (report i) k w = same w
 
-      read : (d : Read) → readOf false limit bs ≡ d → Fine (enterRead l bs d) (readEffect limit p ws bs d)
-      read (Read.Refused k) e = unfold readEffect in kept (Read.Refused k) k
-      read (Read.Packet q) e =
-          unfold enterRead readEffect in
-          λ w. packet-entered area limit p ws mem mem′ l (incomingOf q) (bytesAt bs (q .«data»)) v (read-formed limit bs q e) big agrees (judge p ws (incomingOf q))
-          (judged area p ws (incomingOf q) (length (bytesAt bs (q .«data»))) v (read-formed limit bs q e)) w
-
-  entered-cancel : (i : ℕ) → Fine (enterCancel l) (cancelEffect p ws i)
-  unfolding Fine cancelEffect enterCancel
-  entered-cancel i =
-      branch (Fine (enterCancel l)) _ _ _ (λ x w. same w) (λ x. at (phaseAt (p .slots) i) (omega (arith, leb-false slotCount i x)))
-    where
-      gone : i < length (p .slots) → Fine (enterCancel l) (quiet (withPhase p i Phase.Free) ws (Answer.Cancelled i))
-      gone h w = agrees-set p ws ws mem′ mem′ l i Phase.Free noEntry (p .next) (l .next) (same w) (freed p ws mem′ l i h (same w)) (agrees .next)
-
-      at : (f : Phase) → i < length (p .slots) → Fine (enterCancel l) (cancelAt p ws i f)
-      at Phase.Free h = unfold cancelAt in λ w. same w
-      at (Phase.Posted r b) h = unfold cancelAt in gone h
-      at (Phase.Open o) h = unfold cancelAt in gone h
-
-  entered-report : (i : ℕ) → Fine (λ (a : Answer). l) (reportEffect p ws i)
-  unfolding Fine reportEffect
-  entered-report i = branch (Fine (λ (a : Answer). l)) _ _ _ (λ x w. same w) (λ x. at (phaseAt (p .slots) i))
-    where
-      at : (f : Phase) → Fine (λ (a : Answer). l) (reportAt p ws f)
-      at Phase.Free = unfold reportAt in λ w. same w
-      at (Phase.Posted r b) = unfold reportAt in λ w. same w
-      at (Phase.Open o) = unfold reportAt in λ w. same w
-
-  entered : (c : Call) → Wrote area mem mem′ (peerStep area limit p ws c .at) (peerStep area limit p ws c .bytes)
-      → Agrees (peerStep area limit p ws c .peer) (peerStep area limit p ws c .words) mem′ (enter limit l c (peerStep area limit p ws c .answer))
-  unfolding peerStep enter Fine
-  entered (post r) = entered-post r
-  entered (packet bs room) = entered-packet bs room
-  entered (cancel i) = entered-cancel i
-  entered (report i) = entered-report i
+  entered : {c : Call} {f : Effect} {t : Target} → Meets area limit p ws l c f t → Wrote area mem mem′ (f .at) (f .bytes)
+      → Agrees (f .peer) (f .words) mem′ (enterAt l c t (f .answer))
+  unfolding truncatedAt begun accept
+  entered (refused c k) w = shut c k w
+  entered (posted r i e) w = placed-agrees p ws mem′ l r i (same w) (vacant 0 (p .slots) i e)
+  entered (cancelled i h) w =
+      agrees-set p ws ws mem′ mem′ l i Phase.Free noEntry (p .next) (l .next) (same w) (freed p ws mem′ l i (omega arith) (same w)) (agrees .next)
+  entered (reported i o) w = same w
+  entered (truncated bs room q a i j t e x) w =
+      rw e
+      (agrees-set p ws ws mem′ mem′ l i Phase.Free noEntry _ (nextAfter l t) (same w)
+      (freed p ws mem′ l i (chosen-at p (incomingOf q) i (j .receive) (j .matched) .0) (same w)) (moved t x))
+  entered (begins bs room q a i r b) w =
+      let h : Incoming = incomingOf q in
+      let ws′ : List ℕ = marked (cleared ws (r .start) (r .capacity)) (r .start + h .offset) (length (dataOf bs q)) in
+      let t : Target = begunAt h i r (entryAt (l .entries) i .serial) (segmentOf h (dataOf bs q)) in
+      settled-agrees area limit p (advance p .next) ws ws′ mem mem′ l bs room i (opened r h) t (progressOf ws′ (opened r h)) agrees (moved t refl) refl
+      (begun-taken area limit p ws mem mem′ l h (dataOf bs q) v (read-formed limit bs q (a .reads)) big agrees i r b w)
+  entered (continues bs room q a i o k) w =
+      let h : Incoming = incomingOf q in
+      let ws′ : List ℕ = marked ws (o .receive .start + h .offset) (length (dataOf bs q)) in
+      settled-agrees area limit p (p .next) ws ws′ mem mem′ l bs room i o (moreAt l i (segmentOf h (dataOf bs q))) (progressOf ws′ o) agrees
+      (agrees .next ∙ sym (pick-false _ _ refl)) refl
+      (more-taken area limit p ws mem mem′ l h (dataOf bs q) v (read-formed limit bs q (a .reads)) big agrees i o k w)
 
   pub stepped : (c : Call) → Wrote area mem mem′ (peerStep area limit p ws c .at) (peerStep area limit p ws c .bytes) → Stepped area limit p ws mem′ l c
+  unfolding enter
   stepped c w =
-      let answer = step-answer area limit p ws mem l c v big agrees in
+      let (alike, met) = meets area limit p ws l v (mirrors agrees) c in
+      let answer : peerStep area limit p ws c .answer ≡ expected area limit l c = alike-same big alike in
       record {
         answer = answer;
-        agrees = subst (λ (x : Answer). Agrees (peerStep area limit p ws c .peer) (peerStep area limit p ws c .words) mem′ (enter limit l c x)) answer (entered c w);
+        agrees = subst (λ (x : Answer). Agrees (peerStep area limit p ws c .peer) (peerStep area limit p ws c .words) mem′ (enter limit l c x)) answer (entered met w);
       }
 
 -- ---- a fresh peer, and a fresh history

@@ -4,17 +4,20 @@ use borrow.Author.Tests.{ltb-true, ltb-false, leb-true, leb-false, eqb-true}
 use lib.Dec.{eqb}
 use lib.ListN.{length}
 use mathlib.Core.Bool.{false, false≢true, true}
-use mathlib.Core.List.{List}
+use mathlib.Core.List.{List, []}
 use mathlib.Core.Logic.{_⊎_, inl, inr}
 use mathlib.Core.Path.{_≡_, refl, sym, ap, _∙_}
 use native.Mathlib.Omega.{arith}
 use Rattle.bitmap.specs.Map.{touched}
 use Rattle.protocol.specs.declared.table.Shape.{Shape}
 use Rattle.protocol.specs.declared.table.Shape.the-variants.{Cts, CtsData, Eager, LongCts, Medium}
+use Rattle.protocol.specs.declared.types.Refusal.{Refusal}
+use Rattle.peer.specs.Calls.{packet}
 use Rattle.peer.specs.Formed.{Formed}
 use Rattle.peer.specs.Incomings.{isLong, isMedium, isRtm}
 use Rattle.peer.specs.Judging.{judge, judgeAgain, judgeData, judgeFit, judgeFound, judgeMore, judgeNew}
 use Rattle.peer.specs.Matching.{ahead, findOpen, oldest, sameMedium, sameMessage}
+use Rattle.peer.specs.Refusing.{among, refusalsOf}
 use Rattle.peer.specs.State.{phaseAt, phaseFits}
 use Rattle.peer.specs.declared.types.Fit.{Fit}
 use Rattle.peer.specs.declared.types.Found.{Found}
@@ -50,12 +53,16 @@ pub record CutOff (p : Peer) (h : Incoming) (i : ℕ) : Type 0 where
 -- the packet belongs to an open message, of which it brings bytes that are not in yet
 pub record Continues (p : Peer) (ws : List ℕ) (h : Incoming) (i : ℕ) (o : Inbound) : Type 0 where
   pub found : findOpen (h .id) 0 (p .slots) ≡ Found.At i o
-  pub inLength : h .offset + h .size ≤ o .message .length
+  pub inLength : o .message .granted ≤ o .message .length → h .offset + h .size ≤ o .message .length
   pub inGrant : isLong (o .message .shape) ≡ true → h .offset + h .size ≤ o .message .granted
   pub unmarked : touched ws (o .receive .start + h .offset) (h .size) ≡ false
 
+-- the refusal is one of a packet's
+abbrev pub Listed : Refusal → Type 0
+Listed k = among (refusalsOf (packet [] 0)) (k .number) ≡ true
+
 abbrev pub Judged : Peer → List ℕ → Incoming → Verdict → Type 0
-Judged p ws h (Verdict.Refuse k) = Unit {0}
+Judged p ws h (Verdict.Refuse k) = Listed k
 Judged p ws h (Verdict.Truncate i) = CutOff p h i
 Judged p ws h (Verdict.Begin i r) = Begins p h i r
 Judged p ws h (Verdict.More i o) = Continues p ws h i o
@@ -72,7 +79,12 @@ medium-only m h x long = go (m .shape) (and-left (isMedium (m .shape)) _ (and-ri
     go Medium a b = false≢true b
     go LongCts a b = false≢true a
 
-module _ (area : ℕ) (p : Peer) (ws : List ℕ) (h : Incoming) (n : ℕ) (v : Valid area (p .slots)) (form : Formed h n) where
+pub found-within : (area : ℕ) (p : Peer) (id i : ℕ) (o : Inbound) → Valid area (p .slots) → findOpen id 0 (p .slots) ≡ Found.At i o → Within area o
+found-within area p id i o v e =
+    let at = stands-at (p .slots) i (Phase.Open o) (found-open id 0 (p .slots) i o e .0) in
+    open-within area o (ap (phaseFits area) (sym (at .1)) ∙ v .each i)
+
+module _ (p : Peer) (ws : List ℕ) (h : Incoming) (n : ℕ) (form : Formed h n) where
   -- a segment of an open message lies in it
   pub again-inside : (o : Inbound) → isRtm (h .shape) ≡ true → sameMessage (o .message) h ≡ true
       → (h .offset + h .size ≤ o .message .length) × (isLong (o .message .shape) ≡ true → ⊥)
@@ -82,27 +94,22 @@ module _ (area : ℕ) (p : Peer) (ws : List ℕ) (h : Incoming) (n : ℕ) (v : V
       let len : h .length ≡ o .message .length = eqb-true _ _ (and-left _ (eqb (h .tag) (o .message .tag)) z) in
       (omega (arith, form .inside rtm), medium-only (o .message) h x)
 
-  pub found-within : (i : ℕ) (o : Inbound) → findOpen (h .id) 0 (p .slots) ≡ Found.At i o → Within area o
-  found-within i o e =
-      let at = stands-at (p .slots) i (Phase.Open o) (found-open (h .id) 0 (p .slots) i o e .0) in
-      open-within area o (ap (phaseFits area) (sym (at .1)) ∙ v .each i)
-
   J : Verdict → Type 0
   J = Judged p ws h
 
-  judged-more : (i : ℕ) (o : Inbound) → findOpen (h .id) 0 (p .slots) ≡ Found.At i o → h .offset + h .size ≤ o .message .length
+  judged-more : (i : ℕ) (o : Inbound) → findOpen (h .id) 0 (p .slots) ≡ Found.At i o → (o .message .granted ≤ o .message .length → h .offset + h .size ≤ o .message .length)
       → (isLong (o .message .shape) ≡ true → h .offset + h .size ≤ o .message .granted) → J (judgeMore ws i o h)
   unfolding J judgeMore
   judged-more i o e l g =
-      branch (Judged p ws h) _ _ _ (λ x. tt)
+      branch (Judged p ws h) _ _ _ (λ x. refl)
       (λ x. record { found = e; inLength = l; inGrant = g; unmarked = x })
 
   judged-again : (i : ℕ) (o : Inbound) → findOpen (h .id) 0 (p .slots) ≡ Found.At i o → isRtm (h .shape) ≡ true → J (judgeAgain ws i o h)
   unfolding J judgeAgain
   judged-again i o e rtm =
       branch (Judged p ws h) _ _ _
-      (λ x. let w = again-inside o rtm x in judged-more i o e (w .0) (λ long. absurd (w .1 long)))
-      (λ x. tt)
+      (λ x. let w = again-inside o rtm x in judged-more i o e (λ y. w .0) (λ long. absurd (w .1 long)))
+      (λ x. refl)
 
   judged-data : (i : ℕ) (o : Inbound) → findOpen (h .id) 0 (p .slots) ≡ Found.At i o → J (judgeData ws i o h)
   unfolding J judgeData
@@ -111,14 +118,14 @@ module _ (area : ℕ) (p : Peer) (ws : List ℕ) (h : Incoming) (n : ℕ) (v : V
       (λ long. branch (Judged p ws h) _ _ _
       (λ x.
       let g : h .offset + h .size ≤ o .message .granted = leb-true _ _ x in
-      judged-more i o e (omega (arith, found-within i o e .inLength)) (λ y. g))
-      (λ x. tt))
-      (λ x. tt)
+      judged-more i o e (λ y. omega arith) (λ y. g))
+      (λ x. refl))
+      (λ x. refl)
 
   judged-fit : (f : Fit) → oldest h 0 Fit.Unfit (p .slots) ≡ f → isRtm (h .shape) ≡ true → findOpen (h .id) 0 (p .slots) ≡ Found.Nothing
       → ahead (h .id) (p .next) ≡ 0 → J (judgeFit h f)
   unfolding J judgeFit
-  judged-fit Fit.Unfit e rtm unopen next = tt
+  judged-fit Fit.Unfit e rtm unopen next = refl
   judged-fit (Fit.To i r a) e rtm unopen next =
       let m : Matched p h i r = record { age = a; rtm = rtm; unopened = unopen; inOrder = next; chosen = e } in
       branch (Judged p ws h) _ _ _
@@ -128,8 +135,8 @@ module _ (area : ℕ) (p : Peer) (ws : List ℕ) (h : Incoming) (n : ℕ) (v : V
   judged-new : isRtm (h .shape) ≡ true → findOpen (h .id) 0 (p .slots) ≡ Found.Nothing → J (judgeNew p h)
   unfolding J judgeNew
   judged-new rtm unopen =
-      branch (Judged p ws h) _ _ _ (λ x. tt) (λ x.
-      branch (Judged p ws h) _ _ _ (λ y. tt) (λ y.
+      branch (Judged p ws h) _ _ _ (λ x. refl) (λ x.
+      branch (Judged p ws h) _ _ _ (λ y. refl) (λ y.
       judged-fit (oldest h 0 Fit.Unfit (p .slots)) refl rtm unopen (omega (arith, leb-false 1 (ahead (h .id) (p .next)) y))))
 
   pub judged : Judged p ws h (judge p ws h)
@@ -140,7 +147,7 @@ module _ (area : ℕ) (p : Peer) (ws : List ℕ) (h : Incoming) (n : ℕ) (v : V
       go (Found.At i o) e =
           branch (Judged p ws h) _ _ _ (λ x. judged-again i o e x) (λ x. judged-data i o e)
       go Found.Nothing e =
-          branch (Judged p ws h) _ _ _ (λ x. judged-new x e) (λ x. tt)
+          branch (Judged p ws h) _ _ _ (λ x. judged-new x e) (λ x. refl)
 
 -- what a verdict's slot holds
 

@@ -14,16 +14,16 @@ use Rattle.peer.specs.declared.types.Receive.{Receive}
 use Rattle.peer.specs.Answers.{onAccepted, onDone, onGranted, onTaken}
 use Rattle.peer.specs.Calls.{Call, cancel, packet, post, report}
 use Rattle.peer.specs.Coverage.{Segment, covers, inside, allOf}
-use Rattle.peer.specs.Expected.{expected, targetOfCall, expectedBytes}
+use Rattle.peer.specs.Expected.{enter, expected, expectedBytes, plainStep, targetOfCall}
 use Rattle.peer.specs.Incomings.{incomingOf, isLong}
 use Rattle.peer.specs.Matching.{ahead, fits}
-use Rattle.peer.specs.Plain.{waiting, receiving, Plain, Target, entryAt, freshPlain, enter}
+use Rattle.peer.specs.Plain.{Plain, Target, entryAt, freshPlain, receiving, waiting}
 use Rattle.wire.specs.LittleEndian.{leAt}
 
 -- the plain receiver after a history: a list of calls, each with the answer that 01 demands
 unfoldable pub plainAfter : ℕ → ℕ → Plain → List Call → Plain
 plainAfter area limit l [] = l
-plainAfter area limit l (c ∷ cs) = plainAfter area limit (enter limit l c (expected area limit l c)) cs
+plainAfter area limit l (c ∷ cs) = plainAfter area limit (plainStep area limit l c .after) cs
 
 abbrev pub history : ℕ → ℕ → List Call → Plain
 history area limit calls = plainAfter area limit freshPlain calls
@@ -123,7 +123,7 @@ isMatch t a = pick (takes a) (t .matched) false
 -- the answers that 01 demands of a list of calls after the history l
 unfoldable pub answersOf : ℕ → ℕ → Plain → List Call → List Answer
 answersOf area limit l [] = []
-answersOf area limit l (c ∷ cs) = expected area limit l c ∷ answersOf area limit (enter limit l c (expected area limit l c)) cs
+answersOf area limit l (c ∷ cs) = plainStep area limit l c .answer ∷ answersOf area limit (plainStep area limit l c .after) cs
 
 -- a number of each call of a list that its answer names, in order, by the history l before it
 unfoldable pub numbersOf : (Target → Answer → Bool) → (Plain → Target → Call → ℕ) → ℕ → Plain → List Call → List Answer → List ℕ

@@ -1,4 +1,4 @@
--- The answer that 01 demands of a call after a history: every refusal from 5 on, in its order, and every other answer with its numbers.
+-- What 01 demands of a call after a history: every refusal from 5 on, in its order, every other answer with its numbers, and what comes with it.
 use Prim.Native.Nat.{ℕ, suc, _+_}
 use mathlib.Core.List.{List, [], _∷_}
 use mathlib.Core.Bool.{Bool, false, _&&_, _||_}
@@ -10,6 +10,7 @@ use Rattle.protocol.specs.Refusals.{badLength, badSlot, beyondGrant, differs, e
 use Rattle.protocol.specs.declared.table.Shape.the-variants.{Eager}
 use Rattle.protocol.specs.declared.types.CqData.{CqData}
 use Rattle.protocol.specs.declared.types.Read.{Read}
+use Rattle.protocol.specs.declared.types.Refusal.{Refusal}
 use Rattle.protocol.specs.Reading.{readOf}
 use Rattle.protocol.specs.Values.{bytesAt}
 use Rattle.peer.specs.declared.types.Receive.{Receive}
@@ -26,7 +27,7 @@ use Rattle.peer.specs.Coverage.{Segment, covers, allOf, bytesFrom}
 use Rattle.peer.specs.Effects.{opened, grantOf}
 use Rattle.peer.specs.Incomings.{incomingOf, isRtm, isLong}
 use Rattle.peer.specs.Matching.{ahead, sameMessage}
-use Rattle.peer.specs.Plain.{Role, idle, waiting, receiving, Plain, entryAt, roles, openIn, firstPosted, segmentOf, Target, targetOf}
+use Rattle.peer.specs.Plain.{Plain, Role, Target, begunAt, enterAt, entryAt, firstPosted, idle, moreAt, nowhere, openIn, receiving, roles, segmentOf, waiting}
 use Rattle.peer.specs.State.{slotCount, overlap}
 
 -- ---- post: "11, 19, 18"
@@ -67,46 +68,61 @@ expectTaken limit i o gs =
     (Answer.Granted (grantOf limit (o .message)))
     Answer.Stored)
 
+-- what a packet comes to: the entry that its segment goes to, with the segment, and the answer
+pub record Ruling : Type 0 where
+  pub target : Target
+  pub answer : Answer
+
+abbrev pub refusing : Refusal → Ruling
+refusing k = record { target = nowhere; answer = Answer.Refused k }
+
+abbrev pub accepting : ℕ → Inbound → Target → Ruling
+accepting limit o t = record { target = t; answer = expectTaken limit (t .index) o (t .entry .segments) }
+
 -- 16: "segment shares a byte with one already accepted"
-unfoldable pub expectMore : ℕ → Plain → Incoming → List ℕ → ℕ → Inbound → Answer
+unfoldable pub expectMore : ℕ → Plain → Incoming → List ℕ → ℕ → Inbound → Ruling
 expectMore limit l h bytes i o =
-    pick (someOf (covers (entryAt (l .entries) i .segments)) (h .offset) (h .size)) (Answer.Refused repeated)
-    (expectTaken limit i o (segmentOf h bytes ∷ entryAt (l .entries) i .segments))
+    pick (someOf (covers (entryAt (l .entries) i .segments)) (h .offset) (h .size)) (refusing repeated)
+    (accepting limit o (moreAt l i (segmentOf h bytes)))
 
 -- "RTMs: if open, 14, 16"
-unfoldable pub expectAgain : ℕ → Plain → Incoming → List ℕ → ℕ → Inbound → Answer
-expectAgain limit l h bytes i o = pick (sameMessage (o .message) h) (expectMore limit l h bytes i o) (Answer.Refused differs)
+unfoldable pub expectAgain : ℕ → Plain → Incoming → List ℕ → ℕ → Inbound → Ruling
+expectAgain limit l h bytes i o = pick (sameMessage (o .message) h) (expectMore limit l h bytes i o) (refusing differs)
 
 -- "CTSDATA: 15, 17, 16"
-unfoldable pub expectData : ℕ → Plain → Incoming → List ℕ → ℕ → Inbound → Answer
+unfoldable pub expectData : ℕ → Plain → Incoming → List ℕ → ℕ → Inbound → Ruling
 expectData limit l h bytes i o =
     pick (isLong (o .message .shape))
-    (pick (ltb (o .message .granted) (h .offset + h .size)) (Answer.Refused beyondGrant) (expectMore limit l h bytes i o))
-    (Answer.Refused late)
+    (pick (ltb (o .message .granted) (h .offset + h .size)) (refusing beyondGrant) (expectMore limit l h bytes i o))
+    (refusing late)
 
 -- "matches the oldest fitting receive"; "Length above capacity: answer truncated (slot, id, length)"
-unfoldable pub expectFit : ℕ → Incoming → List ℕ → Fit → Answer
-expectFit limit h bytes Fit.Unfit = Answer.Refused noReceive
+unfoldable pub expectFit : ℕ → Incoming → List ℕ → Fit → Ruling
+expectFit limit h bytes Fit.Unfit = refusing noReceive
 expectFit limit h bytes (Fit.To i r serial) =
-    pick (ltb (r .capacity) (h .length)) (Answer.Truncated i (h .id) (h .length))
-    (expectTaken limit i (opened r h) (segmentOf h bytes ∷ []))
+    let t : Target = begunAt h i r serial (segmentOf h bytes) in
+    pick (ltb (r .capacity) (h .length)) (record { target = t; answer = Answer.Truncated i (h .id) (h .length) })
+    (accepting limit (opened r h) t)
 
 -- "if not open, 15, 12, 13": "0 matches ..; 1 to 2^31−1 is early; above that, late"
-unfoldable pub expectNew : ℕ → Plain → Incoming → List ℕ → Answer
+unfoldable pub expectNew : ℕ → Plain → Incoming → List ℕ → Ruling
 expectNew limit l h bytes =
-    pick (ltb 2147483647 (ahead (h .id) (l .next))) (Answer.Refused late)
-    (pick (ltb 0 (ahead (h .id) (l .next))) (Answer.Refused early)
+    pick (ltb 2147483647 (ahead (h .id) (l .next))) (refusing late)
+    (pick (ltb 0 (ahead (h .id) (l .next))) (refusing early)
     (expectFit limit h bytes (firstPosted h 0 Fit.Unfit (l .entries))))
 
-unfoldable pub expectFound : ℕ → Plain → Incoming → List ℕ → Found → Answer
+unfoldable pub expectFound : ℕ → Plain → Incoming → List ℕ → Found → Ruling
 expectFound limit l h bytes (Found.At i o) = pick (isRtm (h .shape)) (expectAgain limit l h bytes i o) (expectData limit l h bytes i o)
-expectFound limit l h bytes Found.Nothing = pick (isRtm (h .shape)) (expectNew limit l h bytes) (Answer.Refused late)
+expectFound limit l h bytes Found.Nothing = pick (isRtm (h .shape)) (expectNew limit l h bytes) (refusing late)
 
 -- the reader's refusals come first
-unfoldable pub expectRead : ℕ → Plain → List ℕ → Read → Answer
-expectRead limit l bs (Read.Refused k) = Answer.Refused k
+unfoldable pub expectRead : ℕ → Plain → List ℕ → Read → Ruling
+expectRead limit l bs (Read.Refused k) = refusing k
 expectRead limit l bs (Read.Packet q) =
     expectFound limit l (incomingOf q) (bytesAt bs (q .«data»)) (openIn (incomingOf q .id) 0 (roles (l .entries)))
+
+unfoldable pub expectPacket : ℕ → Plain → List ℕ → ℕ → Ruling
+expectPacket limit l bs room = pick (ltb room 24) (refusing shortReply) (expectRead limit l bs (readOf false limit bs))
 
 -- ---- cancel and report: "20"
 
@@ -125,7 +141,7 @@ expectReport gs (receiving o) = Answer.Missing (countOf (covers gs) 0 (o .messag
 
 unfoldable pub expected : ℕ → ℕ → Plain → Call → Answer
 expected area limit l (post r) = expectPost area l r
-expected area limit l (packet bs room) = pick (ltb room 24) (Answer.Refused shortReply) (expectRead limit l bs (readOf false limit bs))
+expected area limit l (packet bs room) = expectPacket limit l bs room .answer
 expected area limit l (cancel i) = pick (leb slotCount i) (Answer.Refused badSlot) (expectCancel i (entryAt (l .entries) i .role))
 expected area limit l (report i) =
     pick (leb slotCount i) (Answer.Refused badSlot) (expectReport (entryAt (l .entries) i .segments) (entryAt (l .entries) i .role))
@@ -133,15 +149,15 @@ expected area limit l (report i) =
 -- ---- what else a call yields
 
 -- the entry that a packet's segment goes to, with the segment
-abbrev pub targetOfRead : Plain → List ℕ → Read → Target
-targetOfRead l bs (Read.Refused k) = Rattle.peer.specs.Plain.nowhere
-targetOfRead l bs (Read.Packet q) = targetOf l (incomingOf q) (bytesAt bs (q .«data»))
-
 unfoldable pub targetOfCall : ℕ → Plain → Call → Target
-targetOfCall limit l (post r) = Rattle.peer.specs.Plain.nowhere
-targetOfCall limit l (packet bs room) = targetOfRead l bs (readOf false limit bs)
-targetOfCall limit l (cancel i) = Rattle.peer.specs.Plain.nowhere
-targetOfCall limit l (report i) = Rattle.peer.specs.Plain.nowhere
+targetOfCall limit l (post r) = nowhere
+targetOfCall limit l (packet bs room) = expectPacket limit l bs room .target
+targetOfCall limit l (cancel i) = nowhere
+targetOfCall limit l (report i) = nowhere
+
+-- the history goes on with a call and its answer
+unfoldable pub enter : ℕ → Plain → Call → Answer → Plain
+enter limit l c a = enterAt l c (targetOfCall limit l c) a
 
 -- where there is no message: no reply and no answer comes of it
 abbrev pub noMessage : Message
@@ -174,3 +190,18 @@ expectedReply t a = onGranted [] (λ n. ctsBytes (messageIn t .«send_id») (mes
 -- the bytes of a message that is answered done, by its accepted segments
 abbrev pub expectedBytes : List Segment → Answer → List ℕ
 expectedBytes gs a = onDone [] (λ i id n cq. bytesFrom gs 0 n) a
+
+-- ---- one step
+
+pub record PlainStep : Type 0 where
+  pub answer : Answer
+  pub after : Plain
+  pub reply : List ℕ
+  pub bytes : List ℕ
+
+-- what 01 demands of a call after the history l
+abbrev pub plainStep : ℕ → ℕ → Plain → Call → PlainStep
+plainStep area limit l c =
+    let a : Answer = expected area limit l c in
+    let t : Target = targetOfCall limit l c in
+    record { answer = a; after = enter limit l c a; reply = expectedReply t a; bytes = expectedBytes (t .entry .segments) a }

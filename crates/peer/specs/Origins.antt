@@ -14,9 +14,9 @@ use Rattle.peer.specs.Answers.{onAccepted, onGranted, onPosted, onTaken}
 use Rattle.peer.specs.Calls.{Call, cancel, packet, post, report}
 use Rattle.peer.specs.Checks.{Differs}
 use Rattle.peer.specs.Claims.{history, isMatch}
-use Rattle.peer.specs.Expected.{expected, expectedReply, targetOfCall}
+use Rattle.peer.specs.Expected.{expected, expectedReply, plainStep, targetOfCall}
 use Rattle.peer.specs.PacketBytes.{idIn, lengthIn, offsetIn, tagIn, typeIn, typeOf}
-use Rattle.peer.specs.Plain.{Plain, Role, Target, enter, entryAt, freshPlain, idle, receiving, waiting}
+use Rattle.peer.specs.Plain.{Plain, Role, Target, entryAt, freshPlain, idle, receiving, waiting}
 use Rattle.peer.specs.State.{slotCount}
 use Rattle.peer.specs.declared.types.Answer.{Answer}
 use Rattle.peer.specs.declared.types.Inbound.{Inbound}
@@ -55,7 +55,7 @@ noteOrigin t gs (report i) a = gs
 unfoldable pub originsFrom : ℕ → ℕ → Plain → List Origin → List Call → List Origin
 originsFrom area limit l gs [] = gs
 originsFrom area limit l gs (c ∷ cs) =
-    originsFrom area limit (enter limit l c (expected area limit l c)) (noteOrigin (targetOfCall limit l c) gs c (expected area limit l c)) cs
+    originsFrom area limit (plainStep area limit l c .after) (noteOrigin (targetOfCall limit l c) gs c (expected area limit l c)) cs
 
 abbrev pub originsOf : ℕ → ℕ → List Call → List Origin
 originsOf area limit calls = originsFrom area limit freshPlain noOrigins calls

@@ -2,13 +2,10 @@
 -- No map, no ages, no arena.
 use Prim.Native.Nat.{ℕ, suc, _+_, _%_}
 use mathlib.Core.List.{List, [], _∷_, map}
-use mathlib.Core.Bool.{Bool, false}
+use mathlib.Core.Bool.{Bool, true, false}
 use lib.ListN.{getD, set, replicate}
 use lib.Dec.{eqb}
 use Rattle.laws.specs.Choose.{pick}
-use Rattle.protocol.specs.declared.types.Read.{Read}
-use Rattle.protocol.specs.Reading.{readOf}
-use Rattle.protocol.specs.Values.{bytesAt}
 use Rattle.peer.specs.declared.types.Receive.{Receive}
 use Rattle.peer.specs.declared.types.Inbound.{Inbound}
 use Rattle.peer.specs.declared.types.Incoming.{Incoming}
@@ -16,10 +13,9 @@ use Rattle.peer.specs.declared.types.Found.{Found}
 use Rattle.peer.specs.declared.types.Fit.{Fit}
 use Rattle.peer.specs.declared.types.Answer.{Answer}
 use Rattle.peer.specs.Answers.{onCancelled, onPosted, onTaken}
-use Rattle.peer.specs.Calls.{Call, post, packet, cancel, report}
+use Rattle.peer.specs.Calls.{Call, cancel, packet, post, report}
 use Rattle.peer.specs.Coverage.{Segment}
 use Rattle.peer.specs.Effects.{opened, extended}
-use Rattle.peer.specs.Incomings.{incomingOf}
 use Rattle.peer.specs.Matching.{fits, older}
 use Rattle.peer.specs.State.{slotCount}
 
@@ -100,18 +96,15 @@ begunEntry r serial h g = record { role = receiving (opened r h); serial = seria
 abbrev pub nowhere : Target
 nowhere = record { index = 0; entry = noEntry; matched = false }
 
-unfoldable pub matchTarget : Incoming → Segment → Fit → Target
-matchTarget h g Fit.Unfit = nowhere
-matchTarget h g (Fit.To i r serial) = record { index = i; entry = begunEntry r serial h g; matched = mathlib.Core.Bool.true }
+-- one segment more of the message in entry i
+abbrev pub moreAt : Plain → ℕ → Segment → Target
+moreAt l i g = record { index = i; entry = grown (entryAt (l .entries) i) g; matched = false }
 
-unfoldable pub targetIn : Plain → Incoming → Segment → Found → Target
-targetIn l h g (Found.At i o) = record { index = i; entry = grown (entryAt (l .entries) i) g; matched = false }
-targetIn l h g Found.Nothing = matchTarget h g (firstPosted h 0 Fit.Unfit (l .entries))
+-- the first segment of the message that begins in the receive of entry i
+abbrev pub begunAt : Incoming → ℕ → Receive → ℕ → Segment → Target
+begunAt h i r serial g = record { index = i; entry = begunEntry r serial h g; matched = true }
 
-unfoldable pub targetOf : Plain → Incoming → List ℕ → Target
-targetOf l h bytes = targetIn l h (segmentOf h bytes) (openIn (h .id) 0 (roles (l .entries)))
-
--- ---- the history goes on: a call and its answer are entered
+-- ---- the history goes on
 
 abbrev pub put : Plain → ℕ → Entry → Plain
 put l i e = record { next = l .next; posts = l .posts; entries = set (l .entries) i e }
@@ -137,23 +130,11 @@ abbrev pub grantedEntry : ℕ → Entry → Entry
 grantedEntry n e =
     record { role = extendedRole n (e .role); serial = e .serial; segments = e .segments; rtm = e .rtm; grants = n ∷ e .grants }
 
-unfoldable pub enterPost : Plain → Receive → Answer → Plain
-enterPost l r a = onPosted l (λ i. posted l i r) a
-
-unfoldable pub enterSegment : Plain → Target → Answer → Plain
-enterSegment l t a =
+-- a call with its answer is entered; t is where the segment of its packet goes
+abbrev pub enterAt : Plain → Call → Target → Answer → Plain
+enterAt l (post r) t a = onPosted l (λ i. posted l i r) a
+enterAt l (packet bs room) t a =
     onTaken l (settle l t (t .entry)) (λ n. settle l t (grantedEntry n (t .entry))) (λ i id n cq. settle l t noEntry)
     (λ i id n. settle l t noEntry) a
-
-unfoldable pub enterRead : Plain → List ℕ → Read → Answer → Plain
-enterRead l bs (Read.Refused k) a = l
-enterRead l bs (Read.Packet q) a = enterSegment l (targetOf l (incomingOf q) (bytesAt bs (q .«data»))) a
-
-unfoldable pub enterCancel : Plain → Answer → Plain
-enterCancel l a = onCancelled l (λ i. put l i noEntry) a
-
-unfoldable pub enter : ℕ → Plain → Call → Answer → Plain
-enter limit l (post r) a = enterPost l r a
-enter limit l (packet bs room) a = enterRead l bs (readOf false limit bs) a
-enter limit l (cancel i) a = enterCancel l a
-enter limit l (report i) a = l
+enterAt l (cancel i) t a = onCancelled l (λ j. put l j noEntry) a
+enterAt l (report i) t a = l

@@ -70,11 +70,11 @@ module _ (words : ℕ) (p : Peer) (h : Incoming) (j : Judging words p h) (i : �
   valid = fits-valid (64 * words) p (j .mapped .fits)
 
   inside : Within (64 * words) o
-  inside = found-within (64 * words) p [] h (h .size) valid (j .form) i o e
+  inside = found-within (64 * words) p (h .id) i o valid e
 
   pub again-placed : isRtm (h .shape) ≡ true → sameMessage (o .message) h ≡ true → Placed words o h
   again-placed rtm same =
-      let x = again-inside (64 * words) p [] h (h .size) valid (j .form) o rtm same .0 in
+      let x = again-inside p [] h (h .size) (j .form) o rtm same .0 in
       record { inMap = omega (arith, inside .inArea, inside .inRange); small = j .mapped .small }
 
   pub data-placed : leb (h .offset + h .size) (o .message .granted) ≡ true → Placed words o h
@@ -95,7 +95,7 @@ module _ (limit : ℕ) (p : Peer) (h : Incoming) (n area words reply : ℕ) (c :
   sound = fits-valid area p (c .mapped .fits)
 
   verdict : (d : Verdict) → judge p ws h ≡ d → Judged p ws h d
-  verdict d e = subst (Judged p ws h) e (judged area p ws h n sound (c .form))
+  verdict d e = subst (Judged p ws h) e (judged p ws h n (c .form))
 
   pub cut-slot : (i : ℕ) → judge p ws h ≡ Verdict.Truncate i → i < slotCount
   cut-slot i e =
@@ -133,7 +133,7 @@ module _ (limit : ℕ) (p : Peer) (h : Incoming) (n area words reply : ℕ) (c :
           small = c .mapped .small;
           room = c .room;
         };
-        inMessage = omega (arith, v .inLength, c .form .size);
+        inMessage = omega (arith, v .inLength (s .within .inLength), c .form .size);
       }
 
 -- a message that begins is stored as it was opened
