@@ -53,12 +53,12 @@ pub same-peer : (e : Engine) (p : ℕ) (d : Peer) → withPeer e p (getD (e .pee
 same-peer e p d = ap (λ (ps : List Peer). record { peers = ps; n = e .n; area = e .area; limit = e .limit }) (set-getD (e .peers) p d)
 
 pub packet-call : (w : World) (p : ℕ) (d : Peer) (bs reply : List ℕ) (l : Lent) → p < length (w .engine .peers)
-    → l ≡ leavesAt (w .engine .area) p (w .arena) (w .map) reply (packetEffect (w .engine .limit) (getD (w .engine .peers) p d) (wordsOf w p) bs (length reply))
+    → l ≡ leavesAt 0 (w .engine .area) p (w .arena) (w .map) reply (packetEffect (w .engine .limit) (getD (w .engine .peers) p d) (wordsOf w p) bs (length reply))
     → putIn (w .engine) p l ≡ leaves reply (peerTurn w p (packet bs (length reply)))
 unfolding peerTurn putBack peerStep
 packet-call w p d bs reply l h e =
     ap (putIn (w .engine) p)
-    (e ∙ ap (λ (x : Peer). leavesAt (w .engine .area) p (w .arena) (w .map) reply (packetEffect (w .engine .limit) x (wordsOf w p) bs (length reply)))
+    (e ∙ ap (λ (x : Peer). leavesAt 0 (w .engine .area) p (w .arena) (w .map) reply (packetEffect (w .engine .limit) x (wordsOf w p) bs (length reply)))
     (getD-any (w .engine .peers) p d freshPeer h))
 
 -- a refused call leaves what it is lent

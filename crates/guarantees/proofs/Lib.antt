@@ -6,3 +6,5 @@ pub mod Delivering
 pub mod Ranges
 pub mod Isolated
 pub mod Replied
+pub mod CheckedOnce
+pub mod RunInvariant

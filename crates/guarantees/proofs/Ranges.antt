@@ -7,7 +7,8 @@ use mathlib.Core.Path.{_≡_, sym, ap, subst, subst₂}
 use native.Mathlib.Decide.{ℕ-discrete}
 use Rattle.engine.specs.Steps.{World}
 use Rattle.guarantees.specs.Delivery.{AllWrite, OwnRange, Writes, demanded}
-use Rattle.guarantees.specs.Runs.{Request, Seen, callOf, freshWorld, noStarts, seenAt, turnOf}
+use Rattle.lending.specs.Acts.{callOf}
+use Rattle.guarantees.specs.Runs.{Request, Seen, freshWorld, noStarts, seenAt, turnOf}
 use Rattle.laws.specs.Choose.{pick}
 use Rattle.peer.specs.Calls.{Call}
 use Rattle.peer.specs.Expected.{enter, expected, targetOfCall}

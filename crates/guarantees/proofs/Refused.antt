@@ -16,7 +16,8 @@ use Rattle.engine.specs.SetUp.{Prepared, engineFits, lentFits, notStarted, numb
 use Rattle.engine.specs.Steps.{Turn, World, callTurn, peerTurn, putBack, refusedTurn, withPeer, wordsOf}
 use Rattle.engine.specs.declared.types.Engine.{Engine}
 use Rattle.guarantees.specs.Refusals.{NeverBadState, RefusedLeavesAll, RefusedSetUp, listFor}
-use Rattle.guarantees.specs.Runs.{Act, bufferOf, callOf, cancel, freshWorld, packet, post, report, turnOf, worldAfter}
+use Rattle.lending.specs.Acts.{Act, bufferOf, callOf, cancel, packet, post, report}
+use Rattle.guarantees.specs.Runs.{freshWorld, turnOf, worldAfter}
 use Rattle.laws.specs.Parts.{storeAt}
 use Rattle.protocol.specs.Checks.{refused}
 use Rattle.protocol.specs.declared.types.Refusal.{Refusal}

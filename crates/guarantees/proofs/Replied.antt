@@ -8,7 +8,8 @@ use Rattle.protocol.specs.Refusals.{badLent, badPeer, badState}
 use Rattle.engine.specs.SetUp.{engineFits, lentFits, peerAt}
 use Rattle.engine.specs.Steps.{Turn, World, callTurn, peerTurn, putBack, refusedTurn, wordsOf}
 use Rattle.guarantees.specs.Replies.{ReplyUntouched, RestUntouched}
-use Rattle.guarantees.specs.Runs.{Request, bufferOf, callOf, turnOf}
+use Rattle.lending.specs.Acts.{bufferOf, callOf}
+use Rattle.guarantees.specs.Runs.{Request, turnOf}
 use Rattle.laws.specs.Parts.{storeAt}
 use Rattle.protocol.specs.declared.types.Refusal.{Refusal}
 use Rattle.peer.specs.Calls.{Call, peerStep}

@@ -12,7 +12,8 @@ use Rattle.engine.specs.SetUp.{engineOf, peerAt, setUp}
 use Rattle.engine.specs.Steps.{World, wordsOf}
 use Rattle.engine.specs.declared.types.Ready.{Ready}
 use Rattle.guarantees.specs.Delivery.{SeenByHistory, demanded, plainRun}
-use Rattle.guarantees.specs.Runs.{Request, Seen, callOf, callsOf, freshWorld, noStarts, observe, seenAt, turnOf}
+use Rattle.lending.specs.Acts.{callOf}
+use Rattle.guarantees.specs.Runs.{Request, Seen, callsOf, freshWorld, noStarts, observe, seenAt, turnOf}
 use Rattle.peer.specs.Expected.{enter, expected}
 use Rattle.peer.specs.Plain.{Plain, freshPlain}
 use Rattle.peer.specs.Starts.{noteStart}

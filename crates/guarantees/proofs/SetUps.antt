@@ -9,7 +9,8 @@ use Rattle.engine.specs.Left.{world}
 use Rattle.engine.specs.SetUp.{Prepared, engineOf, lentFits, notStarted, numbersFit, peerCount, setUp}
 use Rattle.engine.specs.Steps.{World, callTurn}
 use Rattle.engine.specs.declared.types.Ready.{Ready}
-use Rattle.guarantees.specs.Runs.{Request, callOf, freshWorld, turnOf, worldAfter}
+use Rattle.lending.specs.Acts.{callOf}
+use Rattle.guarantees.specs.Runs.{Request, freshWorld, turnOf, worldAfter}
 use Rattle.peer.specs.State.{freeSlot, freshPeer, slotCount}
 use Rattle.peer.specs.declared.types.Peer.{Peer}
 use Rattle.engine.proofs.WordsHold.{fresh-peer, ready-fits}

@@ -9,7 +9,8 @@ use native.Mathlib.Omega.{arith}
 use Rattle.engine.specs.SetUp.{peerAt}
 use Rattle.engine.specs.Steps.{Turn, World, callTurn, putBack, wordsOf}
 use Rattle.guarantees.specs.Delivery.{Writes, demanded}
-use Rattle.guarantees.specs.Runs.{Act, Request, Seen, bufferOf, bytesSeen, callOf, cancel, packet, post, replySeen, report, seenAt, turnOf}
+use Rattle.lending.specs.Acts.{Act, bufferOf, callOf, cancel, packet, post, report}
+use Rattle.guarantees.specs.Runs.{Request, Seen, bytesSeen, replySeen, seenAt, turnOf}
 use Rattle.laws.specs.Parts.{part, storeAt}
 use Rattle.peer.specs.Answers.{onDone}
 use Rattle.peer.specs.Calls.{peerStep}

@@ -8,7 +8,8 @@ use mathlib.Core.Path.{_≡_}
 use Rattle.engine.specs.SetUp.{setUp}
 use Rattle.engine.specs.Steps.{World}
 use Rattle.engine.specs.declared.types.Ready.{Ready}
-use Rattle.guarantees.specs.Runs.{Request, Seen, callOf, callsOf, freshWorld, noStarts, observe, turnOf}
+use Rattle.lending.specs.Acts.{callOf}
+use Rattle.guarantees.specs.Runs.{Request, Seen, callsOf, freshWorld, noStarts, observe, turnOf}
 use Rattle.laws.specs.Choose.{pick}
 use Rattle.laws.specs.Parts.{storeAt}
 use Rattle.protocol.specs.Reading.{readOf}

@@ -3,3 +3,4 @@ pub mod Refusals
 pub mod Delivery
 pub mod Isolation
 pub mod Replies
+pub mod Outputs

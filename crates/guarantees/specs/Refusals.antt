@@ -13,7 +13,8 @@ use Rattle.engine.specs.declared.types.Ready.{Ready}
 use Rattle.engine.specs.Checks.{readySays}
 use Rattle.engine.specs.SetUp.{setUp}
 use Rattle.engine.specs.Steps.{World}
-use Rattle.guarantees.specs.Runs.{Act, Request, callOf, bufferOf, bufferAfter, turnOf, worldAfter, freshWorld}
+use Rattle.lending.specs.Acts.{Act, bufferOf, callOf}
+use Rattle.guarantees.specs.Runs.{Request, bufferAfter, turnOf, worldAfter, freshWorld}
 
 -- the refusals of each call, in their order: 2, 3 and 4, then the peer's own
 abbrev pub listFor : Act → List ℕ

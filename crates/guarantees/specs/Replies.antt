@@ -6,7 +6,8 @@ use lib.ListN.{length, drop}
 use mathlib.Core.Bool.{true, false}
 use mathlib.Core.Path.{_≡_}
 use Rattle.engine.specs.Steps.{World}
-use Rattle.guarantees.specs.Runs.{Request, bufferAfter, bufferOf, turnOf}
+use Rattle.lending.specs.Acts.{bufferOf}
+use Rattle.guarantees.specs.Runs.{Request, bufferAfter, turnOf}
 use Rattle.peer.specs.Claims.{isGrant}
 
 -- "no other answer touches the reply buffer"

@@ -5,40 +5,26 @@ use lib.ListN.{length, getD, take, replicate}
 use lib.Dec.{eqb}
 use Rattle.laws.specs.Choose.{pick}
 use Rattle.laws.specs.Parts.{part, storeAt}
-use Rattle.peer.specs.declared.types.Receive.{Receive}
 use Rattle.peer.specs.declared.types.Answer.{Answer}
 use Rattle.peer.specs.Answers.{onDone, onGranted}
+use Rattle.peer.specs.declared.types.Request as code
 use Rattle.peer.specs.Calls.{Call}
 use Rattle.peer.specs.Says.{Saying, said}
 use Rattle.peer.specs.Starts.{noteStart}
 use Rattle.peer.specs.State.{slotCount}
+use Rattle.lending.specs.Acts.{Act, actOf, bufferOf, callOf}
 use Rattle.engine.specs.Left.{world}
 use Rattle.engine.specs.SetUp.{setUp}
 use Rattle.engine.specs.Steps.{World, Turn, callTurn}
 
--- a call with what it lends: of a packet its bytes, and the reply buffer as it is lent
-pub data Act : Type 0 where
-  post : Receive → Act
-  packet : List ℕ → List ℕ → Act
-  cancel : ℕ → Act
-  report : ℕ → Act
-
+-- a call with what it lends, and its peer's number
 pub record Request : Type 0 where
   pub peer : ℕ
   pub act : Act
 
--- "their kind, numbers, bytes lent to be read and lengths of buffers lent to be written"
-abbrev pub callOf : Act → Call
-callOf (post r) = Call.post r
-callOf (packet bs buffer) = Call.packet bs (length buffer)
-callOf (cancel i) = Call.cancel i
-callOf (report i) = Call.report i
-
-abbrev pub bufferOf : Act → List ℕ
-bufferOf (post r) = []
-bufferOf (packet bs buffer) = buffer
-bufferOf (cancel i) = []
-bufferOf (report i) = []
+-- a request of the code, whose packet lies in `bytes` and whose reply buffer in `replies`
+abbrev pub requestOf : List ℕ → List ℕ → code.Request → Request
+requestOf bytes replies q = record { peer = q .peer; act = actOf bytes replies (q .call) }
 
 -- ---- a run
 

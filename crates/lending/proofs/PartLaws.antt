@@ -39,7 +39,7 @@ module _ (area limit p : ℕ) (q : Peer) (arena map reply bs : List ℕ) (o : Ow
       → l ≡ own.leaves (take (base + area - base) (drop base arena)) reply (packetEffect limit q (take (first + size - first) (drop first map)) bs (length reply))
       → _≡_ {A = Lent}
       (record { step = l .step; arena = putMid base (base + area - base) arena (l .area); map = putMid first (first + size - first) map (l .words); reply = l .reply })
-      (leavesAt area p arena map reply effect)
+      (leavesAt 0 area p arena map reply effect)
   packet-put l e =
       let k = packet-kept area limit q (part map first size) bs (length reply) (o .mapped .fits) eight in
       let n : length (effect .words) ≡ size = k .words ∙ length-part map first size (o .mapped .inMap) in

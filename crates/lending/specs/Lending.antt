@@ -1,4 +1,4 @@
--- One peer's packet, in its own part of the whole: what it asks, and what it leaves.
+-- One peer's call, in its own part of the whole: what it asks, and what it leaves.
 use Prim.Native.Nat.{ℕ, _+_, _*_, _/_, _%_, _≤_}
 use mathlib.Core.List.{List}
 use mathlib.Core.Path.{_≡_}
@@ -9,19 +9,21 @@ use Rattle.peer.specs.declared.types.Step.{Step}
 use Rattle.peer.specs.Effects.{Effect}
 use Rattle.peer.specs.State.{peerFits}
 
+-- the step, and the lent arena, map and replies
 pub record Lent : Type 0 where
   pub step : Step
   pub arena : List ℕ
   pub map : List ℕ
   pub reply : List ℕ
 
-abbrev pub leavesAt : ℕ → ℕ → List ℕ → List ℕ → List ℕ → Effect → Lent
-leavesAt area p arena map reply f =
+-- the call's reply buffer begins at `place` of the replies
+abbrev pub leavesAt : ℕ → ℕ → ℕ → List ℕ → List ℕ → List ℕ → Effect → Lent
+leavesAt place area p arena map replies f =
     record {
       step = record { peer = f .peer; answer = f .answer };
       arena = storeAt arena (p * area + f .at) (f .bytes);
       map = storeAt map (p * (area / 64)) (f .words);
-      reply = storeAt reply 0 (f .reply);
+      reply = storeAt replies place (f .reply);
     }
 
 -- what its caller has checked: the peer can be, and its words of the map are there

@@ -1,7 +1,9 @@
-// What is lent on to one peer: its own part of the arena and of the map. These serve `engine` and
-// `packed`, whose checks show what they require.
+// What is lent on to one peer: its own part of the arena and of the map. These serve `engine`,
+// `replay` and `packed`, whose checks show what they require.
+mod dispatch;
 mod reporting;
 
+pub use dispatch::step;
 use peer::Answer;
 use peer::Peer;
 use peer::Step;
@@ -25,7 +27,7 @@ pub fn packet_at(
     reply: &mut [u8],
 ) -> Step
     requires { ⌜ Owned area limit p (length (now arena)) (length (now map)) there ⌝ }
-    ensures { λ r. ⌜ record { step = r; arena = now (arena .exit); map = now (map .exit); reply = now (reply .exit) } ≡ leavesAt area p (now (arena .entry)) (now (map .entry)) (now (reply .entry)) (packetEffect limit there (part (now (map .entry)) (p * (area / 64)) (area / 64)) (now (bytes .entry)) (length (now (reply .entry)))) ⌝ }
+    ensures { λ r. ⌜ record { step = r; arena = now (arena .exit); map = now (map .exit); reply = now (reply .exit) } ≡ leavesAt 0 area p (now (arena .entry)) (now (map .entry)) (now (reply .entry)) (packetEffect limit there (part (now (map .entry)) (p * (area / 64)) (area / 64)) (now (bytes .entry)) (length (now (reply .entry)))) ⌝ }
 {
     let base = p * area;
     let end = base + area;

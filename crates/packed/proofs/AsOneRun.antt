@@ -15,20 +15,22 @@ use Rattle.engine.specs.SetUp.{Prepared, engineOf, notStarted, setUp}
 use Rattle.engine.specs.Steps.{World}
 use Rattle.engine.specs.declared.types.Ready.{Ready}
 use Rattle.engine.proofs.Worlds.{Good}
-use Rattle.guarantees.specs.Runs.{Request, freshWorld, turnOf, worldAfter}
+use Rattle.peer.specs.declared.types.Request as code
+use Rattle.lending.specs.Acts.{placeOf}
+use Rattle.guarantees.specs.Outputs.{outputOf, repliesAfter, requestsOf}
+use Rattle.guarantees.specs.Runs.{Request, freshWorld, requestOf, turnOf, worldAfter}
 use Rattle.guarantees.proofs.SetUps.{fresh-good, good-after}
 use Rattle.state_words.specs.Loading.{stateAfter}
 use Rattle.state_words.specs.RoundTrip.{Held, LoadedAgain}
 use Rattle.state_words.specs.Saving.{engineWords, stateSize}
 use Rattle.state_words.proofs.RoundTrips.{loaded-again, saved-is-state}
 use Rattle.packed.specs.Answers.{answerWords}
-use Rattle.packed.specs.Running.{Kept, answersOf, placeOf, ranFrom, ranOn, repliesAfter, requestOf, requestsOf, runOf}
+use Rattle.packed.specs.Running.{Kept, ranFrom, runOf}
 use Rattle.packed.specs.Starting.{Started, startOf}
 use Rattle.packed.specs.Whole.{AllBytes, Batch, PartOfRun, RunsAreOneRun, StartIsReady, Store, callsIn, requestsIn, requestsInAll, runOn, storeAfter}
-use Rattle.packed.specs.declared.types.Call.{Call}
 use Rattle.packed.proofs.Holding.{batch-held, fresh-held}
 use Rattle.packed.proofs.SettingUp.{start-ready, start-refused, start-short}
-use Rattle.packed.proofs.RunLaws.{length-answer, length-answers}
+use Rattle.packed.proofs.EightWords.{length-answer, length-answers}
 
 -- requests one after the other
 after-append : (w : World) (a b : List Request) → worldAfter w (a ++ b) ≡ worldAfter (worldAfter w a) b
@@ -49,11 +51,11 @@ keptFrom w b =
       arena = worldAfter w (requestsIn b) .arena;
       map = worldAfter w (requestsIn b) .map;
       replies = repliesAfter (b .bytes) (b .replies) w (b .replies) (callsIn b);
-      answers = storeAt (b .answers) 0 (answersOf (b .bytes) (b .replies) w (callsIn b));
+      answers = storeAt (b .answers) 0 (outputOf (b .bytes) (b .replies) answerWords w (callsIn b));
     }
 
 run-from : (w : World) (b : Batch) → Held (w .engine) → runOn (storeWith w) b ≡ keptFrom w b
-unfolding runOf ranFrom ranOn stateAfter LoadedAgain
+unfolding runOf ranFrom stateAfter LoadedAgain
 run-from w b h =
     rw (loaded-again (w .engine) h)
     (ap (λ (s : List ℕ). record {
@@ -62,7 +64,7 @@ run-from w b h =
       arena = worldAfter w (requestsIn b) .arena;
       map = worldAfter w (requestsIn b) .map;
       replies = repliesAfter (b .bytes) (b .replies) w (b .replies) (callsIn b);
-      answers = storeAt (b .answers) 0 (answersOf (b .bytes) (b .replies) w (callsIn b));
+      answers = storeAt (b .answers) 0 (outputOf (b .bytes) (b .replies) answerWords w (callsIn b));
     }) (pick-true _ _ (saved-is-state (w .engine) h)))
 
 -- ---- the runs before
@@ -89,28 +91,28 @@ unfolding part
 part-behind a b at n = ap (take n) (drop-append-add a b at)
 
 module _ (bytes buffers : List ℕ) where
-  answer-at : (w : World) (cs : List Call) (j : ℕ) (none : Call) → j < length cs
-      → part (answersOf bytes buffers w cs) (8 * j) 8
-      ≡ answerWords (turnOf (worldAfter w (take j (requestsOf bytes buffers cs))) (requestOf bytes buffers (getD cs j none)) .answer)
-  unfolding answersOf worldAfter
+  answer-at : (w : World) (qs : List code.Request) (j : ℕ) (none : code.Request) → j < length qs
+      → part (outputOf bytes buffers answerWords w qs) (8 * j) 8
+      ≡ answerWords (turnOf (worldAfter w (take j (requestsOf bytes buffers qs))) (requestOf bytes buffers (getD qs j none)) .answer)
+  unfolding outputOf worldAfter
   answer-at w [] j none l = absurd (omega arith)
-  answer-at w (c ∷ cs) zero none l =
-      let t = turnOf w (requestOf bytes buffers c) in
-      part-middle [] (answerWords (t .answer)) (answersOf bytes buffers (t .world) cs) 0 8 refl (length-answer (t .answer))
-  answer-at w (c ∷ cs) (suc j) none l =
-      let t = turnOf w (requestOf bytes buffers c) in
+  answer-at w (q ∷ qs) zero none l =
+      let t = turnOf w (requestOf bytes buffers q) in
+      part-middle [] (answerWords (t .answer)) (outputOf bytes buffers answerWords (t .world) qs) 0 8 refl (length-answer (t .answer))
+  answer-at w (q ∷ qs) (suc j) none l =
+      let t = turnOf w (requestOf bytes buffers q) in
       let a = answerWords (t .answer) in
       let at : 8 * suc j ≡ length a + 8 * j = omega (arith, length-answer (t .answer)) in
-      rw at (part-behind a (answersOf bytes buffers (t .world) cs) (8 * j) 8 ∙ answer-at (t .world) cs j none (omega arith))
+      rw at (part-behind a (outputOf bytes buffers answerWords (t .world) qs) (8 * j) 8 ∙ answer-at (t .world) qs j none (omega arith))
 
-  reply-next : (w : World) (now : List ℕ) (cs : List Call) (j : ℕ) (none : Call) → j < length cs
-      → repliesAfter bytes buffers w now (take (suc j) cs)
-      ≡ storeAt (repliesAfter bytes buffers w now (take j cs)) (placeOf (getD cs j none))
-      (turnOf (worldAfter w (take j (requestsOf bytes buffers cs))) (requestOf bytes buffers (getD cs j none)) .reply)
+  reply-next : (w : World) (now : List ℕ) (qs : List code.Request) (j : ℕ) (none : code.Request) → j < length qs
+      → repliesAfter bytes buffers w now (take (suc j) qs)
+      ≡ storeAt (repliesAfter bytes buffers w now (take j qs)) (placeOf (getD qs j none .call))
+      (turnOf (worldAfter w (take j (requestsOf bytes buffers qs))) (requestOf bytes buffers (getD qs j none)) .reply)
   unfolding repliesAfter worldAfter
   reply-next w now [] j none l = absurd (omega arith)
-  reply-next w now (c ∷ cs) zero none l = refl
-  reply-next w now (c ∷ cs) (suc j) none l = reply-next (turnOf w (requestOf bytes buffers c) .world) _ cs j none (omega arith)
+  reply-next w now (q ∷ qs) zero none l = refl
+  reply-next w now (q ∷ qs) (suc j) none l = reply-next (turnOf w (requestOf bytes buffers q) .world) _ qs j none (omega arith)
 
 -- a part of what was stored at the start
 part-start : (l s : List ℕ) (at n : ℕ) → at + n ≤ length s → part (storeAt l 0 s) at n ≡ part s at n
@@ -146,7 +148,7 @@ module _ (w : World) (earlier : List Request) (b : Batch) where
       }
     where
       words : List ℕ
-      words = answersOf (b .bytes) (b .replies) before (callsIn b)
+      words = outputOf (b .bytes) (b .replies) answerWords before (callsIn b)
 
       size : length words ≡ 8 * length (callsIn b)
       size = length-answers (b .bytes) (b .replies) before (callsIn b)

@@ -7,38 +7,39 @@ use mathlib.Core.List.{List, [], _∷_}
 use mathlib.Core.Path.{_≡_, subst}
 use native.Mathlib.Omega.{arith}
 use Rattle.laws.proofs.Choosing.{branch}
-use Rattle.packed.specs.Calls.{Inside, callAt, packetAt, postAt}
+use Rattle.peer.specs.declared.types.Request.{Request}
+use Rattle.lending.specs.Acts.{Inside}
+use Rattle.packed.specs.Calls.{packetAt, postAt, requestAt}
 use Rattle.packed.specs.Running.{decode, onFound}
-use Rattle.packed.specs.declared.types.Call.{Call}
 use Rattle.packed.specs.declared.types.Found.{Found}
 
 module _ (k : ℕ) (w bytes replies : List ℕ) (at : ℕ) where
-  pub decode-call : (c : Call) → callAt w (length bytes) (length replies) at ≡ Found.Call c
-      → decode (suc k) w bytes replies at ≡ c ∷ decode k w bytes replies (at + 8)
+  pub decode-request : (q : Request) → requestAt w (length bytes) (length replies) at ≡ Found.Request q
+      → decode (suc k) w bytes replies at ≡ q ∷ decode k w bytes replies (at + 8)
   unfolding decode
-  decode-call c e = rw e
+  decode-request q e = rw e
 
-  pub decode-bad : callAt w (length bytes) (length replies) at ≡ Found.Bad → decode (suc k) w bytes replies at ≡ []
+  pub decode-bad : requestAt w (length bytes) (length replies) at ≡ Found.Bad → decode (suc k) w bytes replies at ≡ []
   unfolding decode
   decode-bad e = rw e
 
 pub calls-few : (k : ℕ) (w bytes replies : List ℕ) (at : ℕ) → length (decode k w bytes replies at) ≤ k
 unfolding decode
 calls-few zero w bytes replies at = omega arith
-calls-few (suc k) w bytes replies at = found (callAt w (length bytes) (length replies) at) (calls-few k w bytes replies (at + 8))
+calls-few (suc k) w bytes replies at = found (requestAt w (length bytes) (length replies) at) (calls-few k w bytes replies (at + 8))
   where
-    found : (f : Found) → length (decode k w bytes replies (at + 8)) ≤ k → length (onFound f [] (λ c. c ∷ decode k w bytes replies (at + 8))) ≤ suc k
+    found : (f : Found) → length (decode k w bytes replies (at + 8)) ≤ k → length (onFound f [] (λ q. q ∷ decode k w bytes replies (at + 8))) ≤ suc k
     found Found.Bad l = omega arith
-    found (Found.Call c) l = omega arith
+    found (Found.Request q) l = omega arith
 
 -- ---- packet and reply buffer lie in what is lent
 
 abbrev InsideFound : ℕ → ℕ → Found → Type 0
 InsideFound bytes replies Found.Bad = Unit {0}
-InsideFound bytes replies (Found.Call c) = Inside bytes replies c
+InsideFound bytes replies (Found.Request q) = Inside bytes replies (q .call)
 
-found-inside : (w : List ℕ) (bytes replies at : ℕ) → InsideFound bytes replies (callAt w bytes replies at)
-unfolding callAt postAt packetAt
+found-inside : (w : List ℕ) (bytes replies at : ℕ) → InsideFound bytes replies (requestAt w bytes replies at)
+unfolding requestAt postAt packetAt
 found-inside w bytes replies at =
     let P : Found → Type 0 = InsideFound bytes replies in
     branch P (eqb (getD w at 0) 1) _ _ (λ h. branch P (leb (getD w (at + 2) 0) 1) _ _ (λ g. tt) (λ g. tt))
@@ -47,5 +48,5 @@ found-inside w bytes replies at =
     (λ g. branch P (leb (getD w (at + 4) 0 + getD w (at + 5) 0) replies) _ _ (λ l. (leb-true _ _ g, leb-true _ _ l)) (λ l. tt)) (λ g. tt))
     (λ h. branch P (eqb (getD w at 0) 3) _ _ (λ h. tt) (λ h. branch P (eqb (getD w at 0) 4) _ _ (λ h. tt) (λ h. tt))))
 
-pub call-inside : (w : List ℕ) (bytes replies at : ℕ) (c : Call) → callAt w bytes replies at ≡ Found.Call c → Inside bytes replies c
-call-inside w bytes replies at c e = subst (InsideFound bytes replies) e (found-inside w bytes replies at)
+pub request-inside : (w : List ℕ) (bytes replies at : ℕ) (q : Request) → requestAt w bytes replies at ≡ Found.Request q → Inside bytes replies (q .call)
+request-inside w bytes replies at q e = subst (InsideFound bytes replies) e (found-inside w bytes replies at)

@@ -40,12 +40,13 @@ use Rattle.peer.proofs.Verdicts.{Judged, continued-at, judged}
 use Rattle.engine.specs.SetUp.{engineOf, peerAt, peerCount}
 use Rattle.engine.specs.Steps.{Turn, World, callTurn, putBack, wordsOf}
 use Rattle.engine.proofs.Worlds.{Good, good-called, sized, turn-none, turn-own}
-use Rattle.guarantees.specs.Runs.{callOf, turnOf, worldAfter}
+use Rattle.lending.specs.Acts.{actOf, callOf}
+use Rattle.guarantees.specs.Outputs.{requestsOf}
+use Rattle.guarantees.specs.Runs.{turnOf, worldAfter}
 use Rattle.engine.proofs.WordsHold.{fresh-peer}
 use Rattle.state_words.specs.RoundTrip.{Held, MessageHeld, PeerHeld}
-use Rattle.packed.specs.Calls.{peerOf}
-use Rattle.packed.specs.Running.{actOf, requestsOf}
-use Rattle.packed.specs.declared.types.Call as packed
+use Rattle.peer.specs.declared.types.Call as code
+use Rattle.peer.specs.declared.types.Request.{Request}
 
 -- what is at a place of a list after a store
 set-either : {A : Type 0} (l : List A) (i j : ℕ) (a d : A) → (getD (set l i a) j d ≡ a) ⊎ (getD (set l i a) j d ≡ getD l j d)
@@ -225,18 +226,18 @@ called-held w g h p c b = elim (decLt p (w .engine .n)) as (λ d. Held (callTurn
         })
 
 -- the calls of a batch, whose packets lie in its bytes
-pub batch-held : (bytes replies : List ℕ) → ((i : ℕ) → getD bytes i 0 < 256) → (w : World) → Good w → Held (w .engine) → (cs : List packed.Call)
-    → Held (worldAfter w (requestsOf bytes replies cs) .engine)
+pub batch-held : (bytes replies : List ℕ) → ((i : ℕ) → getD bytes i 0 < 256) → (w : World) → Good w → Held (w .engine) → (qs : List Request)
+    → Held (worldAfter w (requestsOf bytes replies qs) .engine)
 unfolding worldAfter turnOf
 batch-held bytes replies b w g h [] = h
-batch-held bytes replies b w g h (c ∷ cs) =
-    batch-held bytes replies b _ (good-called w g (peerOf c) call) (called-held w g h (peerOf c) call (within c)) cs
+batch-held bytes replies b w g h (q ∷ qs) =
+    batch-held bytes replies b _ (good-called w g (q .peer) call) (called-held w g h (q .peer) call (within (q .call))) qs
   where
     call : Call
-    call = callOf (actOf bytes replies c)
+    call = callOf (actOf bytes replies (q .call))
 
-    within : (c : packed.Call) → BytesOf (callOf (actOf bytes replies c))
-    within (packed.Call.Post peer receive) = tt
-    within (packed.Call.Packet peer at n place room) = part-all (λ x. x < 256) 0 bytes at n b
-    within (packed.Call.Cancel peer slot) = tt
-    within (packed.Call.Report peer slot) = tt
+    within : (c : code.Call) → BytesOf (callOf (actOf bytes replies c))
+    within (code.Call.Post receive) = tt
+    within (code.Call.Packet sent reply) = part-all (λ x. x < 256) 0 bytes (sent .at) (sent .size) b
+    within (code.Call.Cancel slot) = tt
+    within (code.Call.Report slot) = tt

@@ -17,8 +17,9 @@ use Rattle.state_words.specs.Saving.{engineWords, peerSize, stateSize}
 use Rattle.state_words.specs.declared.types.Loaded.{Loaded}
 use Rattle.state_words.proofs.FlatLaws.{getD-tabulate, length-tabulate}
 use Rattle.state_words.proofs.Sizes.{not-state}
-use Rattle.packed.specs.Running.{Kept, Left, ranFrom, runOf}
+use Rattle.packed.specs.Running.{Kept, ranFrom, runOf}
 use Rattle.engine.specs.InWords.{Eights}
+use Rattle.guarantees.specs.Outputs.{RunLeaves}
 
 -- ---- the engine of a state's words
 
@@ -55,21 +56,21 @@ state-length w e = elim (ℕ-discrete (length w) stateSize) as (λ d. length w �
 -- ---- a run
 
 -- what a run leaves, with these words for the state
-abbrev pub keepWith : List ℕ → Left → Kept
+abbrev pub keepWith : List ℕ → RunLeaves → Kept
 keepWith s l =
-    record { taken = l .ran .taken; state = s; arena = l .arena; map = l .map; replies = l .replies; answers = l .answers }
+    record { taken = l .taken; state = s; arena = l .world .arena; map = l .world .map; replies = l .replies; answers = l .output }
 
-module _ (state arena map calls bytes replies answers : List ℕ) (d : Loaded) (x : Left)
+module _ (state arena map calls bytes replies answers : List ℕ) (d : Loaded) (x : RunLeaves)
     (e : d ≡ record { engine = stateOf state; whole = isState state })
     (r : x ≡ ranFrom (world (d .engine) arena map) calls bytes replies answers) where
   ran : x ≡ ranFrom (world (stateOf state) arena map) calls bytes replies answers
   ran = r ∙ ap (λ (d : Loaded). ranFrom (world (d .engine) arena map) calls bytes replies answers) e
 
-  pub run-saved : d .whole ≡ true → keepWith (engineWords (x .ran .engine)) x ≡ runOf state arena map calls bytes replies answers
+  pub run-saved : d .whole ≡ true → keepWith (engineWords (x .world .engine)) x ≡ runOf state arena map calls bytes replies answers
   unfolding runOf stateAfter
   run-saved t =
       let s : isState state ≡ true = sym (ap (λ (d : Loaded). d .whole) e) ∙ t in
-      ap (λ (x : Left). keepWith (engineWords (x .ran .engine)) x) ran
+      ap (λ (x : RunLeaves). keepWith (engineWords (x .world .engine)) x) ran
       ∙ ap (λ (w : List ℕ). keepWith w (ranFrom (world (stateOf state) arena map) calls bytes replies answers)) (sym (pick-true _ _ s))
 
   pub run-left : d .whole ≡ false → keepWith state x ≡ runOf state arena map calls bytes replies answers

@@ -1,8 +1,6 @@
-pub mod StepLaws
 pub mod DecodeLaws
-pub mod RunLaws
-pub mod Standing
-pub mod Going
+pub mod EightWords
+pub mod BatchInvariant
 pub mod SettingUp
 pub mod Holding
 pub mod AsOneRun

@@ -1,17 +1,21 @@
 -- A call as eight words: its number, then what it takes. A packet and its reply buffer are given by place and length.
-use Prim.Native.Nat.{ℕ, _+_, _≤_}
+use Prim.Native.Nat.{ℕ, _+_}
 use mathlib.Core.List.{List}
 use lib.ListN.{getD}
 use lib.Dec.{leb, eqb}
 use Rattle.laws.specs.Choose.{pick}
-use Rattle.packed.specs.declared.types.Call.{Call}
+use Rattle.peer.specs.declared.types.Call.{Call}
 use Rattle.packed.specs.declared.types.Found.{Found}
+
+-- a call of the peer whose number is the second word
+abbrev pub requestWith : List ℕ → ℕ → Call → Found
+requestWith w at c = Found.Request (record { peer = getD w (at + 1) 0; call = c })
 
 -- 1, peer, 0 plain or 1 tagged, tag, ignore, start, capacity
 unfoldable pub postAt : List ℕ → ℕ → Found
 postAt w at =
     pick (leb (getD w (at + 2) 0) 1)
-    (Found.Call (Call.Post (getD w (at + 1) 0) (record {
+    (requestWith w at (Call.Post (record {
       tagged = eqb (getD w (at + 2) 0) 1;
       tag = getD w (at + 3) 0;
       ignore = getD w (at + 4) 0;
@@ -25,27 +29,14 @@ unfoldable pub packetAt : List ℕ → ℕ → ℕ → ℕ → Found
 packetAt w bytes replies at =
     pick (leb (getD w (at + 2) 0 + getD w (at + 3) 0) bytes)
     (pick (leb (getD w (at + 4) 0 + getD w (at + 5) 0) replies)
-    (Found.Call (Call.Packet (getD w (at + 1) 0) (getD w (at + 2) 0) (getD w (at + 3) 0) (getD w (at + 4) 0) (getD w (at + 5) 0)))
+    (requestWith w at (Call.Packet (record { at = getD w (at + 2) 0; size = getD w (at + 3) 0 }) (record { at = getD w (at + 4) 0; size = getD w (at + 5) 0 })))
     Found.Bad)
     Found.Bad
 
 -- the call of the words from `at` on, where so many bytes and reply bytes are lent; 3 is a cancel and 4 a report, of peer and slot
-unfoldable pub callAt : List ℕ → ℕ → ℕ → ℕ → Found
-callAt w bytes replies at =
+unfoldable pub requestAt : List ℕ → ℕ → ℕ → ℕ → Found
+requestAt w bytes replies at =
     pick (eqb (getD w at 0) 1) (postAt w at)
     (pick (eqb (getD w at 0) 2) (packetAt w bytes replies at)
-    (pick (eqb (getD w at 0) 3) (Found.Call (Call.Cancel (getD w (at + 1) 0) (getD w (at + 2) 0)))
-    (pick (eqb (getD w at 0) 4) (Found.Call (Call.Report (getD w (at + 1) 0) (getD w (at + 2) 0))) Found.Bad)))
-
-abbrev pub peerOf : Call → ℕ
-peerOf (Call.Post peer receive) = peer
-peerOf (Call.Packet peer at n place room) = peer
-peerOf (Call.Cancel peer slot) = peer
-peerOf (Call.Report peer slot) = peer
-
--- a call whose packet and reply buffer lie in what is lent
-abbrev pub Inside : ℕ → ℕ → Call → Type 0
-Inside bytes replies (Call.Post peer receive) = Unit {0}
-Inside bytes replies (Call.Packet peer at n place room) = (at + n ≤ bytes) × (place + room ≤ replies)
-Inside bytes replies (Call.Cancel peer slot) = Unit {0}
-Inside bytes replies (Call.Report peer slot) = Unit {0}
+    (pick (eqb (getD w at 0) 3) (requestWith w at (Call.Cancel (getD w (at + 2) 0)))
+    (pick (eqb (getD w at 0) 4) (requestWith w at (Call.Report (getD w (at + 2) 0))) Found.Bad)))

@@ -1,6 +1,5 @@
 pub mod Calls
 pub mod Answers
-pub mod Steps
 pub mod Running
 pub mod Starting
 pub mod Whole

@@ -8,12 +8,14 @@ use Rattle.laws.specs.Parts.{part, storeAt}
 use Rattle.engine.specs.SetUp.{setUp}
 use Rattle.engine.specs.Steps.{Turn, World}
 use Rattle.engine.specs.declared.types.Ready.{Ready}
-use Rattle.guarantees.specs.Runs.{Request, freshWorld, turnOf, worldAfter}
+use Rattle.peer.specs.declared.types.Request as code
+use Rattle.lending.specs.Acts.{placeOf}
+use Rattle.guarantees.specs.Outputs.{requestsOf}
+use Rattle.guarantees.specs.Runs.{Request, freshWorld, requestOf, turnOf, worldAfter}
 use Rattle.state_words.specs.Saving.{engineWords}
 use Rattle.packed.specs.Answers.{answerWords}
-use Rattle.packed.specs.Running.{Kept, budgetOf, decode, placeOf, requestOf, requestsOf, runOf}
+use Rattle.packed.specs.Running.{Kept, budgetOf, decode, runOf}
 use Rattle.packed.specs.Starting.{startOf}
-use Rattle.packed.specs.declared.types.Call.{Call}
 
 -- what one run is lent besides state, arena and map
 pub record Batch : Type 0 where
@@ -42,7 +44,7 @@ storeAfter s (b ∷ bs) = storeAfter (storeOf (runOn s b)) bs
 -- ---- the requests of the batches
 
 -- as many calls as there are words for, and for their answers, up to the first that is none
-abbrev pub callsIn : Batch → List Call
+abbrev pub callsIn : Batch → List code.Request
 callsIn b = decode (budgetOf (length (b .calls)) (length (b .answers))) (b .calls) (b .bytes) (b .replies) 0
 
 abbrev pub requestsIn : Batch → List Request
@@ -60,19 +62,19 @@ AllBytes (b ∷ bs) = ((i : ℕ) → getD (b .bytes) i 0 < 256) × AllBytes bs
 -- ---- one batch among them
 
 -- in the run from w, where the requests `earlier` came before those of the batch b, which left k: the turn of its call j, if it has one
-abbrev pub turnAt : World → List Request → Batch → ℕ → Call → Turn
+abbrev pub turnAt : World → List Request → Batch → ℕ → code.Request → Turn
 turnAt w earlier b j none = turnOf (worldAfter w (earlier ++ take j (requestsIn b))) (requestOf (b .bytes) (b .replies) (getD (callsIn b) j none))
 
 pub record PartOfRun (w : World) (earlier : List Request) (b : Batch) (k : Kept) : Type 0 where
   pub taken : k .taken ≡ length (callsIn b)
   -- each call has its answer in its eight words, and the words behind them stay
-  pub answers : (j : ℕ) (none : Call) → j < length (callsIn b) → part (k .answers) (8 * j) 8 ≡ answerWords (turnAt w earlier b j none .answer)
+  pub answers : (j : ℕ) (none : code.Request) → j < length (callsIn b) → part (k .answers) (8 * j) 8 ≡ answerWords (turnAt w earlier b j none .answer)
   pub answersStay : drop (8 * length (callsIn b)) (k .answers) ≡ drop (8 * length (callsIn b)) (b .answers)
   -- the replies, after so many calls: each call's reply packet is put at its place
   pub repliesAt : ℕ → List ℕ
   pub repliesFirst : repliesAt 0 ≡ b .replies
-  pub repliesNext : (j : ℕ) (none : Call) → j < length (callsIn b)
-      → repliesAt (suc j) ≡ storeAt (repliesAt j) (placeOf (getD (callsIn b) j none)) (turnAt w earlier b j none .reply)
+  pub repliesNext : (j : ℕ) (none : code.Request) → j < length (callsIn b)
+      → repliesAt (suc j) ≡ storeAt (repliesAt j) (placeOf (getD (callsIn b) j none .call)) (turnAt w earlier b j none .reply)
   pub repliesLast : repliesAt (length (callsIn b)) ≡ k .replies
   -- what is left of arena, map and state
   pub arena : k .arena ≡ worldAfter w (earlier ++ requestsIn b) .arena

@@ -2,6 +2,9 @@
 use peer::Answer;
 use protocol::CqData;
 ghost use mathlib.Core.Path.{_≡_};
+ghost use Prim.Native.Nat.{_+_, _≤_};
+ghost use lib.ListN.{length};
+ghost use Rattle.laws.specs.Parts.{storeAt};
 ghost use Rattle.packed.specs.Answers.{doneWords, answerWords};
 
 fn done_words(slot: usize, id: u32, length: usize, cq_data: CqData) -> [u64; 8]
@@ -21,7 +24,7 @@ fn done_words(slot: usize, id: u32, length: usize, cq_data: CqData) -> [u64; 8]
     ]
 }
 
-pub(crate) fn answer_words(answer: Answer) -> [u64; 8]
+fn answer_words(answer: Answer) -> [u64; 8]
     ensures { λ r. ⌜ r ≡ answerWords answer ⌝ }
 {
     match answer {
@@ -41,4 +44,14 @@ pub(crate) fn answer_words(answer: Answer) -> [u64; 8]
         }
         Answer::Missing { received, first } => [7, received as u64, first as u64, 0, 0, 0, 0, 0],
     }
+}
+
+// Puts an answer's words at a place, and answers the place behind them.
+pub(crate) fn put_answer(answers: &mut [u64], at: usize, answer: Answer) -> usize
+    requires { ⌜ at + length (answerWords answer) ≤ length (now answers) ⌝ }
+    ensures { λ r. ⌜ (r ≡ at + length (answerWords answer)) × (now (answers .exit) ≡ storeAt (now (answers .entry)) at (answerWords answer)) ⌝ }
+{
+    let words = answer_words(answer);
+    words::put_words(answers, at, &words);
+    at + 8
 }

@@ -1,11 +1,13 @@
 // A call, read from its eight words.
-use crate::types::Call;
 use crate::types::Found;
+use peer::Call;
 use peer::Receive;
+use peer::Request;
+use protocol::Span;
 ghost use mathlib.Core.Path.{_≡_};
 ghost use Prim.Native.Nat.{_+_, _≤_};
 ghost use lib.ListN.{length};
-ghost use Rattle.packed.specs.Calls.{peerOf, postAt, packetAt, callAt};
+ghost use Rattle.packed.specs.Calls.{postAt, packetAt, requestAt};
 
 fn post_at(calls: &[u64], at: usize) -> Found
     requires { ⌜ at + 8 ≤ length (now calls) ⌝ }
@@ -15,37 +17,50 @@ fn post_at(calls: &[u64], at: usize) -> Found
     if 1 < kind {
         return Found::Bad;
     }
+    let peer = calls[at + 1] as usize;
+    let tag = calls[at + 3];
+    let ignore = calls[at + 4];
+    let start = calls[at + 5] as usize;
+    let capacity = calls[at + 6] as usize;
     let receive = Receive {
         tagged: kind == 1,
-        tag: calls[at + 3],
-        ignore: calls[at + 4],
-        start: calls[at + 5] as usize,
-        capacity: calls[at + 6] as usize,
+        tag,
+        ignore,
+        start,
+        capacity,
     };
-    Found::Call(Call::Post(calls[at + 1] as usize, receive))
+    let call = Call::Post(receive);
+    Found::Request(Request { peer, call })
 }
 
 fn packet_at(calls: &[u64], at: usize, bytes: usize, replies: usize) -> Found
     requires { ⌜ at + 8 ≤ length (now calls) ⌝ }
     ensures { λ r. ⌜ r ≡ packetAt (now (calls .entry)) bytes replies at ⌝ }
 {
+    let peer = calls[at + 1] as usize;
     let place = calls[at + 2] as usize;
-    let count = calls[at + 3] as usize;
-    let reply = calls[at + 4] as usize;
+    let size = calls[at + 3] as usize;
+    let start = calls[at + 4] as usize;
     let room = calls[at + 5] as usize;
-    if !wire::ends_by(place, count, bytes) {
+    if !wire::ends_by(place, size, bytes) {
         return Found::Bad;
     }
-    if !wire::ends_by(reply, room, replies) {
+    if !wire::ends_by(start, room, replies) {
         return Found::Bad;
     }
-    Found::Call(Call::Packet(calls[at + 1] as usize, place, count, reply, room))
+    let sent = Span { at: place, size };
+    let reply = Span {
+        at: start,
+        size: room,
+    };
+    let call = Call::Packet(sent, reply);
+    Found::Request(Request { peer, call })
 }
 
 // The call of the words from `at` on, where so many bytes and reply bytes are lent.
-pub(crate) fn call_at(calls: &[u64], at: usize, bytes: usize, replies: usize) -> Found
+pub(crate) fn request_at(calls: &[u64], at: usize, bytes: usize, replies: usize) -> Found
     requires { ⌜ at + 8 ≤ length (now calls) ⌝ }
-    ensures { λ r. ⌜ r ≡ callAt (now (calls .entry)) bytes replies at ⌝ }
+    ensures { λ r. ⌜ r ≡ requestAt (now (calls .entry)) bytes replies at ⌝ }
 {
     let number = calls[at];
     if number == 1 {
@@ -57,24 +72,12 @@ pub(crate) fn call_at(calls: &[u64], at: usize, bytes: usize, replies: usize) ->
     let peer = calls[at + 1] as usize;
     let slot = calls[at + 2] as usize;
     if number == 3 {
-        return Found::Call(Call::Cancel(peer, slot));
+        let call = Call::Cancel(slot);
+        return Found::Request(Request { peer, call });
     }
     if number == 4 {
-        return Found::Call(Call::Report(peer, slot));
+        let call = Call::Report(slot);
+        return Found::Request(Request { peer, call });
     }
     Found::Bad
-}
-
-impl Call {
-    // The peer whose call it is.
-    pub(crate) fn peer(self) -> usize
-        ensures { λ r. ⌜ r ≡ peerOf self ⌝ }
-    {
-        match self {
-            Call::Post(peer, _) => peer,
-            Call::Packet(peer, _, _, _, _) => peer,
-            Call::Cancel(peer, _) => peer,
-            Call::Report(peer, _) => peer,
-        }
-    }
 }

@@ -3,67 +3,16 @@
 use crate::answers;
 use crate::calls;
 use crate::gates;
-use crate::types::Call;
 use crate::types::Found;
 use crate::types::Ran;
 use engine::Engine;
 use engine::Gate;
 use peer::Answer;
-use peer::Peer;
-use peer::Step;
 ghost use mathlib.Core.Path.{_≡_};
-ghost use Prim.Native.Nat.{_*_, _/_};
-ghost use lib.ListN.{length};
-ghost use Rattle.laws.specs.Parts.{part};
-ghost use Rattle.peer.specs.Calls.{peerStep};
-ghost use Rattle.lending.specs.Lending.{Owned};
+ghost use Prim.Native.Nat.{_*_};
 ghost use Rattle.engine.specs.Left.{world};
-ghost use Rattle.guarantees.specs.Runs.{callOf};
-ghost use Rattle.packed.specs.Calls.{Inside};
-ghost use Rattle.packed.specs.Running.{actOf, placeOf, budgetOf, ranFrom, runOf};
+ghost use Rattle.packed.specs.Running.{budgetOf, ranFrom, runOf};
 ghost use Rattle.engine.specs.InWords.{Eights};
-ghost use Rattle.packed.specs.Steps.{leavesAt};
-
-// One call of peer p, whose gate is open. Of arena and map only the peer's own part is lent on, and
-// of the replies only the call's own buffer.
-fn step(
-    there: Peer,
-    p: usize,
-    area: usize,
-    limit: usize,
-    call: Call,
-    bytes: &[u8],
-    arena: &mut [u8],
-    map: &mut [u64],
-    replies: &mut [u8],
-) -> Step
-    requires { ⌜ Owned area limit p (length (now arena)) (length (now map)) there ⌝ }
-    requires { ⌜ Inside (length (now bytes)) (length (now replies)) call ⌝ }
-    ensures { λ r. ⌜ record { step = r; arena = now (arena .exit); map = now (map .exit); reply = now (replies .exit) } ≡ leavesAt (placeOf call) area p (now (arena .entry)) (now (map .entry)) (now (replies .entry)) (peerStep area limit there (part (now (map .entry)) (p * (area / 64)) (area / 64)) (callOf (actOf (now (bytes .entry)) (now (replies .entry)) call))) ⌝ }
-{
-    match call {
-        Call::Post(_, receive) => posting::post(there, area, receive),
-        Call::Packet(_, at, count, place, room) => {
-            let end = at + count;
-            let last = place + room;
-            lending::packet_at(
-                there,
-                p,
-                area,
-                limit,
-                &bytes[at..end],
-                arena,
-                map,
-                &mut replies[place..last],
-            )
-        }
-        Call::Cancel(_, slot) => posting::cancel(there, slot),
-        Call::Report(_, slot) => Step {
-            peer: there,
-            answer: lending::report_at(there, p, slot, area, map),
-        },
-    }
-}
 
 // How many calls there are words for, and for their answers.
 fn budget(calls: usize, answers: usize) -> usize
@@ -84,7 +33,7 @@ fn run_calls(
     answers: &mut [u64],
 ) -> Ran
     requires { ⌜ Eights start ⌝ }
-    ensures { λ r. ⌜ record { ran = r; arena = now (arena .exit); map = now (map .exit); replies = now (replies .exit); answers = now (answers .exit) } ≡ ranFrom (world start (now (arena .entry)) (now (map .entry))) (now (calls .entry)) (now (bytes .entry)) (now (replies .entry)) (now (answers .entry)) ⌝ }
+    ensures { λ r. ⌜ record { world = world (r .engine) (now (arena .exit)) (now (map .exit)); taken = r .taken; replies = now (replies .exit); output = now (answers .exit); place = 8 * r .taken } ≡ ranFrom (world start (now (arena .entry)) (now (map .entry))) (now (calls .entry)) (now (bytes .entry)) (now (replies .entry)) (now (answers .entry)) ⌝ }
 {
     let good = engine::fits(start);
     let most = budget(calls.len(), answers.len());
@@ -92,36 +41,27 @@ fn run_calls(
     let mut at: usize = 0;
     let mut taken: usize = 0;
     while taken < most {
-        match calls::call_at(calls, at, bytes.len(), replies.len()) {
-            Found::Bad => {
-                return Ran { engine, taken };
+        let found = calls::request_at(calls, at, bytes.len(), replies.len());
+        let Found::Request(request) = found else {
+            return Ran { engine, taken };
+        };
+        let p = request.peer;
+        let call = request.call;
+        let n = engine.n;
+        let area = engine.area;
+        let limit = engine.limit;
+        let answer = match gates::admit(good, n, area, limit, arena.len(), map.len(), p) {
+            Gate::Shut(refusal) => Answer::Refused(refusal),
+            Gate::Open => {
+                let there = engine.peers[p];
+                let step = lending::step(there, p, area, limit, call, bytes, arena, map, replies);
+                let after = step.peer;
+                engine.peers[p] = after;
+                step.answer
             }
-            Found::Call(call) => {
-                let p = call.peer();
-                let n = engine.n;
-                let area = engine.area;
-                let limit = engine.limit;
-                match gates::admit(good, n, area, limit, arena.len(), map.len(), p) {
-                    Gate::Shut(refusal) => {
-                        let words = answers::answer_words(Answer::Refused(refusal));
-                        words::put_words(answers, at, &words);
-                        at += 8;
-                        taken += 1;
-                    }
-                    Gate::Open => {
-                        let there = engine.peers[p];
-                        let done = step(there, p, area, limit, call, bytes, arena, map, replies);
-                        let after = done.peer;
-                        engine.peers[p] = after;
-                        let answer = done.answer;
-                        let words = answers::answer_words(answer);
-                        words::put_words(answers, at, &words);
-                        at += 8;
-                        taken += 1;
-                    }
-                }
-            }
-        }
+        };
+        at = answers::put_answer(answers, at, answer);
+        taken += 1;
     }
     Ran { engine, taken }
 }

@@ -1,18 +1,10 @@
-// A call that was read from its words, and what a run answers.
+// What is read from a call's words, and what a run answers.
 use engine::Engine;
-use peer::Receive;
+use peer::Request;
 
-// A call. A packet has its place and length in the lent bytes, then its reply buffer's in the
-// lent replies.
-pub enum Call {
-    Post(usize, Receive),
-    Packet(usize, usize, usize, usize, usize),
-    Cancel(usize, usize),
-    Report(usize, usize),
-}
-
+// A packet lies in the lent bytes, and its reply buffer in the lent replies.
 pub enum Found {
-    Call(Call),
+    Request(Request),
     Bad,
 }
 

@@ -4,6 +4,7 @@ mod state;
 mod types;
 
 pub use types::Answer;
+pub use types::Call;
 pub use types::Fit;
 pub use types::Found;
 pub use types::Inbound;
@@ -13,6 +14,7 @@ pub use types::Peer;
 pub use types::Phase;
 pub use types::Progress;
 pub use types::Receive;
+pub use types::Request;
 pub use types::Slot;
 pub use types::Step;
 pub use types::Vacancy;

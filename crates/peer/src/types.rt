@@ -2,6 +2,7 @@
 use protocol::CqData;
 use protocol::Refusal;
 use protocol::Shape;
+use protocol::Span;
 
 // What a post asks for: a range of the peer's area, for messages of a kind and a tag.
 pub struct Receive {
@@ -117,6 +118,21 @@ pub enum Answer {
         received: usize,
         first: usize,
     },
+}
+
+// A call of one peer. A packet and its reply buffer are told by where they lie in what is lent, since
+// an enum holds no slice.
+pub enum Call {
+    Post(Receive),
+    Packet(Span, Span),
+    Cancel(usize),
+    Report(usize),
+}
+
+// A call, with its peer's number.
+pub struct Request {
+    pub peer: usize,
+    pub call: Call,
 }
 
 // The peer after a call, and the call's answer.

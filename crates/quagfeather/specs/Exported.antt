@@ -6,7 +6,7 @@ use lib.ListN.{length}
 use lib.Dec.{leb}
 use Rattle.laws.specs.Choose.{pick}
 use Rattle.bitmap.specs.Map.{marked, touched}
-use Rattle.replay.specs.Replaying.{Left}
+use Rattle.replay.specs.Replaying.{ReplayLeaves}
 
 -- the length of a replay's text, and what the replay leaves of all that is lent
 pub record Texts : Type 0 where
@@ -16,7 +16,7 @@ pub record Texts : Type 0 where
   pub reply : List ℕ
   pub text : List ℕ
 
-abbrev pub texts : Left → Texts
+abbrev pub texts : ReplayLeaves → Texts
 texts l = record { written = l .replayed .written; arena = l .arena; map = l .map; reply = l .reply; text = l .text }
 
 -- 0 or the refusal's number, and the map

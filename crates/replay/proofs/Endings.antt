@@ -8,27 +8,28 @@ use mathlib.Core.List.{List, [], _∷_, map}
 use mathlib.Core.Path.{_≡_, refl, ap, _∙_}
 use native.Mathlib.Omega.{arith}
 use Rattle.laws.proofs.Choosing.{branch, pick-either, pick-true}
+use Rattle.peer.specs.declared.types.Call.{Call}
+use Rattle.peer.specs.declared.types.Request.{Request}
 use Rattle.engine.specs.declared.types.Ready.{Ready}
 use Rattle.trace.specs.Entries.{entryAt, setUpAt}
-use Rattle.trace.specs.ExactlyRecorded.{EntryStands, SetUpStands}
-use Rattle.trace.specs.declared.types.Entry.{Entry}
+use Rattle.trace.specs.ExactlyRecorded.{CallStands, SetUpStands}
 use Rattle.trace.specs.declared.types.Found.{Found}
 use Rattle.trace.specs.declared.types.SetUp.{SetUp}
 use Rattle.trace.proofs.OnlyAsRecorded.{entry-only-as-recorded, set-up-only-as-recorded}
 use Rattle.trace.proofs.ReadBack.{bad-if-nothing-recorded, set-up-read-back}
 use Rattle.engine.specs.Steps.{World}
-use Rattle.guarantees.specs.Runs.{Request}
-use Rattle.replay.specs.Decoding.{Decoded, before, decode, endingAt, noMore, onFound, requestOf}
+use Rattle.replay.specs.Decoding.{Decoded, before, decode, endingAt, lentBuffer, noMore, onFound}
 use Rattle.replay.specs.Endings.{DecodesWhatStands, EndsAfter, EndsAs, ReplayEndsAsSaid, ReplayTakesAtMost, Taken, TakesAtMost, setUpAnswer}
-use Rattle.replay.specs.Replaying.{Left, begun, hasRoom, onReady, replayOf, reported, started, told}
+use Rattle.replay.specs.Replaying.{ReplayLeaves, begun, hasRoom, onReady, replayOf, reported, started, told}
 use Rattle.replay.specs.declared.types.Ending.{Ending}
 
 -- ---- entries
 
-entry-inside : (s : List ℕ) (at : ℕ) (e : Entry) (next : ℕ) → EntryStands s at e next → next ≤ length s
-entry-inside s at (Entry.Post peer r) next h = h .5 .inside
-entry-inside s at (Entry.Packet peer place count) next h = h .3 .inside
-entry-inside s at (Entry.Cancel peer slot) next h = h .2 .inside
+entry-inside : (s : List ℕ) (at peer : ℕ) (c : Call) (next : ℕ) → CallStands s at peer c next → next ≤ length s
+entry-inside s at peer (Call.Post r) next h = h .5 .inside
+entry-inside s at peer (Call.Packet sent reply) next h = h .4 .inside
+entry-inside s at peer (Call.Cancel slot) next h = h .2 .inside
+entry-inside s at peer (Call.Report slot) next h = absurd h
 
 -- one entry more was taken, of one more
 ends-suc : (s : List ℕ) (k n place : ℕ) (e : Ending) → EndsAs s k n place e → EndsAs s (suc k) (suc n) place e
@@ -40,7 +41,7 @@ ends-suc s k n place Ending.NoRoom h = h
 
 -- of at most k entries from `at` on: the calls and the ending of those that stand there
 abbrev Decodes : List ℕ → List ℕ → ℕ → ℕ → Decoded → Type 0
-Decodes s buffer k at d = (entries : List Entry) × (d .calls ≡ map (requestOf s buffer) entries) × Taken s k at entries (d .ending)
+Decodes s buffer k at d = (entries : List Request) × (d .calls ≡ map (lentBuffer (length buffer)) entries) × Taken s k at entries (d .ending)
 
 module _ (s buffer : List ℕ) (bytes : (i : ℕ) → getD s i 0 < 256) where
   -- bytes remain, and no entry may be taken
@@ -51,13 +52,13 @@ module _ (s buffer : List ℕ) (bytes : (i : ℕ) → getD s i 0 < 256) where
   none k at e h = ([], refl, record { place = at; stand = refl; few = omega arith; ends = h })
 
   found : (k at : ℕ) → at < length s → ((next : ℕ) → next ≤ length s → Decodes s buffer k next (decode k s buffer next)) → (f : Found) → entryAt s at ≡ f
-      → Decodes s buffer (suc k) at (onFound f (noMore (Ending.Bad at)) (λ e next. before (requestOf s buffer e) (decode k s buffer next)))
+      → Decodes s buffer (suc k) at (onFound f (noMore (Ending.Bad at)) (λ q next. before (lentBuffer (length buffer) q) (decode k s buffer next)))
   found k at l ih Found.Bad p = none (suc k) at (Ending.Bad at) (refl, l, omega arith, bad-if-nothing-recorded s at p)
-  found k at l ih (Found.Entry e next) p =
-      let h = entry-only-as-recorded s at e next bytes p in
-      let (es, calls, t) = ih next (entry-inside s at e next h) in (
-        e ∷ es,
-        ap (λ (qs : List Request). requestOf s buffer e ∷ qs) calls,
+  found k at l ih (Found.Entry q next) p =
+      let h = entry-only-as-recorded s at q next bytes p in
+      let (es, calls, t) = ih next (entry-inside s at (q .peer) (q .call) next h) in (
+        q ∷ es,
+        ap (λ (qs : List Request). lentBuffer (length buffer) q ∷ qs) calls,
         record {
           place = t .place;
           stand = (next, h, t .stand);
@@ -83,14 +84,14 @@ decodes-what-stands k s buffer at bytes h = decodes s buffer bytes k at h
 -- a run, by what set-up answers
 module _ (s : List ℕ) (k next : ℕ) (reply text : List ℕ) (w : World) (a m : List ℕ) (d : Decoded) where
   number : (t : Decodes s reply k next d) → length (d .calls) ≡ length (t .0)
-  number t = ap length (t .1) ∙ length-map (t .0) (requestOf s reply)
+  number t = ap length (t .1) ∙ length-map (t .0) (lentBuffer (length reply))
 
-  answered : (r : Ready) → Decodes s reply k next d → EndsAfter s k next r (onReady r (reported w reply text d) (told a m reply text) .replayed)
+  answered : (r : Ready) → Decodes s reply k next d → EndsAfter s k next r (onReady r (reported s reply w text d) (told a m reply text) .replayed)
   unfolding reported
   answered (Ready.Refused e) t = (refl, refl)
   answered Ready.Ready t = (t .0, number t, t .2)
 
-  at-most : (r : Ready) → Decodes s reply k next d → TakesAtMost k (onReady r (reported w reply text d) (told a m reply text) .replayed)
+  at-most : (r : Ready) → Decodes s reply k next d → TakesAtMost k (onReady r (reported s reply w text d) (told a m reply text) .replayed)
   unfolding reported
   at-most (Ready.Refused e) t = (omega arith, λ p. let z : _≡_ {A = ℕ} 0 1 = cc in omega arith)
   at-most Ready.Ready t = rw (number t) (t .2 .few, λ p. rw p at (t .2 .ends) .0)
@@ -129,5 +130,5 @@ replay-ends-as-said s budget arena words reply text bytes room =
 pub replay-takes-at-most : ReplayTakesAtMost
 unfolding replayOf
 replay-takes-at-most s budget arena words reply text bytes =
-    pick-either (λ (l : Left). TakesAtMost budget (l .replayed)) (hasRoom budget (length text))
+    pick-either (λ (l : ReplayLeaves). TakesAtMost budget (l .replayed)) (hasRoom budget (length text))
     (started-at-most s budget arena words reply text bytes (setUpAt s 0) refl) (omega arith, λ p. let z : _≡_ {A = ℕ} 0 1 = cc in omega arith)

@@ -1,7 +1,6 @@
 pub mod Endings
-pub mod TurnLaws
 pub mod RoomLaws
 pub mod DecodeLaws
-pub mod RunLaws
-pub mod Going
+pub mod LineRoom
+pub mod ReplayInvariant
 pub mod WholeLaws

@@ -4,7 +4,7 @@ use Prim.Native.Nat.{ℕ, _+_, _*_, _≤_}
 use borrow.Author.Tests.{leb-true}
 use lib.Dec.{leb}
 use lib.ListN.{length, drop, length-append, replicate}
-use mathlib.Core.Bool.{_&&_}
+use mathlib.Core.Bool.{true, _&&_}
 use mathlib.Core.List.{List, [], _++_}
 use mathlib.Core.Path.{_≡_, refl, sym, subst, _∙_}
 use native.Mathlib.Omega.{arith}
@@ -14,24 +14,36 @@ use Rattle.laws.proofs.Storing.{length-store, store-next, store-start}
 use Rattle.text.specs.Lines.{bytesOf}
 use Rattle.text.proofs.LineLaws.{length-line}
 use Rattle.protocol.specs.declared.types.Refusal.{Refusal}
+use Rattle.engine.specs.InWords.{Eights}
 use Rattle.engine.specs.Left.{world}
-use Rattle.engine.specs.SetUp.{Prepared, engineOf, lentFits, notStarted, numbersFit, setUp}
+use Rattle.engine.specs.SetUp.{Prepared, engineFits, engineOf, lentFits, notStarted, numbersFit, setUp}
 use Rattle.engine.specs.Steps.{World}
 use Rattle.engine.specs.declared.types.Ready.{Ready}
+use Rattle.engine.proofs.Worlds.{good-fits}
 use Rattle.trace.specs.Entries.{setUpAt}
 use Rattle.trace.specs.declared.types.SetUp.{SetUp}
+use Rattle.guarantees.specs.Outputs.{outputOf}
 use Rattle.guarantees.specs.Runs.{freshWorld}
+use Rattle.guarantees.proofs.SetUps.{fresh-good}
 use Rattle.replay.specs.Decoding.{Decoded, decode}
-use Rattle.replay.specs.Lines.{endingLine, setUpLine}
-use Rattle.replay.specs.Replaying.{Left, begun, hasRoom, linesOf, onReady, putBack, ran, replayOf, report, reported, started, told}
+use Rattle.replay.specs.Lines.{answerLine, endingLine, setUpLine}
+use Rattle.replay.specs.Replaying.{ReplayLeaves, begun, hasRoom, onReady, putBack, ran, replayOf, report, reported, started, told}
 use Rattle.replay.specs.declared.types.Ending.{Ending}
-use Rattle.replay.proofs.RunLaws.{ending-room, lines-room, tell-room}
+use Rattle.replay.proofs.LineRoom.{ending-room, lines-room, tell-room}
 use Rattle.replay.proofs.DecodeLaws.{calls-few}
 
 -- ---- the set-up
 
 refused-or-ready : {k : Refusal} {C : Type 0} → Ready.Refused k ≡ Ready.Ready → C
 refused-or-ready e = let z : _≡_ {A = ℕ} 0 1 = cc in absurd (omega arith)
+
+-- the engine of a set-up that is ready can be
+pub ready-holds : (n area limit : ℕ) (arena map : List ℕ) (x : Prepared) → x ≡ setUp n area limit (length arena) map → x .started .answer ≡ Ready.Ready
+    → Eights (x .started .engine) × (engineFits (x .started .engine) ≡ true)
+unfolding freshWorld
+ready-holds n area limit arena map x e r =
+    let g = fresh-good n area limit arena map (rw e at r) in
+    rw e (record { peers = g .peers; slots = g .slots }, good-fits _ g)
 
 module _ (n area limit : ℕ) (s : List ℕ) (next budget : ℕ) (arena map reply text : List ℕ) (x : Prepared)
     (e : x ≡ setUp n area limit (length arena) map) where
@@ -46,7 +58,7 @@ module _ (n area limit : ℕ) (s : List ℕ) (next budget : ℕ) (arena map repl
   untouched k = either (λ (y : Prepared). y .started .answer ≡ Ready.Refused k → y .map ≡ map) (λ r. refused-or-ready (sym r)) (λ r. refl)
 
   pub begun-ready : x .started .answer ≡ Ready.Ready
-      → begun n area limit s next budget arena map reply text ≡ reported (world (x .started .engine) arena (x .map)) reply text (decode budget s reply next)
+      → begun n area limit s next budget arena map reply text ≡ reported s reply (world (x .started .engine) arena (x .map)) text (decode budget s reply next)
   unfolding begun freshWorld
   begun-ready r = rw (← e, r)
 
@@ -61,31 +73,32 @@ pub set-up-room : length setUpLine ≤ 9
 set-up-room = let n = length-line (bytesOf "setup ok") [] in omega arith
 
 -- the whole text has room
-report-room : (w : World) (d : Decoded) (budget text : ℕ) → length (d .calls) ≤ budget → 64 + 80 * budget ≤ text → length (report w d) ≤ text
-report-room w d budget text few room =
-    let l = linesOf w (d .calls) in
+report-room : (s reply : List ℕ) (w : World) (d : Decoded) (budget text : ℕ) → length (d .calls) ≤ budget → 64 + 80 * budget ≤ text
+    → length (report s reply w d) ≤ text
+report-room s reply w d budget text few room =
+    let l = outputOf s reply answerLine w (d .calls) in
     let last = endingLine (length (d .calls)) (d .ending) in
     let a = set-up-room in
-    let b = lines-room w (d .calls) in
+    let b = lines-room s reply w (d .calls) in
     let c = ending-room (length (d .calls)) (d .ending) in
     rw (length-append setUpLine (l ++ last), length-append l last) (omega arith)
 
-module _ (w : World) (reply text : List ℕ) (d : Decoded) (budget : ℕ) (few : length (d .calls) ≤ budget) (room : 64 + 80 * budget ≤ length text)
-    (first : ℕ) (x : Left) (f : first ≡ 0 + length setUpLine) (e : x ≡ ran w reply (storeAt text 0 setUpLine) first d) where
+module _ (s reply : List ℕ) (w : World) (text : List ℕ) (d : Decoded) (budget : ℕ) (few : length (d .calls) ≤ budget) (room : 64 + 80 * budget ≤ length text)
+    (first : ℕ) (x : ReplayLeaves) (f : first ≡ 0 + length setUpLine) (e : x ≡ ran s reply w (storeAt text 0 setUpLine) first d) where
   abbrev last : List ℕ
   last = endingLine (length (d .calls)) (d .ending)
 
   -- the lines behind the first have room
-  inside : first + length (linesOf w (d .calls)) + length last ≤ length text
+  inside : first + length (outputOf s reply answerLine w (d .calls)) + length last ≤ length text
   inside =
       let a = set-up-room in
-      let b = lines-room w (d .calls) in
+      let b = lines-room s reply w (d .calls) in
       let c = ending-room (length (d .calls)) (d .ending) in
       omega arith
 
   pub last-room : x .replayed .written + length (endingLine (x .replayed .taken) (x .replayed .ending)) ≤ length (x .text)
   last-room =
-      let l = linesOf w (d .calls) in
+      let l = outputOf s reply answerLine w (d .calls) in
       let i = inside in
       let a = set-up-room in
       let n : length (storeAt text 0 setUpLine) ≡ length text = length-store text 0 setUpLine (omega arith) in
@@ -103,10 +116,10 @@ module _ (w : World) (reply text : List ℕ) (d : Decoded) (budget : ℕ) (few :
         reply = x .reply;
         text = text′;
       }
-      ≡ reported w reply text d
+      ≡ reported s reply w text d
   unfolding reported
   reported-by-parts written text′ p q =
-      let l = linesOf w (d .calls) in
+      let l = outputOf s reply answerLine w (d .calls) in
       let i = inside in
       let a = set-up-room in
       let n : length (storeAt text 0 setUpLine) ≡ length text = length-store text 0 setUpLine (omega arith) in
@@ -121,7 +134,7 @@ module _ (w : World) (reply text : List ℕ) (d : Decoded) (budget : ℕ) (few :
 -- ---- what was lent on
 
 -- the elements behind those that were lent on stay
-pub put-back : (arena map : List ℕ) (x : Left) (bytes words : ℕ) → length (x .arena) ≡ bytes → length (x .map) ≡ words
+pub put-back : (arena map : List ℕ) (x : ReplayLeaves) (bytes words : ℕ) → length (x .arena) ≡ bytes → length (x .map) ≡ words
     → record {
       replayed = x .replayed;
       arena = x .arena ++ drop bytes arena;
@@ -141,8 +154,8 @@ module _ (s : List ℕ) (budget : ℕ) (arena map reply text : List ℕ) where
   begun-inside room n area limit next a m = ready (setUp n area limit (length a) m .started .answer)
     where
       ready : (r : Ready)
-          → onReady r (reported (freshWorld n area limit a m) reply text (decode budget s reply next)) (told a m reply text) .replayed .written ≤ length text
-      ready Ready.Ready = report-room (freshWorld n area limit a m) (decode budget s reply next) budget (length text) (calls-few budget s reply next) room
+          → onReady r (reported s reply (freshWorld n area limit a m) text (decode budget s reply next)) (told a m reply text) .replayed .written ≤ length text
+      ready Ready.Ready = report-room s reply (freshWorld n area limit a m) (decode budget s reply next) budget (length text) (calls-few budget s reply next) room
       ready (Ready.Refused k) = tell-room (Ending.NotSetUp k) budget (length text) room
 
   started-inside : 64 + 80 * budget ≤ length text → (u : SetUp) → started s budget arena map reply text u .replayed .written ≤ length text
@@ -153,8 +166,8 @@ module _ (s : List ℕ) (budget : ℕ) (arena map reply text : List ℕ) where
   written-inside : replayOf s budget arena map reply text .replayed .written ≤ length text
   unfolding replayOf hasRoom endingLine
   written-inside =
-      branch (λ (l : Left). l .replayed .written ≤ length text) (leb (64 + 80 * budget) (length text)) _ _
+      branch (λ (l : ReplayLeaves). l .replayed .written ≤ length text) (leb (64 + 80 * budget) (length text)) _ _
       (λ t. started-inside (leb-true _ _ t) (setUpAt s 0)) (λ t. omega arith)
 
-  pub written-kept : (x : Left) → x ≡ replayOf s budget arena map reply text → length (x .text) ≡ length text → x .replayed .written ≤ length (x .text)
-  written-kept x e n = rw n (subst (λ (y : Left). y .replayed .written ≤ length text) (sym e) written-inside)
+  pub written-kept : (x : ReplayLeaves) → x ≡ replayOf s budget arena map reply text → length (x .text) ≡ length text → x .replayed .written ≤ length (x .text)
+  written-kept x e n = rw n (subst (λ (y : ReplayLeaves). y .replayed .written ≤ length text) (sym e) written-inside)

@@ -4,18 +4,22 @@ use mathlib.Core.List.{List, [], _∷_}
 use lib.ListN.{length}
 use lib.Dec.{leb}
 use Rattle.laws.specs.Choose.{pick}
-use Rattle.laws.specs.Parts.{part}
-use Rattle.trace.specs.declared.types.Entry.{Entry}
+use Rattle.peer.specs.declared.types.Call.{Call}
+use Rattle.peer.specs.declared.types.Request.{Request}
 use Rattle.trace.specs.declared.types.Found.{Found}
 use Rattle.trace.specs.Entries.{entryAt}
-use Rattle.guarantees.specs.Runs.{Act, Request}
 use Rattle.replay.specs.declared.types.Ending.{Ending}
 
--- the call of an entry of the trace s; a packet's reply buffer is lent with it
-abbrev pub requestOf : List ℕ → List ℕ → Entry → Request
-requestOf s buffer (Entry.Post peer receive) = record { peer = peer; act = Act.post receive }
-requestOf s buffer (Entry.Packet peer at count) = record { peer = peer; act = Act.packet (part s at count) buffer }
-requestOf s buffer (Entry.Cancel peer slot) = record { peer = peer; act = Act.cancel slot }
+-- the whole reply buffer, of so many bytes, is lent to each packet
+abbrev pub withBuffer : ℕ → Call → Call
+withBuffer room (Call.Post receive) = Call.Post receive
+withBuffer room (Call.Packet sent reply) = Call.Packet sent (record { at = 0; size = room })
+withBuffer room (Call.Cancel slot) = Call.Cancel slot
+withBuffer room (Call.Report slot) = Call.Report slot
+
+-- an entry as a request
+abbrev pub lentBuffer : ℕ → Request → Request
+lentBuffer room q = record { peer = q .peer; call = withBuffer room (q .call) }
 
 -- calls, and why no more follow
 pub record Decoded : Type 0 where
@@ -28,9 +32,9 @@ noMore e = record { calls = []; ending = e }
 abbrev pub before : Request → Decoded → Decoded
 before q d = record { calls = q ∷ d .calls; ending = d .ending }
 
-abbrev pub onFound : {A : Type 0} → Found → A → (Entry → ℕ → A) → A
+abbrev pub onFound : {A : Type 0} → Found → A → (Request → ℕ → A) → A
 onFound Found.Bad bad f = bad
-onFound (Found.Entry e next) bad f = f e next
+onFound (Found.Entry q next) bad f = f q next
 
 -- whether the trace of n bytes is at its end, or bytes remain
 abbrev pub endingAt : ℕ → ℕ → Ending
@@ -41,4 +45,4 @@ unfoldable pub decode : ℕ → List ℕ → List ℕ → ℕ → Decoded
 decode zero s buffer at = noMore (endingAt at (length s))
 decode (suc k) s buffer at =
     pick (leb (length s) at) (noMore Ending.End)
-    (onFound (entryAt s at) (noMore (Ending.Bad at)) (λ e next. before (requestOf s buffer e) (decode k s buffer next)))
+    (onFound (entryAt s at) (noMore (Ending.Bad at)) (λ q next. before (lentBuffer (length buffer) q) (decode k s buffer next)))

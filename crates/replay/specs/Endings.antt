@@ -5,19 +5,19 @@ use mathlib.Core.List.{List, [], _∷_, map}
 use mathlib.Core.Path.{_≡_}
 use lib.ListN.{length, getD}
 use Rattle.laws.specs.Parts.{part}
+use Rattle.peer.specs.declared.types.Request.{Request}
 use Rattle.engine.specs.declared.types.Ready.{Ready}
 use Rattle.engine.specs.SetUp.{setUp}
-use Rattle.trace.specs.declared.types.Entry.{Entry}
 use Rattle.trace.specs.ExactlyRecorded.{SetUpStands, EntryStands}
 use Rattle.replay.specs.declared.types.Ending.{Ending}
 use Rattle.replay.specs.declared.types.Replayed.{Replayed}
-use Rattle.replay.specs.Decoding.{decode, requestOf}
+use Rattle.replay.specs.Decoding.{decode, lentBuffer}
 use Rattle.replay.specs.Replaying.{lentOf, replayOf}
 
 -- ---- entries
 
 -- they stand in s one behind the other, from `at` up to `place`
-abbrev pub EntriesStand : List ℕ → ℕ → List Entry → ℕ → Type 0
+abbrev pub EntriesStand : List ℕ → ℕ → List Request → ℕ → Type 0
 EntriesStand s at [] place = at ≡ place
 EntriesStand s at (e ∷ es) place = (next : ℕ) × EntryStands s at e next × EntriesStand s next es place
 
@@ -26,22 +26,22 @@ abbrev pub EndsAs : List ℕ → ℕ → ℕ → ℕ → Ending → Type 0
 EndsAs s k n place Ending.End = place ≡ length s
 EndsAs s k n place Ending.Stopped = (n ≡ k) × (place < length s)
 EndsAs s k n place (Ending.Bad b) =
-    (b ≡ place) × (place < length s) × (n < k) × ((e : Entry) (next : ℕ) → EntryStands s place e next → ⊥)
+    (b ≡ place) × (place < length s) × (n < k) × ((e : Request) (next : ℕ) → EntryStands s place e next → ⊥)
 EndsAs s k n place (Ending.NotSetUp r) = ⊥
 EndsAs s k n place Ending.NoRoom = ⊥
 
 -- these entries are taken of s from `at` on, "at most a given number"
-pub record Taken (s : List ℕ) (k at : ℕ) (entries : List Entry) (ending : Ending) : Type 0 where
+pub record Taken (s : List ℕ) (k at : ℕ) (entries : List Request) (ending : Ending) : Type 0 where
   pub place : ℕ
   pub stand : EntriesStand s at entries place
   pub few : length entries ≤ k
   pub ends : EndsAs s k (length entries) place ending
 
--- the calls are those of the entries, in order
+-- the calls are those of the entries, in order, each packet with the whole reply buffer
 abbrev pub DecodesWhatStands : Type 0
 DecodesWhatStands =
     (k : ℕ) (s buffer : List ℕ) (at : ℕ) → ((i : ℕ) → getD s i 0 < 256) → at ≤ length s
-    → (entries : List Entry) × (decode k s buffer at .calls ≡ map (requestOf s buffer) entries)
+    → (entries : List Request) × (decode k s buffer at .calls ≡ map (lentBuffer (length buffer)) entries)
     × Taken s k at entries (decode k s buffer at .ending)
 
 -- ---- the whole
@@ -55,7 +55,7 @@ setUpAnswer n area limit arena words =
 -- "`setup ok` or `setup 1` (then stops)"
 abbrev pub EndsAfter : List ℕ → ℕ → ℕ → Ready → Replayed → Type 0
 EndsAfter s budget next (Ready.Refused k) r = (r .taken ≡ 0) × (r .ending ≡ Ending.NotSetUp k)
-EndsAfter s budget next Ready.Ready r = (entries : List Entry) × (r .taken ≡ length entries) × Taken s budget next entries (r .ending)
+EndsAfter s budget next Ready.Ready r = (entries : List Request) × (r .taken ≡ length entries) × Taken s budget next entries (r .ending)
 
 abbrev pub ReplayEndsAsSaid : Type 0
 ReplayEndsAsSaid =

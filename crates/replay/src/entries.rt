@@ -1,18 +1,25 @@
 // The entries of a trace, one after the other.
 use crate::lines;
-use crate::turns;
 use crate::types::Ending;
 use crate::types::Replayed;
 use engine::Engine;
+use engine::Gate;
+use peer::Answer;
+use peer::Call;
+use protocol::Span;
 use trace::Found;
 ghost use mathlib.Core.Path.{_≡_};
 ghost use Prim.Native.Nat.{_+_, _*_, _≤_};
 ghost use lib.ListN.{length};
+ghost use mathlib.Core.Bool.{true};
+ghost use Rattle.engine.specs.InWords.{Eights};
 ghost use Rattle.engine.specs.Left.{world};
-ghost use Rattle.replay.specs.Decoding.{decode, endingAt};
+ghost use Rattle.engine.specs.SetUp.{engineFits};
+ghost use Rattle.replay.specs.Decoding.{decode, endingAt, withBuffer};
 ghost use Rattle.replay.specs.Replaying.{ran};
 
 // Runs at most `budget` entries from a place of the trace on, and puts a line for each into the text.
+// The state is one that can be: each call leaves one that can be, so that none is checked again.
 pub(crate) fn run(
     start: Engine,
     trace: &[u8],
@@ -24,38 +31,64 @@ pub(crate) fn run(
     text: &mut [u8],
     at: usize,
 ) -> Replayed
+    requires { ⌜ Eights start ⌝ }
+    requires { ⌜ engineFits start ≡ true ⌝ }
     requires { ⌜ at + 80 * budget ≤ length (now text) ⌝ }
-    ensures { λ r. ⌜ record { replayed = r; arena = now (arena .exit); map = now (map .exit); reply = now (reply .exit); text = now (text .exit) } ≡ ran (world start (now (arena .entry)) (now (map .entry))) (now (reply .entry)) (now (text .entry)) at (decode budget (now (trace .entry)) (now (reply .entry)) from) ⌝ }
+    ensures { λ r. ⌜ record { replayed = r; arena = now (arena .exit); map = now (map .exit); reply = now (reply .exit); text = now (text .exit) } ≡ ran (now (trace .entry)) (now (reply .entry)) (world start (now (arena .entry)) (now (map .entry))) (now (text .entry)) at (decode budget (now (trace .entry)) (now (reply .entry)) from) ⌝ }
 {
     let mut engine = start;
     let mut place = from;
     let mut written = at;
     let mut taken: usize = 0;
     while taken < budget && place < trace.len() {
-        match trace_reader::read_entry(trace, place) {
-            Found::Bad => {
-                let ending = Ending::Bad(place);
-                return Replayed {
-                    taken,
-                    written,
-                    ending,
-                };
+        let found = trace_reader::read_entry(trace, place);
+        let Found::Entry(request, next) = found else {
+            let ending = Ending::Bad(place);
+            return Replayed {
+                taken,
+                written,
+                ending,
+            };
+        };
+        let p = request.peer;
+        let recorded = request.call;
+        let call = with_buffer(recorded, reply.len());
+        let area = engine.area;
+        let limit = engine.limit;
+        let answer = match engine::admit(engine.n, area, limit, arena.len(), map.len(), p) {
+            Gate::Shut(refusal) => Answer::Refused(refusal),
+            Gate::Open => {
+                let there = engine.peers[p];
+                let step = lending::step(there, p, area, limit, call, trace, arena, map, reply);
+                let after = step.peer;
+                engine.peers[p] = after;
+                step.answer
             }
-            Found::Entry(entry, next) => {
-                let outcome = turns::turn(engine, entry, trace, arena, map, reply);
-                let after = outcome.engine;
-                let answer = outcome.answer;
-                written = lines::put_answer(text, written, answer);
-                engine = after;
-                place = next;
-                taken += 1;
-            }
-        }
+        };
+        written = lines::put_answer(text, written, answer);
+        place = next;
+        taken += 1;
     }
+    let ending = ending(place, trace.len());
     Replayed {
         taken,
         written,
-        ending: ending(place, trace.len()),
+        ending,
+    }
+}
+
+// A recorded call, with the whole reply buffer, of so many bytes, lent to its packet.
+fn with_buffer(recorded: Call, room: usize) -> Call
+    ensures { λ r. ⌜ r ≡ withBuffer room recorded ⌝ }
+{
+    match recorded {
+        Call::Post(receive) => Call::Post(receive),
+        Call::Packet(sent, _) => {
+            let whole = Span { at: 0, size: room };
+            Call::Packet(sent, whole)
+        }
+        Call::Cancel(slot) => Call::Cancel(slot),
+        Call::Report(slot) => Call::Report(slot),
     }
 }
 

@@ -2,7 +2,6 @@
 mod entries;
 mod lines;
 mod replaying;
-mod turns;
 mod types;
 
 pub use replaying::replay;

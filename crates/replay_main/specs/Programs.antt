@@ -4,7 +4,7 @@ use Prim.Native.Nat.{ℕ}
 use mathlib.Core.List.{List}
 use lib.ListN.{replicate}
 use Rattle.trace.specs.Entries.{setUpAt}
-use Rattle.replay.specs.Replaying.{Left, started}
+use Rattle.replay.specs.Replaying.{ReplayLeaves, started}
 
 -- the most entries that are taken
 abbrev pub mostEntries : ℕ
@@ -14,5 +14,5 @@ mostEntries = 4096
 abbrev pub textLength : ℕ
 textLength = 327744
 
-unfoldable pub programOf : List ℕ → List ℕ → Left
+unfoldable pub programOf : List ℕ → List ℕ → ReplayLeaves
 programOf trace text = started trace mostEntries (replicate 65536 0) (replicate 1024 0) (replicate 24 0) text (setUpAt trace 0)

@@ -1,23 +1,31 @@
 -- The bytes of a packet that is read from a trace stand within the trace.
-use Prim.Native.Nat.{ℕ, _+_}
+use Prim.Native.Nat.{ℕ, _+_, _≤_}
 use borrow.Author.Tests.{leb-true}
 use lib.Dec.{leb}
 use lib.ListN.{length}
 use mathlib.Core.List.{List}
 use mathlib.Core.Path.{_≡_}
 use Rattle.laws.proofs.Choosing.{branch, pick-either}
-use Rattle.trace.specs.Entries.{Inside, cancelAt, entryAt, onNumber, onPair, packetAt, pairAt, postAt, postOf, receiveAt}
+use Rattle.peer.specs.declared.types.Call.{Call}
+use Rattle.peer.specs.declared.types.Request.{Request}
+use Rattle.trace.specs.Entries.{cancelAt, entryAt, onNumber, onPair, packetAt, pairAt, postAt, postOf, receiveAt}
 use Rattle.trace.specs.Numbers.{numberAt}
 use Rattle.trace.specs.declared.types.Asked.{Asked}
-use Rattle.trace.specs.declared.types.Entry.{Entry}
 use Rattle.trace.specs.declared.types.Found.{Found}
 use Rattle.trace.specs.declared.types.Number.{Number}
 use Rattle.trace.specs.declared.types.Number.the-variants.{Is, Bad}
 use Rattle.trace.specs.declared.types.Pair.{Pair}
 
+-- a packet's bytes stand within a trace of n
+abbrev pub PacketInside : ℕ → Call → Type 0
+PacketInside n (Call.Post receive) = Unit {0}
+PacketInside n (Call.Packet sent reply) = sent .at + sent .size ≤ n
+PacketInside n (Call.Cancel slot) = Unit {0}
+PacketInside n (Call.Report slot) = Unit {0}
+
 abbrev Holds : ℕ → Found → Type 0
 Holds n Found.Bad = Unit {0}
-Holds n (Found.Entry e next) = Inside n e
+Holds n (Found.Entry q next) = PacketInside n (q .call)
 
 module _ (n : ℕ) where
   on-number : (m : Number) (f : ℕ → ℕ → Found) → ((v next : ℕ) → Holds n (f v next)) → Holds n (onNumber m Found.Bad f)
@@ -44,5 +52,5 @@ module _ (s : List ℕ) where
       (on-pair (length s) (pairAt s next) _ (λ peer count m. branch P (leb (m + count) (length s)) _ _ (λ t. leb-true _ _ t) (λ t. tt)))
       (pick-either P _ (on-pair (length s) (pairAt s next) _ (λ peer slot m. tt)) tt)))
 
-  pub entry-inside : (at : ℕ) (e : Entry) (next : ℕ) → entryAt s at ≡ Found.Entry e next → Inside (length s) e
-  entry-inside at e next h = rw h at (holds at)
+  pub entry-inside : (at : ℕ) (q : Request) (next : ℕ) → entryAt s at ≡ Found.Entry q next → PacketInside (length s) (q .call)
+  entry-inside at q next h = rw h at (holds at)

@@ -17,7 +17,6 @@ use Rattle.trace.specs.Numbers.{numberAt, numberBytes}
 use Rattle.trace.specs.Recorded.{numbersBytes}
 use Rattle.trace.specs.ShortestForm.{Small}
 use Rattle.trace.specs.declared.types.Asked.{Asked}
-use Rattle.trace.specs.declared.types.Entry.{Entry}
 use Rattle.trace.specs.declared.types.Found.{Found}
 use Rattle.trace.specs.declared.types.Number.the-variants.{Is}
 use Rattle.trace.specs.declared.types.Pair.{Pair}
@@ -81,7 +80,7 @@ module _ (s : List ℕ) (bytes : (i : ℕ) → getD s i 0 < 256) where
 
   abbrev Holds : ℕ → Found → Type 0
   Holds at Found.Bad = Unit {0}
-  Holds at (Found.Entry e next) = EntryStands s at e next
+  Holds at (Found.Entry q next) = EntryStands s at q next
 
   -- its first number stands before the rest
   module _ (at m : ℕ) where
@@ -109,7 +108,7 @@ module _ (s : List ℕ) (bytes : (i : ℕ) → getD s i 0 < 256) where
         let (hp, hc, x) = pair-stands m peer count k p in
         let room : k + count ≤ length s = leb-true _ _ t in
         let n = length-part s k count room in
-        (hp, hc, refl, rw n (stands-then (numbers-then (2 ∷ []) (peer ∷ count ∷ []) w x) (part-stands s k count room))))
+        (hp, hc, refl, refl, rw n (stands-then (numbers-then (2 ∷ []) (peer ∷ count ∷ []) w x) (part-stands s k count room))))
         (λ t. tt))
 
     cancel-holds : Stands s at (numbersBytes (3 ∷ [])) m → Holds at (cancelAt s m)
@@ -138,4 +137,4 @@ pub set-up-only-as-recorded : SetUpOnlyAsRecorded
 set-up-only-as-recorded s at n area limit next bytes e = rw e at (set-up-holds s bytes at)
 
 pub entry-only-as-recorded : EntryOnlyAsRecorded
-entry-only-as-recorded s at e next bytes p = rw p at (holds s bytes at)
+entry-only-as-recorded s at q next bytes p = rw p at (holds s bytes at)

@@ -13,16 +13,15 @@ use native.Mathlib.Omega.{arith}
 use Rattle.laws.specs.Choose.{pick}
 use Rattle.laws.specs.Parts.{part}
 use Rattle.laws.proofs.Storing.{length-part}
-use Rattle.trace.specs.Entries.{pairAt, setUpAt, receiveAt, postAt, packetAt, cancelAt, entryAt}
+use Rattle.trace.specs.Entries.{pairAt, setUpAt, receiveAt, postAt, packetAt, cancelAt, entryAt, entryOf}
 use Rattle.trace.specs.Numbers.{numberAt, numberBytes}
 use Rattle.trace.specs.ShortestForm.{Small}
-use Rattle.trace.specs.ExactlyRecorded.{BadIfNothingRecorded, EntryReadBack, SetUpReadBack, Stands}
+use Rattle.trace.specs.ExactlyRecorded.{BadIfNothingRecorded, CallStands, EntryReadBack, SetUpReadBack, Stands}
 use Rattle.trace.specs.Recorded.{kindOf, numbersBytes}
 use Rattle.trace.specs.declared.types.Number.the-variants.{Is}
 use Rattle.trace.specs.declared.types.Pair.{Pair}
 use Rattle.trace.specs.declared.types.SetUp.{SetUp}
-use Rattle.trace.specs.declared.types.Entry.{Entry}
-use Rattle.trace.specs.declared.types.Found.{Found}
+use Rattle.peer.specs.declared.types.Call.{Call}
 use Rattle.trace.proofs.GroupsRead.{number-read}
 use Rattle.trace.proofs.Standing.{stands-drop}
 
@@ -70,17 +69,19 @@ set-up-read-back s at n area limit next (hn, ha, hl, h) =
     let (y, w) = number hl w in
     rw (x, y) (ap (SetUp.Are n area limit) b)
 
-pub entry-read-back : EntryReadBack
+call-read-back : (s : List ℕ) (at peer : ℕ) (c : Call) (next : ℕ) → CallStands s at peer c next → entryAt s at ≡ entryOf peer c next
 unfolding entryAt postAt receiveAt packetAt cancelAt pick
-entry-read-back s at (Entry.Post peer r) next (hp, ht, hi, hs, hc, h) =
+call-read-back s at peer (Call.Post r) next (hp, ht, hi, hs, hc, h) =
     let k = kind (r .tagged) in
     let (w, b) = start s at next (1 ∷ peer ∷ kindOf r ∷ r .tag ∷ r .ignore ∷ r .start ∷ r .capacity ∷ []) h in
     let (x, w) = number (omega arith) w in
     let (y, w) = pair hp (omega arith) w in
     let (z, w) = pair ht hi w in
     let (v, w) = pair hs hc w in
-    rw (x, y, le-leb (kindOf r) 1 (k .0), z, v, k .1) (ap (Found.Entry (Entry.Post peer r)) b)
-entry-read-back s at (Entry.Packet peer place count) next (hp, hc, e, h) =
+    rw (x, y, le-leb (kindOf r) 1 (k .0), z, v, k .1) (ap (entryOf peer (Call.Post r)) b)
+call-read-back s at peer (Call.Packet sent reply) next (hp, hc, e, none, h) =
+    let place = sent .at in
+    let count = sent .size in
     let ns : List ℕ = 2 ∷ peer ∷ count ∷ [] in
     let bytes = part s place count in
     let n : length bytes ≡ count = length-part s place count (omega (arith, h .inside)) in
@@ -89,15 +90,18 @@ entry-read-back s at (Entry.Packet peer place count) next (hp, hc, e, h) =
     let (x, w) = number (omega arith) w in
     let (y, w) = pair hp hc w in
     let b : behind at ns ≡ place = omega (arith, behind-is ns at, length-append (numbersBytes ns) bytes, h .place) in
-    rw (x, y, b, le-leb (place + count) (length s) (omega (arith, h .inside)), e)
-entry-read-back s at (Entry.Cancel peer slot) next (hp, hs, h) =
+    rw (x, y, b, le-leb (place + count) (length s) (omega (arith, h .inside)), e, none)
+call-read-back s at peer (Call.Cancel slot) next (hp, hs, h) =
     let (w, b) = start s at next (3 ∷ peer ∷ slot ∷ []) h in
     let (x, w) = number (omega arith) w in
     let (y, w) = pair hp hs w in
-    rw (x, y) (ap (Found.Entry (Entry.Cancel peer slot)) b)
+    rw (x, y) (ap (entryOf peer (Call.Cancel slot)) b)
+
+pub entry-read-back : EntryReadBack
+entry-read-back s at q next h = call-read-back s at (q .peer) (q .call) next h
 
 pub bad-if-nothing-recorded : BadIfNothingRecorded
-bad-if-nothing-recorded s at b e next h =
-    let r = entry-read-back s at e next h in
+bad-if-nothing-recorded s at b q next h =
+    let r = entry-read-back s at q next h in
     let z : _≡_ {A = ℕ} 0 1 = cc in
     omega arith

@@ -1,16 +1,17 @@
 -- The entries of a trace (01, "Replay": "The trace is n, A, L, then entries: 1 post (peer, kind 0 plain or 1 tagged, tag, ignore, start,
 -- capacity); 2 packet (peer, byte count, bytes); 3 cancel (peer, slot)").
-use Prim.Native.Nat.{ℕ, _+_, _≤_}
+use Prim.Native.Nat.{ℕ, _+_}
 use mathlib.Core.List.{List}
 use lib.ListN.{length}
 use lib.Dec.{leb, eqb}
 use Rattle.laws.specs.Choose.{pick}
+use Rattle.protocol.specs.declared.types.Span.{Span}
+use Rattle.peer.specs.declared.types.Call.{Call}
 use Rattle.trace.specs.declared.types.Number.{Number}
 use Rattle.trace.specs.declared.types.Number.the-variants.{Is, Bad}
 use Rattle.trace.specs.declared.types.Pair.{Pair}
 use Rattle.trace.specs.declared.types.SetUp.{SetUp}
 use Rattle.trace.specs.declared.types.Asked.{Asked}
-use Rattle.trace.specs.declared.types.Entry.{Entry}
 use Rattle.trace.specs.declared.types.Found.{Found}
 use Rattle.trace.specs.Numbers.{numberAt}
 
@@ -38,23 +39,31 @@ receiveAt s at kind =
     onPair (pairAt s next) Asked.Bad (λ start capacity end.
     Asked.For (record { tagged = eqb kind 1; tag = tag; ignore = ignore; start = start; capacity = capacity }) end))
 
+-- an entry is a call of a peer, with the place behind it
+abbrev pub entryOf : ℕ → Call → ℕ → Found
+entryOf peer call next = Found.Entry (record { peer = peer; call = call }) next
+
 abbrev pub postOf : ℕ → Asked → Found
 postOf peer Asked.Bad = Found.Bad
-postOf peer (Asked.For receive next) = Found.Entry (Entry.Post peer receive) next
+postOf peer (Asked.For receive next) = entryOf peer (Call.Post receive) next
 
 -- "1 post (peer, kind 0 plain or 1 tagged, ..)"
 unfoldable pub postAt : List ℕ → ℕ → Found
 postAt s at = onPair (pairAt s at) Found.Bad (λ peer kind next. pick (leb kind 1) (postOf peer (receiveAt s next kind)) Found.Bad)
 
+-- a trace has no reply buffer: whoever makes the call lends one
+abbrev pub noBuffer : Span
+noBuffer = record { at = 0; size = 0 }
+
 -- "2 packet (peer, byte count, bytes)": where its bytes stand, and how many
 unfoldable pub packetAt : List ℕ → ℕ → Found
 packetAt s at =
     onPair (pairAt s at) Found.Bad (λ peer count next.
-    pick (leb (next + count) (length s)) (Found.Entry (Entry.Packet peer next count) (next + count)) Found.Bad)
+    pick (leb (next + count) (length s)) (entryOf peer (Call.Packet (record { at = next; size = count }) noBuffer) (next + count)) Found.Bad)
 
 -- "3 cancel (peer, slot)"
 unfoldable pub cancelAt : List ℕ → ℕ → Found
-cancelAt s at = onPair (pairAt s at) Found.Bad (λ peer slot next. Found.Entry (Entry.Cancel peer slot) next)
+cancelAt s at = onPair (pairAt s at) Found.Bad (λ peer slot next. entryOf peer (Call.Cancel slot) next)
 
 -- the entry at a place and the place behind it, or bad: "a first number not 1 to 3, a kind not 0 or 1, a malformed number, bytes that
 -- end early"
@@ -62,9 +71,3 @@ unfoldable pub entryAt : List ℕ → ℕ → Found
 entryAt s at =
     onNumber (numberAt s at) Found.Bad (λ first next.
     pick (eqb first 1) (postAt s next) (pick (eqb first 2) (packetAt s next) (pick (eqb first 3) (cancelAt s next) Found.Bad)))
-
--- an entry whose bytes stand within a trace of n
-abbrev pub Inside : ℕ → Entry → Type 0
-Inside n (Entry.Post peer receive) = Unit {0}
-Inside n (Entry.Packet peer at count) = at + count ≤ n
-Inside n (Entry.Cancel peer slot) = Unit {0}

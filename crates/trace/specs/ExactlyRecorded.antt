@@ -5,10 +5,11 @@ use mathlib.Core.List.{List}
 use mathlib.Core.Path.{_≡_}
 use lib.ListN.{length, getD}
 use Rattle.laws.specs.Parts.{part}
+use Rattle.peer.specs.declared.types.Call.{Call}
+use Rattle.peer.specs.declared.types.Request.{Request}
 use Rattle.trace.specs.declared.types.SetUp.{SetUp}
-use Rattle.trace.specs.declared.types.Entry.{Entry}
 use Rattle.trace.specs.declared.types.Found.{Found}
-use Rattle.trace.specs.Entries.{setUpAt, entryAt}
+use Rattle.trace.specs.Entries.{setUpAt, entryAt, noBuffer}
 use Rattle.trace.specs.Recorded.{setUpBytes, postBytes, packetBytes, cancelBytes}
 use Rattle.trace.specs.ShortestForm.{Small}
 
@@ -23,13 +24,18 @@ pub record Stands (s : List ℕ) (at : ℕ) (bytes : List ℕ) (next : ℕ) : Ty
 abbrev pub SetUpStands : List ℕ → ℕ → ℕ → ℕ → ℕ → ℕ → Type 0
 SetUpStands s at n area limit next = Small n × Small area × Small limit × Stands s at (setUpBytes n area limit) next
 
--- a packet's bytes end where it does
-abbrev pub EntryStands : List ℕ → ℕ → Entry → ℕ → Type 0
-EntryStands s at (Entry.Post peer r) next =
+-- a packet's bytes end where it does, and no reply buffer is recorded with it; a report is not recorded
+abbrev pub CallStands : List ℕ → ℕ → ℕ → Call → ℕ → Type 0
+CallStands s at peer (Call.Post r) next =
     Small peer × Small (r .tag) × Small (r .ignore) × Small (r .start) × Small (r .capacity) × Stands s at (postBytes peer r) next
-EntryStands s at (Entry.Packet peer place count) next =
-    Small peer × Small count × (place + count ≡ next) × Stands s at (packetBytes peer (part s place count)) next
-EntryStands s at (Entry.Cancel peer slot) next = Small peer × Small slot × Stands s at (cancelBytes peer slot) next
+CallStands s at peer (Call.Packet sent reply) next =
+    Small peer × Small (sent .size) × (sent .at + sent .size ≡ next) × (reply ≡ noBuffer)
+    × Stands s at (packetBytes peer (part s (sent .at) (sent .size))) next
+CallStands s at peer (Call.Cancel slot) next = Small peer × Small slot × Stands s at (cancelBytes peer slot) next
+CallStands s at peer (Call.Report slot) next = ⊥
+
+abbrev pub EntryStands : List ℕ → ℕ → Request → ℕ → Type 0
+EntryStands s at q next = CallStands s at (q .peer) (q .call) next
 
 -- ---- what is read was recorded
 
@@ -40,8 +46,8 @@ SetUpOnlyAsRecorded =
 
 abbrev pub EntryOnlyAsRecorded : Type 0
 EntryOnlyAsRecorded =
-    (s : List ℕ) (at : ℕ) (e : Entry) (next : ℕ) → ((i : ℕ) → getD s i 0 < 256)
-    → entryAt s at ≡ Found.Entry e next → EntryStands s at e next
+    (s : List ℕ) (at : ℕ) (q : Request) (next : ℕ) → ((i : ℕ) → getD s i 0 < 256)
+    → entryAt s at ≡ Found.Entry q next → EntryStands s at q next
 
 -- ---- what was recorded is read
 
@@ -49,8 +55,8 @@ abbrev pub SetUpReadBack : Type 0
 SetUpReadBack = (s : List ℕ) (at n area limit next : ℕ) → SetUpStands s at n area limit next → setUpAt s at ≡ SetUp.Are n area limit next
 
 abbrev pub EntryReadBack : Type 0
-EntryReadBack = (s : List ℕ) (at : ℕ) (e : Entry) (next : ℕ) → EntryStands s at e next → entryAt s at ≡ Found.Entry e next
+EntryReadBack = (s : List ℕ) (at : ℕ) (q : Request) (next : ℕ) → EntryStands s at q next → entryAt s at ≡ Found.Entry q next
 
 -- so no entry stands where one is bad
 abbrev pub BadIfNothingRecorded : Type 0
-BadIfNothingRecorded = (s : List ℕ) (at : ℕ) → entryAt s at ≡ Found.Bad → (e : Entry) (next : ℕ) → EntryStands s at e next → ⊥
+BadIfNothingRecorded = (s : List ℕ) (at : ℕ) → entryAt s at ≡ Found.Bad → (q : Request) (next : ℕ) → EntryStands s at q next → ⊥

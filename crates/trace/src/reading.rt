@@ -1,12 +1,14 @@
 // The set-up numbers and the entries, at a place of a slice.
 use crate::number::number_at;
 use crate::types::Asked;
-use crate::types::Entry;
 use crate::types::Found;
 use crate::types::Number;
 use crate::types::Pair;
 use crate::types::SetUp;
+use peer::Call;
 use peer::Receive;
+use peer::Request;
+use protocol::Span;
 ghost use mathlib.Core.Path.{_≡_};
 ghost use Rattle.trace.specs.Entries.{pairAt, setUpAt, receiveAt, postAt, packetAt, cancelAt, entryAt};
 
@@ -68,7 +70,14 @@ fn post_at(s: &[u8], at: usize) -> Found
             }
             match receive_at(s, next, kind) {
                 Asked::Bad => Found::Bad,
-                Asked::For(receive, end) => Found::Entry(Entry::Post(peer as usize, receive), end),
+                Asked::For(receive, end) => {
+                    let call = Call::Post(receive);
+                    let request = Request {
+                        peer: peer as usize,
+                        call,
+                    };
+                    Found::Entry(request, end)
+                }
             }
         }
     }
@@ -84,7 +93,18 @@ fn packet_at(s: &[u8], at: usize) -> Found
             if s.len() - next < count {
                 return Found::Bad;
             }
-            Found::Entry(Entry::Packet(peer as usize, next, count), next + count)
+            let end = next + count;
+            let sent = Span {
+                at: next,
+                size: count,
+            };
+            let reply = Span { at: 0, size: 0 };
+            let call = Call::Packet(sent, reply);
+            let request = Request {
+                peer: peer as usize,
+                call,
+            };
+            Found::Entry(request, end)
         }
     }
 }
@@ -94,10 +114,14 @@ fn cancel_at(s: &[u8], at: usize) -> Found
 {
     match pair_at(s, at) {
         Pair::Bad => Found::Bad,
-        Pair::Are(peer, slot, next) => Found::Entry(
-            Entry::Cancel(peer as usize, slot as usize),
-            next,
-        ),
+        Pair::Are(peer, slot, next) => {
+            let call = Call::Cancel(slot as usize);
+            let request = Request {
+                peer: peer as usize,
+                call,
+            };
+            Found::Entry(request, next)
+        }
     }
 }
 

@@ -1,5 +1,6 @@
 // What is read from a trace, each with the place behind it.
 use peer::Receive;
+use peer::Request;
 
 pub enum Number {
     Is(u64, usize),
@@ -23,14 +24,9 @@ pub enum Asked {
     Bad,
 }
 
-// One entry. Of a packet it has the place of its bytes in the trace, and how many there are.
-pub enum Entry {
-    Post(usize, Receive),
-    Packet(usize, usize, usize),
-    Cancel(usize, usize),
-}
-
+// One entry. A packet's bytes lie in the trace, and its reply buffer is left empty: whoever makes the
+// call lends one.
 pub enum Found {
-    Entry(Entry, usize),
+    Entry(Request, usize),
     Bad,
 }

@@ -8,7 +8,8 @@ use lib.ListN.{length, replicate}
 use Rattle.wire.specs.LittleEndian.{leBytes}
 use Rattle.peer.specs.Says.{Saying, say, refused, posted, stored, granted, done, truncated}
 use Rattle.engine.specs.SetUp.{peerAt}
-use Rattle.guarantees.specs.Runs.{Act, post, packet, Request, Seen, freshWorld, worldAfter, observe, noStarts}
+use Rattle.lending.specs.Acts.{Act, post, packet}
+use Rattle.guarantees.specs.Runs.{Request, Seen, freshWorld, worldAfter, observe, noStarts}
 use Rattle.laws.specs.Choose.{pick}
 use Rattle.laws.specs.Parts.{part, storeAt}
 use Rattle.wire.specs.LittleEndian.{leOf, leAt}

@@ -3,7 +3,7 @@ use borrow.Author.Needs.{needs}
 use Rattle.replay_main.proofs.replayed.Statement.{statement}
 use Rattle.replay_main.proofs.replayed.Tie as tie
 use mathlib.Core.Path.{ap, _∙_}
-use Rattle.replay.specs.Replaying.{Left}
+use Rattle.replay.specs.Replaying.{ReplayLeaves}
 use Rattle.replay.proofs.WholeLaws.{written-kept}
 use Rattle.replay_main.proofs.ProgramLaws.{not-refused}
 
@@ -27,7 +27,7 @@ returns c =
     let s = c .before .before .before .before .before .before .before .before .before .before .before .before in
     let r = c .before .before .before .before .before .replay in
     let e = r .ensures ∙ not-refused (s .args .trace .now) (s .args .text .now) (s .pre) in
-    (ap (λ (l : Left). l .replayed .written) e, (ap (λ (l : Left). l .text) e, written-kept _ _ _ _ _ _ _ (r .ensures) (r .kept .1 .1 .1 .1 .1 .0)))
+    (ap (λ (l : ReplayLeaves). l .replayed .written) e, (ap (λ (l : ReplayLeaves). l .text) e, written-kept _ _ _ _ _ _ _ (r .ensures) (r .kept .1 .1 .1 .1 .1 .0)))
 
 pub replayed-spec : {M : Type 1} → statement M
 replayed-spec =

@@ -6,6 +6,15 @@ use borrow.Author.Tests.{not-true, not-false}
 use Rattle.laws.specs.Choose.{pick}
 use Rattle.packed.specs.Calls.{packetAt}
 
+add-peer : tie.Need-add-peer
+add-peer c = search needs
+
+mul-peer : tie.Need-mul-peer
+mul-peer c = search needs
+
+shared-slice-read-peer : tie.Need-shared-slice-read-peer
+shared-slice-read-peer c = search needs
+
 add-place : tie.Need-add-place
 add-place c = search needs
 
@@ -15,23 +24,23 @@ mul-place c = search needs
 shared-slice-read-place : tie.Need-shared-slice-read-place
 shared-slice-read-place c = search needs
 
-add-count : tie.Need-add-count
-add-count c = search needs
+add-size : tie.Need-add-size
+add-size c = search needs
 
-mul-count : tie.Need-mul-count
-mul-count c = search needs
+mul-size : tie.Need-mul-size
+mul-size c = search needs
 
-shared-slice-read-count : tie.Need-shared-slice-read-count
-shared-slice-read-count c = search needs
+shared-slice-read-size : tie.Need-shared-slice-read-size
+shared-slice-read-size c = search needs
 
-add-reply : tie.Need-add-reply
-add-reply c = search needs
+add-start : tie.Need-add-start
+add-start c = search needs
 
-mul-reply : tie.Need-mul-reply
-mul-reply c = search needs
+mul-start : tie.Need-mul-start
+mul-start c = search needs
 
-shared-slice-read-reply : tie.Need-shared-slice-read-reply
-shared-slice-read-reply c = search needs
+shared-slice-read-start : tie.Need-shared-slice-read-start
+shared-slice-read-start c = search needs
 
 add-room : tie.Need-add-room
 add-room c = search needs
@@ -56,32 +65,26 @@ returns-2 : tie.Need-returns-2
 unfolding packetAt pick
 returns-2 c = rw (← c .before .before .before .ends-by .ensures, not-false (c .before .before .before .ends-by .result) (c .before .before .if1 .left), ← c .before .ends-by2 .ensures, not-true (c .before .ends-by2 .result) (c .if2 .taken))
 
-add-t9 : tie.Need-add-t9
-add-t9 c = search needs
-
-mul-t10 : tie.Need-mul-t10
-mul-t10 c = search needs
-
-shared-slice-read-t12 : tie.Need-shared-slice-read-t12
-shared-slice-read-t12 c = search needs
-
 returns-3 : tie.Need-returns-3
 unfolding packetAt pick
-returns-3 c = rw (← c .before .before .before .before .ends-by .ensures, not-false (c .before .before .before .before .ends-by .result) (c .before .before .before .if1 .left), ← c .before .before .ends-by2 .ensures, not-false (c .before .before .ends-by2 .result) (c .before .if2 .left))
+returns-3 c = rw (← c .before .before .before .ends-by .ensures, not-false (c .before .before .before .ends-by .result) (c .before .before .if1 .left), ← c .before .ends-by2 .ensures, not-false (c .before .ends-by2 .result) (c .if2 .left))
 
 pub packet-at-spec : {M : Type 1} → statement M
 packet-at-spec =
     tie.close
     (tie.spec
+    add-peer
+    mul-peer
+    shared-slice-read-peer
     add-place
     mul-place
     shared-slice-read-place
-    add-count
-    mul-count
-    shared-slice-read-count
-    add-reply
-    mul-reply
-    shared-slice-read-reply
+    add-size
+    mul-size
+    shared-slice-read-size
+    add-start
+    mul-start
+    shared-slice-read-start
     add-room
     mul-room
     shared-slice-read-room
@@ -89,7 +92,4 @@ packet-at-spec =
     returns
     ends-by-requires-2
     returns-2
-    add-t9
-    mul-t10
-    shared-slice-read-t12
     returns-3)

@@ -19,50 +19,50 @@ returns : tie.Need-returns
 unfolding postAt pick
 returns c = rw (lt-leb _ _ (c .if1 .taken))
 
-add-t5 : tie.Need-add-t5
-add-t5 c = search needs
+add-peer : tie.Need-add-peer
+add-peer c = search needs
 
-mul-t6 : tie.Need-mul-t6
-mul-t6 c = search needs
+mul-peer : tie.Need-mul-peer
+mul-peer c = search needs
 
-shared-slice-read-t8 : tie.Need-shared-slice-read-t8
-shared-slice-read-t8 c = search needs
+shared-slice-read-peer : tie.Need-shared-slice-read-peer
+shared-slice-read-peer c = search needs
 
-add-t11 : tie.Need-add-t11
-add-t11 c = search needs
+add-tag : tie.Need-add-tag
+add-tag c = search needs
 
-mul-t12 : tie.Need-mul-t12
-mul-t12 c = search needs
+mul-tag : tie.Need-mul-tag
+mul-tag c = search needs
 
-shared-slice-read-t14 : tie.Need-shared-slice-read-t14
-shared-slice-read-t14 c = search needs
+shared-slice-read-tag : tie.Need-shared-slice-read-tag
+shared-slice-read-tag c = search needs
 
-add-t15 : tie.Need-add-t15
-add-t15 c = search needs
+add-ignore : tie.Need-add-ignore
+add-ignore c = search needs
 
-mul-t16 : tie.Need-mul-t16
-mul-t16 c = search needs
+mul-ignore : tie.Need-mul-ignore
+mul-ignore c = search needs
 
-shared-slice-read-t18 : tie.Need-shared-slice-read-t18
-shared-slice-read-t18 c = search needs
+shared-slice-read-ignore : tie.Need-shared-slice-read-ignore
+shared-slice-read-ignore c = search needs
 
-add-t20 : tie.Need-add-t20
-add-t20 c = search needs
+add-start : tie.Need-add-start
+add-start c = search needs
 
-mul-t21 : tie.Need-mul-t21
-mul-t21 c = search needs
+mul-start : tie.Need-mul-start
+mul-start c = search needs
 
-shared-slice-read-t23 : tie.Need-shared-slice-read-t23
-shared-slice-read-t23 c = search needs
+shared-slice-read-start : tie.Need-shared-slice-read-start
+shared-slice-read-start c = search needs
 
-add-t5-2 : tie.Need-add-t5-2
-add-t5-2 c = search needs
+add-capacity : tie.Need-add-capacity
+add-capacity c = search needs
 
-mul-t24 : tie.Need-mul-t24
-mul-t24 c = search needs
+mul-capacity : tie.Need-mul-capacity
+mul-capacity c = search needs
 
-shared-slice-read-t23-2 : tie.Need-shared-slice-read-t23-2
-shared-slice-read-t23-2 c = search needs
+shared-slice-read-capacity : tie.Need-shared-slice-read-capacity
+shared-slice-read-capacity c = search needs
 
 returns-2 : tie.Need-returns-2
 unfolding postAt pick
@@ -76,19 +76,19 @@ post-at-spec =
     mul-kind
     shared-slice-read-kind
     returns
-    add-t5
-    mul-t6
-    shared-slice-read-t8
-    add-t11
-    mul-t12
-    shared-slice-read-t14
-    add-t15
-    mul-t16
-    shared-slice-read-t18
-    add-t20
-    mul-t21
-    shared-slice-read-t23
-    add-t5-2
-    mul-t24
-    shared-slice-read-t23-2
+    add-peer
+    mul-peer
+    shared-slice-read-peer
+    add-tag
+    mul-tag
+    shared-slice-read-tag
+    add-ignore
+    mul-ignore
+    shared-slice-read-ignore
+    add-start
+    mul-start
+    shared-slice-read-start
+    add-capacity
+    mul-capacity
+    shared-slice-read-capacity
     returns-2)

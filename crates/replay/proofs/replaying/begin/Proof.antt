@@ -6,8 +6,8 @@ use lib.ListN.{length}
 use mathlib.Core.Path.{_≡_, sym, _∙_}
 use native.Mathlib.Omega.{arith}
 use Rattle.replay.proofs.DecodeLaws.{calls-few}
-use Rattle.replay.proofs.RunLaws.{tell-room}
-use Rattle.replay.proofs.WholeLaws.{begun-ready, begun-refused, last-room, reported-by-parts, set-up-room}
+use Rattle.replay.proofs.LineRoom.{tell-room}
+use Rattle.replay.proofs.WholeLaws.{begun-ready, begun-refused, last-room, ready-holds, reported-by-parts, set-up-room}
 
 set-up-requires : tie.Need-set-up-requires
 set-up-requires c κs = search needs
@@ -37,7 +37,8 @@ run-requires c κs =
     let a = set-up-room in
     let p = s .pre in
     let k : length (w .last .0) ≡ length (s .args .text .now) = w .kept .0 in
-    omega arith
+    let (eights, fits) = ready-holds _ _ _ (s .args .arena .now) _ _ (c .before .before .before .before .before .before .before .before .before .before .before .before .before .before .before .set-up .ensures) (c .before .before .before .before .before .before .before .before .before .before .enum-told .given .1) in
+    (eights, (fits, omega arith))
 
 put-ending-requires : tie.Need-put-ending-requires
 put-ending-requires c κs =
@@ -45,7 +46,7 @@ put-ending-requires c κs =
     let a = s .args in
     let w = c .before .before .before .before .before .before .before .before .before .before .before .before .before .before .before .before .put-line in
     let r = c .before .before .before .before .before .before .before .before .before .run in
-    last-room _ _ (a .text .now) _ (a .budget) (calls-few (a .budget) _ _ _) (s .pre) _ _ (w .ensures .0) (rw (w .ensures .1) at (r .ensures))
+    last-room _ _ _ (a .text .now) _ (a .budget) (calls-few (a .budget) _ _ _) (s .pre) _ _ (w .ensures .0) (rw (w .ensures .1) at (r .ensures))
 
 same-length : tie.Need-same-length
 same-length c = search needs
@@ -80,7 +81,7 @@ returns-2 c =
     let w = c .before .before .before .before .before .before .before .before .before .before .before .before .before .before .before .before .before .before .before .put-line in
     let r = c .before .before .before .before .before .before .before .before .before .before .before .before .run in
     let p = c .before .before .put-ending in
-    reported-by-parts _ _ (a .text .now) _ (a .budget) (calls-few (a .budget) _ _ _) (s .pre) _ _ (w .ensures .0) (rw (w .ensures .1) at (r .ensures)) _ _
+    reported-by-parts _ _ _ (a .text .now) _ (a .budget) (calls-few (a .budget) _ _ _) (s .pre) _ _ (w .ensures .0) (rw (w .ensures .1) at (r .ensures)) _ _
     (p .ensures .0) (p .ensures .1)
     ∙ sym (begun-ready _ _ _ _ _ _ _ _ _ _ _ (c .before .before .before .before .before .before .before .before .before .before .before .before .before .before .before .before .before .before .before .before .before .before .before .before .before .before .before .before .set-up .ensures) (c .before .before .before .before .before .before .before .before .before .before .before .before .before .before .before .before .before .before .before .before .before .before .before .enum-told .given .1))
 

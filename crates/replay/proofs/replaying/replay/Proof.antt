@@ -14,7 +14,7 @@ use Rattle.laws.proofs.Storing.{store-nothing}
 use Rattle.replay.specs.Lines.{endingLine}
 use Rattle.replay.specs.Replaying.{hasRoom, putBack, replayOf, started}
 use Rattle.replay.proofs.RoomLaws.{lent-there}
-use Rattle.replay.proofs.RunLaws.{tell-room}
+use Rattle.replay.proofs.LineRoom.{tell-room}
 use Rattle.replay.proofs.WholeLaws.{put-back}
 
 -- past the first test the text has room

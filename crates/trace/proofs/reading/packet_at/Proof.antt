@@ -31,8 +31,8 @@ returns c =
     let e = lt-leb (v .1 .0 + v .0) (length (r .before .before .before .before .args .s .now)) (omega arith) in
     rw (← r .before .before .pair-at .ensures, r .peer .given .1, e)
 
-add-t10 : tie.Need-add-t10
-add-t10 c = search needs
+add-end : tie.Need-add-end
+add-end c = search needs
 
 returns-2 : tie.Need-returns-2
 unfolding packetAt
@@ -47,4 +47,4 @@ returns-3 c =
     rw (← r .before .before .pair-at .ensures, r .peer .given .1, e)
 
 pub packet-at-spec : {M : Type 1} → statement M
-packet-at-spec = tie.close (tie.spec pair-at-requires enum-told enum-known-peer sub-if1 returns add-t10 returns-2 returns-3)
+packet-at-spec = tie.close (tie.spec pair-at-requires enum-told enum-known-peer sub-if1 returns add-end returns-2 returns-3)

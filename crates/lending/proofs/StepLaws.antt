@@ -12,9 +12,7 @@ use Rattle.peer.specs.Calls.{packetEffect}
 use Rattle.peer.specs.Effects.{Effect, quiet}
 use Rattle.peer.specs.declared.types.Peer.{Peer}
 use Rattle.peer.specs.declared.types.Step.{Step}
-use Rattle.lending.specs.Lending.{Lent}
-use Rattle.lending.specs.Lending as own
-use Rattle.packed.specs.Steps.{leavesAt}
+use Rattle.lending.specs.Lending.{Lent, leavesAt}
 
 -- a store that keeps the list's length has room there
 store-fits : (l s : List ℕ) → length (storeAt l 0 s) ≡ length l → length s ≤ length l
@@ -32,7 +30,7 @@ module _ (place area p : ℕ) (arena map replies : List ℕ) where
   -- a packet, whose reply buffer was lent on
   pub packet-leaves : (room limit : ℕ) (q : Peer) (ws bs : List ℕ) (l : Lent) → place + room ≤ length replies
       → length (l .reply) ≡ length (take (place + room - place) (drop place replies))
-      → l ≡ own.leavesAt area p arena map (take (place + room - place) (drop place replies)) (packetEffect limit q ws bs (length (take (place + room - place) (drop place replies))))
+      → l ≡ leavesAt 0 area p arena map (take (place + room - place) (drop place replies)) (packetEffect limit q ws bs (length (take (place + room - place) (drop place replies))))
       → _≡_ {A = Lent} (record { step = l .step; arena = l .arena; map = l .map; reply = putMid place (place + room - place) replies (l .reply) })
       (leavesAt place area p arena map replies (packetEffect limit q ws bs (length (part replies place room))))
   packet-leaves room limit q ws bs l h n e =

@@ -1,11 +1,11 @@
--- `packed::calls::call_at` meets its contract: the four numbers are tested in the order of the definition.
+-- `packed::calls::request_at` meets its contract: the four numbers are tested in the order of the definition.
 use borrow.Author.Needs.{needs}
-use Rattle.packed.proofs.calls.call_at.Statement.{statement}
-use Rattle.packed.proofs.calls.call_at.Tie as tie
+use Rattle.packed.proofs.calls.request_at.Statement.{statement}
+use Rattle.packed.proofs.calls.request_at.Tie as tie
 use borrow.Author.Tests.{eq-eqb, ne-eqb}
 use mathlib.Core.Path.{_∙_}
 use Rattle.laws.specs.Choose.{pick}
-use Rattle.packed.specs.Calls.{callAt}
+use Rattle.packed.specs.Calls.{requestAt}
 
 mul-number : tie.Need-mul-number
 mul-number c = search needs
@@ -17,14 +17,14 @@ post-at-requires : tie.Need-post-at-requires
 post-at-requires c κs = search needs
 
 returns : tie.Need-returns
-unfolding callAt pick
+unfolding requestAt pick
 returns c = c .post-at .ensures ∙ rw (eq-eqb _ _ (c .before .if1 .taken))
 
 packet-at-requires : tie.Need-packet-at-requires
 packet-at-requires c κs = search needs
 
 returns-2 : tie.Need-returns-2
-unfolding callAt pick
+unfolding requestAt pick
 returns-2 c = c .packet-at .ensures ∙ rw (ne-eqb _ _ (c .before .before .if1 .left), eq-eqb _ _ (c .before .if2 .taken))
 
 add-peer : tie.Need-add-peer
@@ -46,19 +46,19 @@ shared-slice-read-slot : tie.Need-shared-slice-read-slot
 shared-slice-read-slot c = search needs
 
 returns-3 : tie.Need-returns-3
-unfolding callAt pick
+unfolding requestAt pick
 returns-3 c = rw (ne-eqb _ _ (c .before .before .before .before .if1 .left), ne-eqb _ _ (c .before .before .before .if2 .left), eq-eqb _ _ (c .if3 .taken))
 
 returns-4 : tie.Need-returns-4
-unfolding callAt pick
+unfolding requestAt pick
 returns-4 c = rw (ne-eqb _ _ (c .before .before .before .before .before .if1 .left), ne-eqb _ _ (c .before .before .before .before .if2 .left), ne-eqb _ _ (c .before .if3 .left), eq-eqb _ _ (c .if4 .taken))
 
 returns-5 : tie.Need-returns-5
-unfolding callAt pick
+unfolding requestAt pick
 returns-5 c = rw (ne-eqb _ _ (c .before .before .before .before .before .if1 .left), ne-eqb _ _ (c .before .before .before .before .if2 .left), ne-eqb _ _ (c .before .if3 .left), ne-eqb _ _ (c .if4 .left))
 
-pub call-at-spec : {M : Type 1} → statement M
-call-at-spec =
+pub request-at-spec : {M : Type 1} → statement M
+request-at-spec =
     tie.close
     (tie.spec
     mul-number

@@ -18,7 +18,7 @@ use Rattle.engine.proofs.Worlds.{Good, good-called, good-fits}
 use Rattle.protocol.specs.declared.types.Refusal.{Refusal}
 use Rattle.engine.specs.InWords.{Eights}
 
-pub record Standing (good : Bool) (e : Engine) : Type 0 where
+pub record CheckedOnce (good : Bool) (e : Engine) : Type 0 where
   pub eights : Eights e
   pub state : engineFits e ≡ good
 
@@ -27,34 +27,34 @@ good-numbers : (e : Engine) (good : Bool) → engineFits e ≡ good → (good &&
 good-numbers e true x = fit-numbers e x
 good-numbers e false x = refl
 
-module _ {good : Bool} (w : World) (p : ℕ) (s : Standing good (w .engine)) (g : Gate)
+module _ {good : Bool} (w : World) (p : ℕ) (s : CheckedOnce good (w .engine)) (g : Gate)
     (y : g ≡ gateOf (good && numbersFit (w .engine .n) (w .engine .area) (w .engine .limit)) (w .engine .n) (w .engine .area) (length (w .arena)) (length (w .map)) p) where
   gate : g ≡ gateOf good (w .engine .n) (w .engine .area) (length (w .arena)) (length (w .map)) p
   gate = rw (good-numbers (w .engine) good (s .state)) at y
 
   -- a call that is not let through
-  pub standing-shut : (k : Refusal) (c : Call) → g ≡ Gate.Shut k → callTurn w p c ≡ refusedTurn w k
+  pub once-shut : (k : Refusal) (c : Call) → g ≡ Gate.Shut k → callTurn w p c ≡ refusedTurn w k
   unfolding throughGate
-  standing-shut k c z = through w p c good g (Gate.Shut k) (s .state) gate z
+  once-shut k c z = through w p c good g (Gate.Shut k) (s .state) gate z
 
   module _ (z : g ≡ Gate.Open) where
-    pub standing-passed : Passed good (w .engine .n) (w .engine .area) (length (w .arena)) (length (w .map)) p
-    standing-passed = gate-open good (w .engine .n) (w .engine .area) (length (w .arena)) (length (w .map)) p (sym gate ∙ z)
+    pub once-passed : Passed good (w .engine .n) (w .engine .area) (length (w .arena)) (length (w .map)) p
+    once-passed = gate-open good (w .engine .n) (w .engine .area) (length (w .arena)) (length (w .map)) p (sym gate ∙ z)
 
-    pub standing-owned : (d : Peer) → Owned (w .engine .area) (w .engine .limit) p (length (w .arena)) (length (w .map)) (getD (w .engine .peers) p d)
-    standing-owned = opened (w .engine) good (length (w .arena)) (length (w .map)) p g (s .eights .peers) (s .state) gate z .owns
+    pub once-owned : (d : Peer) → Owned (w .engine .area) (w .engine .limit) p (length (w .arena)) (length (w .map)) (getD (w .engine .peers) p d)
+    once-owned = opened (w .engine) good (length (w .arena)) (length (w .map)) p g (s .eights .peers) (s .state) gate z .owns
 
     few : w .engine .n ≤ peerCount
-    few = small (w .engine .n) (w .engine .area) (w .engine .limit) (fit-numbers (w .engine) (s .state ∙ standing-passed .state)) .few
+    few = small (w .engine .n) (w .engine .area) (w .engine .limit) (fit-numbers (w .engine) (s .state ∙ once-passed .state)) .few
 
-    pub standing-in-peers : p < length (w .engine .peers)
-    standing-in-peers = omega (arith, standing-passed .peer, few, s .eights .peers)
+    pub once-in-peers : p < length (w .engine .peers)
+    once-in-peers = omega (arith, once-passed .peer, few, s .eights .peers)
 
-    pub standing-good : Good w
-    standing-good = checked-good w (s .eights) (s .state ∙ standing-passed .state) (standing-passed .lent)
+    pub once-good : Good w
+    once-good = checked-good w (s .eights) (s .state ∙ once-passed .state) (once-passed .lent)
 
     -- the check would say the same of what the call leaves
-    pub standing-turn : (c : Call) → Standing good (callTurn w p c .world .engine)
-    standing-turn c =
-        let h = good-called w standing-good p c in
-        record { eights = record { peers = h .peers; slots = h .slots }; state = good-fits _ h ∙ sym (standing-passed .state) }
+    pub once-turn : (c : Call) → CheckedOnce good (callTurn w p c .world .engine)
+    once-turn c =
+        let h = good-called w once-good p c in
+        record { eights = record { peers = h .peers; slots = h .slots }; state = good-fits _ h ∙ sym (once-passed .state) }

@@ -1,11 +1,11 @@
--- `packed::running::step` meets its contract: a call of a peer leaves, of what is lent whole, what its own step leaves of its parts.
+-- `lending::dispatch::step` meets its contract: a call of a peer leaves, of what is lent whole, what its own step leaves of its parts.
 use borrow.Author.Needs.{needs}
-use Rattle.packed.proofs.running.step.Statement.{statement}
-use Rattle.packed.proofs.running.step.Tie as tie
+use Rattle.lending.proofs.dispatch.step.Statement.{statement}
+use Rattle.lending.proofs.dispatch.step.Tie as tie
 use native.Mathlib.Omega.{arith}
 use Rattle.peer.specs.Calls.{peerStep}
 use Rattle.laws.proofs.Storing.{lent-part}
-use Rattle.packed.proofs.StepLaws.{packet-leaves, quiet-leaves}
+use Rattle.lending.proofs.StepLaws.{packet-leaves, quiet-leaves}
 
 enum-known-call : tie.Need-enum-known-call
 enum-known-call c = search needs
@@ -16,11 +16,11 @@ post-requires c κs = search needs
 enum-known-call-2 : tie.Need-enum-known-call-2
 enum-known-call-2 c = search needs
 
-add-end : tie.Need-add-end
-add-end c = let i = rw (c .before .call2 .given .1) at (c .before .before .before .before .before .before .before .pre .1) in omega arith
+add-to : tie.Need-add-to
+add-to c = let i = rw (c .before .before .call2 .given .1) at (c .before .before .before .before .before .before .before .before .pre .1) in omega arith
 
 add-last : tie.Need-add-last
-add-last c = let i = rw (c .before .call2 .given .1) at (c .before .before .before .before .before .before .before .pre .1) in omega arith
+add-last c = let i = rw (c .before .before .before .call2 .given .1) at (c .before .before .before .before .before .before .before .before .before .pre .1) in omega arith
 
 sub-packet-at : tie.Need-sub-packet-at
 sub-packet-at c = search needs
@@ -29,7 +29,7 @@ part-packet-at-start : tie.Need-part-packet-at-start
 part-packet-at-start c = search needs
 
 part-packet-at-end : tie.Need-part-packet-at-end
-part-packet-at-end c = let i = rw (c .before .call2 .given .1) at (c .before .before .before .before .before .before .before .pre .1) in omega arith
+part-packet-at-end c = let i = rw (c .before .before .before .call2 .given .1) at (c .before .before .before .before .before .before .before .before .before .pre .1) in omega arith
 
 sub-packet-at-2 : tie.Need-sub-packet-at-2
 sub-packet-at-2 c = search needs
@@ -38,7 +38,7 @@ part-packet-at-start-2 : tie.Need-part-packet-at-start-2
 part-packet-at-start-2 c = search needs
 
 part-packet-at-end-2 : tie.Need-part-packet-at-end-2
-part-packet-at-end-2 c = let i = rw (c .before .before .before .before .call2 .given .1) at (c .before .before .before .before .before .before .before .before .before .before .pre .1) in omega arith
+part-packet-at-end-2 c = let i = rw (c .before .before .before .before .before .before .call2 .given .1) at (c .before .before .before .before .before .before .before .before .before .before .before .before .pre .1) in omega arith
 
 packet-at-requires : tie.Need-packet-at-requires
 packet-at-requires c κs = search needs
@@ -71,11 +71,13 @@ same-length-3 c = search needs
 returns-2 : tie.Need-returns-2
 unfolding peerStep
 returns-2 c =
-    let s = c .before .before .before .before .before .before .before .before .before .before .before .before .before .before .before .before .before .before in
-    let i = rw (c .before .before .before .before .before .before .before .before .before .before .before .before .call2 .given .1) at (s .pre .1) in
     let q = c .before .before .before .before .before .before .packet-at in
-    let g = c .before .before .before .before .before .before .before .before .before .before .before .before .call2 .given in
-    rw (c .before .before .before .before .before .before .before .before .before .before .before .before .call2 .given .1) (packet-leaves _ _ _ _ _ _ _ _ _ _ _ _ (i .1) (q .kept .1 .1 .1 .1 .1 .1 .1 .0) (rw (lent-part (s .args .bytes .now) (g .0 .1 .0) (g .0 .1 .1 .0)) at (q .ensures)))
+    let k = c .before .before .before .before .before .before .before .before .before .before .before .before .before .before in
+    let sent = k .call2 .given .0 .0 in
+    let s = k .before .before .before .before .before .before in
+    let i = rw (k .call2 .given .1) at (s .pre .1) in
+    rw (k .call2 .given .1)
+    (packet-leaves _ _ _ _ _ _ _ _ _ _ _ _ (i .1) (q .kept .1 .1 .1 .1 .1 .1 .1 .0) (rw (lent-part (s .args .bytes .now) (sent .at) (sent .size)) at (q .ensures)))
 
 returns-3 : tie.Need-returns-3
 unfolding peerStep
@@ -95,7 +97,7 @@ step-spec =
     enum-known-call
     post-requires
     enum-known-call-2
-    add-end
+    add-to
     add-last
     sub-packet-at
     part-packet-at-start

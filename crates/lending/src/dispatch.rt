@@ -1,0 +1,56 @@
+// Any call of a peer, carried out by the function of its kind.
+use crate::packet_at;
+use crate::report_at;
+use peer::Call;
+use peer::Peer;
+use peer::Step;
+ghost use mathlib.Core.Path.{_≡_};
+ghost use Prim.Native.Nat.{_*_, _/_};
+ghost use lib.ListN.{length};
+ghost use Rattle.laws.specs.Parts.{part};
+ghost use Rattle.peer.specs.Calls.{peerStep};
+ghost use Rattle.lending.specs.Acts.{Inside, actOf, callOf, placeOf};
+ghost use Rattle.lending.specs.Lending.{Owned, leavesAt};
+
+// One call of peer p, whose gate is open. Of arena and map only the peer's own part is lent on, and
+// of bytes and replies only the call's own packet and reply buffer.
+pub fn step(
+    there: Peer,
+    p: usize,
+    area: usize,
+    limit: usize,
+    call: Call,
+    bytes: &[u8],
+    arena: &mut [u8],
+    map: &mut [u64],
+    replies: &mut [u8],
+) -> Step
+    requires { ⌜ Owned area limit p (length (now arena)) (length (now map)) there ⌝ }
+    requires { ⌜ Inside (length (now bytes)) (length (now replies)) call ⌝ }
+    ensures { λ r. ⌜ record { step = r; arena = now (arena .exit); map = now (map .exit); reply = now (replies .exit) } ≡ leavesAt (placeOf call) area p (now (arena .entry)) (now (map .entry)) (now (replies .entry)) (peerStep area limit there (part (now (map .entry)) (p * (area / 64)) (area / 64)) (callOf (actOf (now (bytes .entry)) (now (replies .entry)) call))) ⌝ }
+{
+    match call {
+        Call::Post(receive) => posting::post(there, area, receive),
+        Call::Packet(sent, reply) => {
+            let from = sent.at;
+            let to = from + sent.size;
+            let first = reply.at;
+            let last = first + reply.size;
+            packet_at(
+                there,
+                p,
+                area,
+                limit,
+                &bytes[from..to],
+                arena,
+                map,
+                &mut replies[first..last],
+            )
+        }
+        Call::Cancel(slot) => posting::cancel(there, slot),
+        Call::Report(slot) => Step {
+            peer: there,
+            answer: report_at(there, p, slot, area, map),
+        },
+    }
+}

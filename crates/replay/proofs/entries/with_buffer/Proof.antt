@@ -1,0 +1,41 @@
+-- `replay::entries::with_buffer` meets its contract: each arm is a case of `withBuffer`.
+use borrow.Author.Needs.{needs}
+use Rattle.replay.proofs.entries.with_buffer.Statement.{statement}
+use Rattle.replay.proofs.entries.with_buffer.Tie as tie
+
+enum-known-recorded : tie.Need-enum-known-recorded
+enum-known-recorded c = search needs
+
+enum-known-recorded-2 : tie.Need-enum-known-recorded-2
+enum-known-recorded-2 c = search needs
+
+enum-known-recorded-3 : tie.Need-enum-known-recorded-3
+enum-known-recorded-3 c = search needs
+
+enum-known-recorded-4 : tie.Need-enum-known-recorded-4
+enum-known-recorded-4 c = search needs
+
+returns : tie.Need-returns
+returns c = rw (c .before .recorded .given .1)
+
+returns-2 : tie.Need-returns-2
+returns-2 c = rw (c .before .recorded2 .given .1)
+
+returns-3 : tie.Need-returns-3
+returns-3 c = rw (c .before .recorded3 .given .1)
+
+returns-4 : tie.Need-returns-4
+returns-4 c = rw (c .before .recorded4 .given .1)
+
+pub with-buffer-spec : {M : Type 1} → statement M
+with-buffer-spec =
+    tie.close
+    (tie.spec
+    enum-known-recorded
+    enum-known-recorded-2
+    enum-known-recorded-3
+    enum-known-recorded-4
+    returns
+    returns-2
+    returns-3
+    returns-4)
