@@ -14,8 +14,7 @@ use Rattle.peer.specs.declared.types.Answer.{Answer}
 use Rattle.engine.proofs.WordsHold.{ready-fits}
 use Rattle.engine.proofs.Worlds.{sized}
 use Rattle.guarantees.proofs.Seeing.{seen-by-history}
-use Rattle.peer.proofs.HistoryBytes.{bytes-by-segments}
-use Rattle.peer.proofs.HistoryDone.{done-when-covered}
+use Rattle.peer.proofs.HistoryBytes.{bytes-by-segments, done-when-covered}
 use Rattle.peer.proofs.HistoryGrants.{grants-bounded}
 use Rattle.peer.proofs.HistoryOnce.{once}
 use Rattle.peer.proofs.HistoryCount.{matched-by-count}

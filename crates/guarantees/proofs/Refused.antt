@@ -30,7 +30,7 @@ use Rattle.engine.proofs.Worlds.{Good, lent-lengths, part-inside, turn-none, tu
 use Rattle.guarantees.proofs.SetUps.{fresh-good, good-after}
 use Rattle.laws.proofs.Choosing.{branch, clashing}
 use Rattle.laws.proofs.Storing.{store-nothing, store-own}
-use Rattle.peer.proofs.RefusedCalls.{step-refusing}
+use Rattle.peer.proofs.StepCases.{step-refusing}
 
 -- a turn that is a refusal leaves all
 abbrev Leaves : World → Act → Turn → Type 0

@@ -26,7 +26,7 @@ use Rattle.guarantees.proofs.Tracking.{Tracks, other-tracks, own-seen}
 use Rattle.laws.proofs.Choosing.{clashing, pick-false, pick-true}
 use Rattle.peer.proofs.Agreement.{Agrees}
 use Rattle.peer.proofs.Steps.{fresh-agrees, fresh-free}
-use Rattle.peer.proofs.Yields.{Starts}
+use Rattle.peer.proofs.Replies.{Starts}
 
 -- the rest of a run, from a world in which the peer is tracked
 abbrev Rest : ℕ → List Request → Type 0

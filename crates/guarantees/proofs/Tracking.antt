@@ -35,9 +35,8 @@ use Rattle.peer.proofs.HistoryFacts.{outcome}
 use Rattle.peer.proofs.Kept.{Kept}
 use Rattle.peer.proofs.OriginReplies.{own-claim}
 use Rattle.peer.proofs.OriginsHold.{Trace, call-claim}
-use Rattle.peer.proofs.Replies.{Holds, Replying, Yielded, met-yields, roomOf, step-replies}
+use Rattle.peer.proofs.Replies.{Holds, Replying, Starts, Yielded, met-yields, roomOf, starts-stepped, step-replies}
 use Rattle.peer.proofs.Steps.{Stepped, stepped}
-use Rattle.peer.proofs.Yields.{Starts, starts-stepped}
 
 -- the state, the map and the arena of peer p say what its history l says
 pub record Tracks (p : ℕ) (w : World) (starts : List ℕ) (l : Plain) : Type 0 where

@@ -18,7 +18,7 @@ use Rattle.peer.specs.Checks.{CallsAreChecked, Fails, checksOf, numberOf
 use Rattle.peer.specs.Claims.{AreBytes}
 use Rattle.peer.specs.Coverage.{Segment, covers, inside}
 use Rattle.peer.specs.Expected.{expected}
-use Rattle.peer.specs.Plain.{Entry, Plain, entryAt, receiving}
+use Rattle.peer.specs.Plain.{Entry, Plain, entryAt}
 use Rattle.peer.specs.Says.{said}
 use Rattle.peer.specs.State.{peerFits, phaseAt}
 use Rattle.peer.specs.View.{OneEach, View, markedIn, roleOf, viewIn, viewOf}
@@ -37,7 +37,7 @@ use Rattle.peer.proofs.FirstLaws.{gone-refused, gone-unrefused}
 use Rattle.peer.proofs.PostChecked.{GoneFor}
 use Rattle.peer.proofs.Roles.{role-lengths}
 use Rattle.peer.proofs.Valid.{fits-valid}
-use Rattle.peer.proofs.ViewSearch.{entries-ordered, entries-roles, entriesOf, entry-at, entry-role, entryOf}
+use Rattle.peer.proofs.Slots.{entries-ordered, entries-roles, entriesOf, entry-at, entry-role, entryOf, open-phase}
 
 -- ---- segments that cover what a map has
 
@@ -81,14 +81,6 @@ bit-beyond ws x h = ap (λ (w : ℕ). bit w (x % 64)) (List·getD-eq-default ws 
 -- ---- the plain receiver of a peer
 
 module _ (area limit : ℕ) (p : Peer) (ws : List ℕ) where
-  phase-of : (i : ℕ) (o : Inbound) → viewOf p ws .role i ≡ receiving o → phaseAt (p .slots) i ≡ Phase.Open o
-  phase-of i o x = go (phaseAt (p .slots) i) x
-    where
-      go : (f : Phase) → roleOf f ≡ receiving o → f ≡ Phase.Open o
-      go Phase.Free e = let z : _≡_ {A = ℕ} 0 1 = cc in absurd (omega arith)
-      go (Phase.Posted r a) e = let z : _≡_ {A = ℕ} 0 1 = cc in absurd (omega arith)
-      go (Phase.Open q) e = let is : q ≡ o = cc in ap Phase.Open is
-
   pub one-each : peerFits area p ≡ true → OneEach (viewOf p ws)
   unfolding CanBeIfNoClauseIsBroken
   one-each fit id j k o m x y = go (ℕ-discrete j k)
@@ -96,7 +88,7 @@ module _ (area limit : ℕ) (p : Peer) (ws : List ℕ) where
       go : Dec (j ≡ k) → j ≡ k
       go (yes e) = e
       go (no n) =
-          absurd (can-be-if-no-clause-is-broken area p .0 fit oneId (j, k, n, o, m, phase-of j o (x .0), phase-of k m (y .0), x .1 ∙ sym (y .1)))
+          absurd (can-be-if-no-clause-is-broken area p .0 fit oneId (j, k, n, o, m, open-phase (phaseAt (p .slots) j) o (x .0), open-phase (phaseAt (p .slots) k) m (y .0), x .1 ∙ sym (y .1)))
 
   -- the bit of offset x of the message
   marked : Inbound → ℕ → Bool

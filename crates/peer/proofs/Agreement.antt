@@ -46,7 +46,7 @@ use Rattle.peer.proofs.AnswerLaws.{expect-takes, settled-takes}
 use Rattle.peer.proofs.CoverageLaws.{Bits, Content, all-before, bits-cleared, bits-marked, first-whole}
 use Rattle.peer.proofs.PacketsRead.{read-formed}
 use Rattle.peer.proofs.Roles.{Ordered, SameFit, fit-same, open-same, overlap-same, role-at, to, unfit, vacancy-same}
-use Rattle.peer.proofs.Slots.{found-open, stands-at}
+use Rattle.peer.proofs.Slots.{found-open}
 use Rattle.peer.proofs.StepCases.{Arrives, dataOf}
 use Rattle.peer.proofs.Valid.{Valid, Within, posted-within}
 use Rattle.peer.proofs.Verdicts.{Begins, Continues, CutOff, Judged, again-inside, found-within, judged}
@@ -195,7 +195,7 @@ module _ (area limit : ℕ) (p : Peer) (ws : List ℕ) (l : Plain) (v : Valid ar
         gs = entryAt (l .entries) i .segments
 
         own : Bits ws (o .receive .start) (o .message .length) gs
-        own = m .bits i o (stands-at (p .slots) i (Phase.Open o) (found-open (h .id) 0 (p .slots) i o e .0) .1)
+        own = m .bits i o (found-open (h .id) (p .slots) i o e .1)
 
         within : Within area o
         within = found-within area p (h .id) i o v e

@@ -1,32 +1,34 @@
 -- The answer that 01 demands is a refusal by the first check that fails, of every plain receiver that no two messages with one id are open
 -- in: the statement of specs/Checks.antt on plain receivers.
-use Prim.Native.Nat.{_+_, _<_, _^_, ℕ}
-use borrow.Author.Tests.{ltb-false, ltb-true}
-use lib.Dec.{leb, ltb}
+use Prim.Native.Nat.{ℕ, _<_, _^_}
 use lib.ListN.{getD, length, length-map}
-use mathlib.Core.Bool.{Bool, false, true}
 use mathlib.Core.List.{List, [], _++_, _∷_, map}
+use mathlib.Core.Path.{_≡_, sym, ap, _∙_, refl, subst}
+use mathlib.Core.Bool.{true, false}
+use borrow.Author.Tests.{ltb-false, ltb-true}
+use lib.Dec.{leb}
 use mathlib.Core.Logic.{inl, inr, ⊎-elim}
-use mathlib.Core.Path.{_∙_, _≡_, ap, refl, subst, sym}
 use native.Mathlib.Omega.{arith}
-use Rattle.laws.specs.Choose.{pick}
 use Rattle.protocol.specs.InWords.{ReadIfNoneFails, RefusedByFirstToFail, readerChecks, wrongLengths}
 use Rattle.protocol.specs.Reading.{readOf}
 use Rattle.protocol.specs.Refusals.{badSlot, beyondGrant, differs, early, late, noReceive, repeated}
+use Rattle.protocol.specs.Says.{readSays}
 use Rattle.protocol.specs.Values.{bytesAt, valuesIn}
 use Rattle.protocol.specs.declared.types.Packet.{Packet}
 use Rattle.protocol.specs.declared.types.Read.{Read}
+use Rattle.protocol.specs.declared.types.Refusal.{Refusal}
 use Rattle.peer.specs.Calls.{Call, cancel, packet, post, report}
 use Rattle.peer.specs.Checks.{AnswersAreChecked, Check, Fails, checksOf, judgedChecks, numberOf, unread}
 use Rattle.peer.specs.Claims.{AreBytes}
 use Rattle.peer.specs.Coverage.{Segment}
 use Rattle.peer.specs.Effects.{opened}
-use Rattle.peer.specs.Expected.{Ruling, anyOverlap, expectAgain, expectCancel, expectData, expectFit, expectFound, expectMore, expectNew, expectPacket, expectPost, expectRead, expectReport, expectTaken, expected, lowestIdle}
+use Rattle.peer.specs.Expected.{Ruling, expectAgain, expectCancel, expectData, expectFit, expectFound, expectMore, expectNew, expectPacket, expectPost, expectRead, expectReport, expectTaken, expected}
+use Rattle.peer.specs.InWords.{FoundIsTheLowestOpen, NothingFoundIsNoneOpen, RtmIs64To69, UnfitIsNoneWaiting}
 use Rattle.peer.specs.Incomings.{incomingOf, isRtm}
-use Rattle.peer.specs.Matching.{ahead}
-use Rattle.peer.specs.Says.{refused, said, say}
+use Rattle.peer.specs.Matching.{ahead, fits}
 use Rattle.peer.specs.PacketBytes.{Rtm, idIn, typeIn}
-use Rattle.peer.specs.Plain.{Plain, Role, entryAt, firstPosted, idle, openIn, receiving, roles, segmentOf, waiting}
+use Rattle.peer.specs.Plain.{Entry, Plain, Role, entryAt, firstPosted, idle, openIn, receiving, roles, segmentOf, waiting}
+use Rattle.peer.specs.Says.{refused, said, say}
 use Rattle.peer.specs.View.{OneEach, OpenIn, View, viewIn}
 use Rattle.peer.specs.declared.types.Answer.{Answer}
 use Rattle.peer.specs.declared.types.Fit.{Fit}
@@ -35,18 +37,44 @@ use Rattle.peer.specs.declared.types.Inbound.{Inbound}
 use Rattle.peer.specs.declared.types.Incoming.{Incoming}
 use Rattle.peer.specs.declared.types.Receive.{Receive}
 use Rattle.laws.proofs.Choosing.{branch, clashing}
+use Rattle.protocol.proofs.OrderHolds.{read-if-none-fails, refused-by-first-to-fail}
+use Rattle.peer.proofs.AnswerLaws.{expect-takes, takes-unrefused}
 use Rattle.peer.proofs.BytesHold.{Says, read-says}
+use Rattle.peer.proofs.EntrySearch.{foremost}
 use Rattle.peer.proofs.FirstLaws.{gone-at, gone-past, gone-refused}
 use Rattle.peer.proofs.PacketChecked.{Sole, data-beyond, data-more, data-repeats, data-short, data-shut, new-early, new-fits, new-late, new-unfit, open-differs, open-more, open-repeats}
-use Rattle.peer.proofs.PostChecked.{GoneFor, Unrefused, cancel-free, cancel-used, post-gone, postAnswer, report-open, report-shut, slot-beyond}
+use Rattle.peer.proofs.PostChecked.{GoneFor, Unrefused, cancel-free, cancel-used, post-gone, report-open, report-shut, slot-beyond}
 use Rattle.peer.proofs.Roles.{role-of-entry}
-use Rattle.peer.proofs.ViewSearch.{fit-none, fit-some, found-none, found-sole}
-use Rattle.protocol.specs.Says.{readSays}
-use Rattle.protocol.specs.declared.types.Refusal.{Refusal}
-use Rattle.peer.specs.InWords.{RtmIs64To69}
-use Rattle.protocol.proofs.OrderHolds.{read-if-none-fails, refused-by-first-to-fail}
-use Rattle.peer.proofs.WordsHold.{rtm-is-64-to-69}
-use Rattle.peer.proofs.AnswerLaws.{expect-takes, takes-unrefused}
+use Rattle.peer.proofs.WordsHold.{found-is-the-lowest-open, nothing-found-is-none-open, rtm-is-64-to-69, unfit-is-none-waiting}
+
+module _ (v : View) (es : List Entry) (same : (i : ℕ) → v .role i ≡ entryAt es i .role) where
+  role-in : (i : ℕ) → getD (roles es) i idle ≡ v .role i
+  role-in i = role-of-entry es i ∙ sym (same i)
+
+  pub found-sole : OneEach v → (id i : ℕ) (o : Inbound) → openIn id 0 (roles es) ≡ Found.At i o → Sole v id i o
+  unfolding FoundIsTheLowestOpen
+  found-sole one id i o e = record { here = here; only = only }
+    where
+      here : OpenIn v id i o
+      here = let ((r, x), l) = found-is-the-lowest-open (roles es) id i o .0 e in (sym (role-in i) ∙ r, x)
+
+      only : (j : ℕ) (m : Inbound) → OpenIn v id j m → (j ≡ i) × (m ≡ o)
+      only j m x =
+          let place : j ≡ i = one id j i m o x here in
+          let role : receiving m ≡ receiving o = sym (x .0) ∙ ap (v .role) place ∙ here .0 in
+          (place, cc)
+
+  pub found-none : (id : ℕ) → openIn id 0 (roles es) ≡ Found.Nothing → (i : ℕ) (o : Inbound) → OpenIn v id i o → ⊥
+  unfolding NothingFoundIsNoneOpen
+  found-none id e i o (r, x) = nothing-found-is-none-open (roles es) id .0 e i o (role-in i ∙ r, x)
+
+  module _ (h : Incoming) where
+    pub fit-none : firstPosted h 0 Fit.Unfit es ≡ Fit.Unfit → (j : ℕ) (r : Receive) → v .role j ≡ waiting r → fits h r ≡ true → ⊥
+    unfolding UnfitIsNoneWaiting
+    fit-none e j r x f = unfit-is-none-waiting h es .0 e j r (sym (same j) ∙ x) f
+
+    pub fit-some : (i : ℕ) (r : Receive) (n : ℕ) → firstPosted h 0 Fit.Unfit es ≡ Fit.To i r n → (v .role i ≡ waiting r) × (fits h r ≡ true)
+    fit-some i r n e = let m = foremost h es i r n e in (same i ∙ m .waits, m .fit)
 
 -- ---- the reader's checks
 
@@ -85,17 +113,9 @@ module _ (area limit : ℕ) (l : Plain) where
 
   -- ---- post, cancel and report
 
-  post-answer : (r : Receive) (out hit : Bool) → ltb area (r .start + r .capacity) ≡ out → anyOverlap r (roles (l .entries)) ≡ hit
-      → expectPost area l r ≡ postAnswer out hit (lowestIdle 0 (roles (l .entries)))
-  unfolding expectPost pick
-  post-answer r true hit x y = simp (x, y)
-  post-answer r false true x y = simp (x, y)
-  post-answer r false false x y = simp (x, y)
-
   post-checked : length (l .entries) ≡ 8 → (r : Receive) → G (checksOf (post r)) (expectPost area l r)
-  post-checked eight r =
-      subst (G (checksOf (post r))) (sym (post-answer r _ _ refl refl))
-      (post-gone area limit v (roles (l .entries)) (λ i. sym (role-of-entry (l .entries) i)) (length-map (l .entries) _ ∙ eight) r _ _ refl refl)
+  unfolding expectPost
+  post-checked eight r = post-gone area limit v (roles (l .entries)) (λ i. sym (role-of-entry (l .entries) i)) (length-map (l .entries) _ ∙ eight) r
 
   cancel-checked : (i : ℕ) → G (checksOf (cancel i)) (expected area limit l (cancel i))
   unfolding expected

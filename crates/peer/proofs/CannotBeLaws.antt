@@ -1,21 +1,25 @@
 -- Refusal 2 of one peer is what 01 says, clause by clause: the statements of specs/CannotBe.antt.
-use Prim.Native.Nat.{ℕ, zero, suc, _+_, _<_}
-use borrow.Author.Tests.{leb-false, lt-leb, eqb-true, eq-eqb}
+use Prim.Native.Nat.{ℕ, suc, _+_, _≤_, _<_}
+use borrow.Author.Tests.{leb-false, eqb-true, eqb-false}
 use lib.Dec.{leb, eqb}
-use mathlib.Core.Bool.{Bool, true, false, not, _&&_, _||_, true≢false, false≢true, and-false, or-true}
+use lib.ListN.{length}
+use mathlib.Core.Bool.{Bool, true, false, not, _&&_, _||_, true≢false, false≢true}
 use mathlib.Core.List.{List, [], _∷_}
 use mathlib.Core.Logic.{_⊎_, _↔_, _≢_, inl, inr, ⊎-elim}
 use mathlib.Core.Path.{_≡_, refl, sym, ap, ap₂, _∙_, subst}
 use native.Mathlib.Omega.{arith}
 use Rattle.peer.specs.CannotBe.{Breaks, CanBeIfNoClauseIsBroken, CannotBeIfAClauseIsBroken, Clause, Uses, grantedAbove, lengthAbove, oneAge, oneId, rangeOutside, rangesOverlap}
 use Rattle.peer.specs.InWords.{HasByte, OverlapIsASharedByte}
-use Rattle.peer.specs.State.{allFit, clash, noneClash, overlap, pairsApart, peerFits, phaseAt, phaseFits}
+use Rattle.peer.specs.State.{allFit, clash, isFree, noneClash, overlap, pairsApart, peerFits, phaseAt, phaseFits}
 use Rattle.peer.specs.View.{UsesRange, roleOf}
+use Rattle.peer.specs.declared.types.Inbound.{Inbound}
 use Rattle.peer.specs.declared.types.Peer.{Peer}
 use Rattle.peer.specs.declared.types.Phase.{Phase}
 use Rattle.peer.specs.declared.types.Receive.{Receive}
 use Rattle.peer.specs.declared.types.Slot.{Slot}
-use Rattle.laws.proofs.Choosing.{or-cases, tested}
+use Rattle.laws.proofs.Choosing.{or-cases, or-right, tested}
+use Rattle.peer.proofs.Slots.{used-slot}
+use Rattle.peer.proofs.Valid.{Valid, Within, fits-valid, open-within, posted-within}
 use Rattle.peer.proofs.WordsHold.{overlap-is-a-shared-byte}
 
 -- ---- from the test that fails to a slot, or to two
@@ -48,36 +52,6 @@ two-clash (s ∷ ss) e =
     ⊎-elim (λ x. let (j, y) = one-clashes (s .phase) ss x in (0, suc j, λ z. omega arith, y))
     (λ x. let (i, j, n, y) = two-clash ss x in (suc i, suc j, λ z. n (omega arith), y))
     (and-fails (noneClash (s .phase) ss) (pairsApart ss) e)
-
--- ---- and back
-
-unfit-one : (area : ℕ) (ss : List Slot) (i : ℕ) → phaseFits area (phaseAt ss i) ≡ false → allFit area ss ≡ false
-unfolding allFit phaseFits
-unfit-one area [] i e = absurd (true≢false e)
-unfit-one area (s ∷ ss) zero e = ap (λ (t : Bool). t && allFit area ss) e
-unfit-one area (s ∷ ss) (suc i) e = ap (λ (t : Bool). phaseFits area (s .phase) && t) (unfit-one area ss i e) ∙ and-false (phaseFits area (s .phase))
-
-free-apart : (f : Phase) → clash f Phase.Free ≡ false
-unfolding clash
-free-apart Phase.Free = refl
-free-apart (Phase.Posted r a) = refl
-free-apart (Phase.Open o) = refl
-
-clashes-one : (f : Phase) (ss : List Slot) (j : ℕ) → clash f (phaseAt ss j) ≡ true → noneClash f ss ≡ false
-unfolding noneClash
-clashes-one f [] j e = absurd (true≢false (sym e ∙ free-apart f))
-clashes-one f (s ∷ ss) zero e = ap (λ (t : Bool). not t && noneClash f ss) e
-clashes-one f (s ∷ ss) (suc j) e = ap (λ (t : Bool). not (clash f (s .phase)) && t) (clashes-one f ss j e) ∙ and-false (not (clash f (s .phase)))
-
-clash-two : (ss : List Slot) (i j : ℕ) → i ≢ j → clash (phaseAt ss i) (phaseAt ss j) ≡ true → clash (phaseAt ss j) (phaseAt ss i) ≡ true
-    → pairsApart ss ≡ false
-unfolding pairsApart
-clash-two [] i j n e d = absurd (true≢false (sym e ∙ free-apart Phase.Free))
-clash-two (s ∷ ss) zero zero n e d = absurd (n refl)
-clash-two (s ∷ ss) zero (suc j) n e d = ap (λ (t : Bool). t && pairsApart ss) (clashes-one (s .phase) ss j e)
-clash-two (s ∷ ss) (suc i) zero n e d = ap (λ (t : Bool). t && pairsApart ss) (clashes-one (s .phase) ss i d)
-clash-two (s ∷ ss) (suc i) (suc j) n e d =
-    ap (λ (t : Bool). noneClash (s .phase) ss && t) (clash-two ss i j (λ x. n (ap suc x)) e d) ∙ and-false (noneClash (s .phase) ss)
 
 -- ---- each way
 
@@ -142,50 +116,41 @@ module _ (area : ℕ) (p : Peer) where
       (λ x. let (i, j, n, y) = two-clash (p .slots) x in clash-breaks i j n (phase i) (phase j) refl refl y)
       (and-fails (allFit area (p .slots)) (pairsApart (p .slots)) e)
 
-  -- a slot that is not as it must be by itself
-  unfit : (i : ℕ) (f : Phase) → phase i ≡ f → phaseFits area f ≡ false → peerFits area p ≡ false
-  unfolding peerFits
-  unfit i f e x = ap (λ (t : Bool). t && pairsApart (p .slots)) (unfit-one area (p .slots) i (ap (phaseFits area) e ∙ x))
+  -- ---- and back: in a peer that can be no clause is broken
 
-  -- two slots that cannot stand together
-  together : (i j : ℕ) (f g : Phase) → i ≢ j → phase i ≡ f → phase j ≡ g → clash f g ≡ true → clash g f ≡ true → peerFits area p ≡ false
-  unfolding peerFits
-  together i j f g n e d x y =
-      ap (λ (t : Bool). allFit area (p .slots) && t) (clash-two (p .slots) i j n (ap₂ clash e d ∙ x) (ap₂ clash d e ∙ y)) ∙ and-false (allFit area (p .slots))
+  used-inside : (i : ℕ) (f : Phase) (r : Receive) → phase i ≡ f → UsesRange (roleOf f) r → i < length (p .slots)
+  used-inside i Phase.Free r e u = absurd u
+  used-inside i (Phase.Posted s a) r e u = used-slot (p .slots) i (ap isFree e)
+  used-inside i (Phase.Open o) r e u = used-slot (p .slots) i (ap isFree e)
 
-  used-outside : (i : ℕ) (f : Phase) (r : Receive) → phase i ≡ f → UsesRange (roleOf f) r → area < r .start + r .capacity → peerFits area p ≡ false
-  unfolding phaseFits
-  used-outside i Phase.Free r e u l = absurd u
-  used-outside i (Phase.Posted s a) r e u l = unfit i (Phase.Posted s a) e (lt-leb (s .start + s .capacity) area (omega (arith, ap (λ (q : Receive). q .start + q .capacity) u)))
-  used-outside i (Phase.Open o) r e u l =
-      unfit i (Phase.Open o) e
-      (ap (λ (t : Bool). t && (leb (o .message .length) (o .receive .capacity) && leb (o .message .granted) (o .message .length)))
-      (lt-leb (o .receive .start + o .receive .capacity) area (omega (arith, ap (λ (q : Receive). q .start + q .capacity) u))))
+  used-within : (f : Phase) (r : Receive) → UsesRange (roleOf f) r → phaseFits area f ≡ true → r .start + r .capacity ≤ area
+  used-within Phase.Free r u x = absurd u
+  used-within (Phase.Posted s a) r u x = subst (λ (q : Receive). q .start + q .capacity ≤ area) u (posted-within area s a x)
+  used-within (Phase.Open o) r u x = subst (λ (q : Receive). q .start + q .capacity ≤ area) u (open-within area o x .inArea)
+
+  module _ (v : Valid area (p .slots)) where
+    within : (i : ℕ) (o : Inbound) → phase i ≡ Phase.Open o → Within area o
+    within i o e = open-within area o (ap (phaseFits area) (sym e) ∙ v .each i)
+
+    apart : (i j : ℕ) (f g : Phase) → i ≢ j → phase i ≡ f → phase j ≡ g → isFree f ≡ false → isFree g ≡ false → clash f g ≡ false
+    apart i j f g n e d x y =
+        ap₂ clash (sym e) (sym d) ∙ v .pairs i j (used-slot (p .slots) i (ap isFree e ∙ x)) (used-slot (p .slots) j (ap isFree d ∙ y)) n
+
+    unbroken : Broken → ⊥
+    unfolding Broken clash
+    unbroken (rangeOutside, (i, r, u, l)) = omega (arith, used-within (phase i) r u (v .each i))
+    unbroken (rangesOverlap, (i, j, n, r, s, a, b, w)) =
+        true≢false (sym (uses-clash (phase i) (phase j) r s a b (overlap-words r s .1 w))
+        ∙ v .pairs i j (used-inside i (phase i) r refl a) (used-inside j (phase j) s refl b) n)
+    unbroken (oneId, (i, j, n, o, q, e, d, x)) =
+        eqb-false _ _ (or-right (overlap (o .receive) (q .receive)) _ (apart i j (Phase.Open o) (Phase.Open q) n e d refl refl)) x
+    unbroken (oneAge, (i, j, n, a, r, s, e, d)) =
+        eqb-false a a (or-right (overlap r s) _ (apart i j (Phase.Posted r a) (Phase.Posted s a) n e d refl refl)) refl
+    unbroken (lengthAbove, (i, o, e, l)) = omega (arith, within i o e .inRange)
+    unbroken (grantedAbove, (i, o, e, l)) = omega (arith, within i o e .inLength)
 
   asked : Broken → peerFits area p ≡ false
-  unfolding Broken phaseFits clash
-  asked (rangeOutside, (i, r, u, l)) = used-outside i (phase i) r refl u l
-  asked (rangesOverlap, (i, j, n, r, s, a, b, (x, y, z))) =
-      together i j (phase i) (phase j) n refl refl (uses-clash (phase i) (phase j) r s a b (overlap-words r s .1 (x, y, z)))
-      (uses-clash (phase j) (phase i) s r b a (overlap-words s r .1 (x, z, y)))
-  asked (oneId, (i, j, n, o, q, e, d, x)) =
-      together i j (Phase.Open o) (Phase.Open q) n e d
-      (ap (λ (t : Bool). overlap (o .receive) (q .receive) || t) (eq-eqb (o .message .id) (q .message .id) x) ∙ or-true (overlap (o .receive) (q .receive)))
-      (ap (λ (t : Bool). overlap (q .receive) (o .receive) || t) (eq-eqb (q .message .id) (o .message .id) (sym x)) ∙ or-true (overlap (q .receive) (o .receive)))
-  asked (oneAge, (i, j, n, a, r, s, e, d)) =
-      together i j (Phase.Posted r a) (Phase.Posted s a) n e d (ap (λ (t : Bool). overlap r s || t) (eq-eqb a a refl) ∙ or-true (overlap r s))
-      (ap (λ (t : Bool). overlap s r || t) (eq-eqb a a refl) ∙ or-true (overlap s r))
-  asked (lengthAbove, (i, o, e, l)) =
-      unfit i (Phase.Open o) e
-      (ap (λ (t : Bool). leb (o .receive .start + o .receive .capacity) area && (t && leb (o .message .granted) (o .message .length)))
-      (lt-leb (o .message .length) (o .receive .capacity) l)
-      ∙ and-false (leb (o .receive .start + o .receive .capacity) area))
-  asked (grantedAbove, (i, o, e, l)) =
-      unfit i (Phase.Open o) e
-      (ap (λ (t : Bool). leb (o .receive .start + o .receive .capacity) area && (leb (o .message .length) (o .receive .capacity) && t))
-      (lt-leb (o .message .granted) (o .message .length) l)
-      ∙ ap (λ (t : Bool). leb (o .receive .start + o .receive .capacity) area && t) (and-false (leb (o .message .length) (o .receive .capacity)))
-      ∙ and-false (leb (o .receive .start + o .receive .capacity) area))
+  asked b = ⊎-elim (λ x. absurd (unbroken (fits-valid area p x) b)) (λ x. x) (tested (peerFits area p))
 
 -- ---- the statements
 

@@ -1,43 +1,18 @@
 -- What the searches over the plain receiver's entries find: the open message under an id, and of the receives that fit the one posted first.
 use Prim.Native.Nat.{ℕ, zero, suc, _+_, _≤_}
 use borrow.Author.Tests.{ltb-true, ltb-false}
-use lib.Dec.{ltb, eqb}
-use lib.ListN.{getD}
+use lib.Dec.{ltb}
 use mathlib.Core.Bool.{true}
 use mathlib.Core.List.{List, [], _∷_}
 use mathlib.Core.Path.{_≡_, sym, ap, _∙_, subst}
 use native.Mathlib.Nat.{le-refl}
 use native.Mathlib.Omega.{arith}
 use Rattle.peer.specs.Matching.{fits, older}
-use Rattle.peer.specs.Plain.{Entry, Role, entryAt, firstHere, firstPosted, idle, openIn, receiving, roles, waiting}
+use Rattle.peer.specs.Plain.{Entry, Role, entryAt, firstHere, firstPosted, idle, receiving, waiting}
 use Rattle.peer.specs.declared.types.Fit.{Fit}
-use Rattle.peer.specs.declared.types.Found.{Found}
-use Rattle.peer.specs.declared.types.Inbound.{Inbound}
 use Rattle.peer.specs.declared.types.Incoming.{Incoming}
 use Rattle.peer.specs.declared.types.Receive.{Receive}
 use Rattle.laws.proofs.Choosing.{branch, pick-either, pick-true}
-use Rattle.peer.proofs.Roles.{role-of-entry}
-
--- ---- the open message under an id
-
-abbrev OpenAt : List Role → Found → Type 0
-OpenAt us (Found.At i o) = getD us i idle ≡ receiving o
-OpenAt us Found.Nothing = Unit {0}
-
-open-from : (all : List Role) (id k : ℕ) (us : List Role) → ((j : ℕ) → getD us j idle ≡ getD all (k + j) idle) → OpenAt all (openIn id k us)
-unfolding openIn
-open-from all id k [] same = tt
-open-from all id k (idle ∷ us) same = open-from all id (suc k) us (λ j. same (suc j) ∙ ap (λ (n : ℕ). getD all n idle) (omega arith))
-open-from all id k (waiting r ∷ us) same = open-from all id (suc k) us (λ j. same (suc j) ∙ ap (λ (n : ℕ). getD all n idle) (omega arith))
-open-from all id k (receiving o ∷ us) same =
-    branch (OpenAt all) (eqb (o .message .id) id) (Found.At k o) (openIn id (suc k) us)
-    (λ x. sym (same 0 ∙ ap (λ (n : ℕ). getD all n idle) (omega arith)))
-    (λ x. open-from all id (suc k) us (λ j. same (suc j) ∙ ap (λ (n : ℕ). getD all n idle) (omega arith)))
-
-pub open-at : (es : List Entry) (id i : ℕ) (o : Inbound) → openIn id 0 (roles es) ≡ Found.At i o → entryAt es i .role ≡ receiving o
-open-at es id i o e =
-    sym (role-of-entry es i)
-    ∙ subst (OpenAt (roles es)) e (open-from (roles es) id 0 (roles es) (λ j. ap (λ (n : ℕ). getD (roles es) n idle) (omega arith)))
 
 -- ---- the receive posted first
 
@@ -52,7 +27,7 @@ abbrev FitsAt : Incoming → List Entry → Fit → Type 0
 FitsAt h es Fit.Unfit = Unit {0}
 FitsAt h es (Fit.To i r serial) = (entryAt es i .role ≡ waiting r) × (serial ≡ entryAt es i .serial) × (fits h r ≡ true)
 
-abbrev AtMost : ℕ → Fit → Type 0
+abbrev pub AtMost : ℕ → Fit → Type 0
 AtMost n Fit.Unfit = ⊥
 AtMost n (Fit.To i r serial) = serial ≤ n
 
@@ -102,7 +77,7 @@ module _ (h : Incoming) where
   most-from n k best [] m = m
   most-from n k best (e ∷ es) m = most-from n (suc k) _ es (most-here n best k (e .role) (e .serial) m)
 
-  most-each : (k : ℕ) (best : Fit) (es : List Entry) (j : ℕ) (r : Receive) → entryAt es j .role ≡ waiting r → fits h r ≡ true
+  pub most-each : (k : ℕ) (best : Fit) (es : List Entry) (j : ℕ) (r : Receive) → entryAt es j .role ≡ waiting r → fits h r ≡ true
       → AtMost (entryAt es j .serial) (firstPosted h k best es)
   unfolding firstPosted
   most-each k best [] j r e x = let z : _≡_ {A = ℕ} 0 1 = cc in absurd (omega arith)

@@ -1,4 +1,5 @@
--- The bytes of a done message: at every offset the byte of the one accepted segment that covers it.
+-- A message is answered done at the packet with which its accepted segments cover every byte, and at no other; a done message has at every
+-- offset the byte of the one accepted segment that covers it.
 use Prim.Native.Nat.{ℕ, zero, suc, _+_, _-_, _<_}
 use lib.ListN.{length, getD}
 use mathlib.Core.Bool.{Bool, true, false, _||_, false≢true, or-true}
@@ -9,8 +10,8 @@ use native.Mathlib.Omega.{arith}
 use Rattle.bitmap.specs.Offsets.{someOf}
 use Rattle.laws.specs.Choose.{pick}
 use Rattle.peer.specs.Calls.{Call}
-use Rattle.peer.specs.Claims.{ByteFrom, BytesBySegments, BytesClaim, history, segmentAt}
-use Rattle.peer.specs.Coverage.{Segment, byteOf, bytesFrom, covers, inside}
+use Rattle.peer.specs.Claims.{ByteFrom, BytesBySegments, BytesClaim, DoneClaim, DoneWhenCovered, Unfinished, history, segmentAt}
+use Rattle.peer.specs.Coverage.{Segment, byteOf, covers, inside}
 use Rattle.peer.specs.Expected.{expected, targetOfCall}
 use Rattle.peer.specs.Plain.{Entry, Plain, Target, entryAt, segmentOf}
 use Rattle.peer.specs.declared.types.Answer.{Answer}
@@ -18,24 +19,33 @@ use Rattle.peer.specs.declared.types.Inbound.{Inbound}
 use Rattle.peer.specs.declared.types.Incoming.{Incoming}
 use Rattle.laws.proofs.Choosing.{clashing, or-left, or-right, pick-false, pick-true}
 use Rattle.peer.proofs.AnswerLaws.{claim-from}
-use Rattle.peer.proofs.CoverageLaws.{all-at, inside-end}
-use Rattle.peer.proofs.HistoryFacts.{Aims, Outcome, begins, bytesOf, goesOn, headOf, outcome}
+use Rattle.peer.proofs.CoverageLaws.{all-at, byte-at, inside-end, length-bytes}
+use Rattle.peer.proofs.HistoryFacts.{Aims, Every, Lasting, Outcome, Partly, begins, bytesOf, every-entry, goesOn, headOf, outcome, taken-role}
 use Rattle.peer.proofs.HistorySerials.{waits}
-use Rattle.peer.proofs.HistorySteps.{Every, Lasting, every-entry}
 use Rattle.peer.proofs.PacketsRead.{read-formed}
 
--- ---- the bytes
+done-claim : (limit : ℕ) (l : Plain) (c : Call) (t : Target) (a : Answer) → Outcome limit l c t a → DoneClaim t a
+done-claim limit l c t a w =
+    claim-from a (λ e u. tt) (λ e x. left x) (λ n e x. left (x .partly))
+    (λ slot id n cq e x. record {
+      message = x .taken .message;
+      covered = record { role = taken-role (x .taken); covered = x .covered };
+      slotIs = x .slotIs;
+      idIs = x .idIs;
+      lengthIs = x .lengthIs;
+    })
+    (λ slot id n e x. tt) w
+  where
+    left : Partly limit l c t → Unfinished t
+    left p = record { message = p .taken .message; covered = record { role = taken-role (p .taken); covered = p .covered } }
 
-length-bytes : (gs : List Segment) (o n : ℕ) → length (bytesFrom gs o n) ≡ n
-unfolding bytesFrom
-length-bytes gs o zero = refl
-length-bytes gs o (suc n) = ap suc (length-bytes gs (suc o) n)
+pub done-when-covered : DoneWhenCovered
+unfolding DoneWhenCovered
+done-when-covered area limit calls c =
+    let l : Plain = history area limit calls in
+    done-claim limit l c (targetOfCall limit l c) (expected area limit l c) (outcome area limit l c)
 
-bytes-at : (gs : List Segment) (o n k : ℕ) → k < n → getD (bytesFrom gs o n) k 0 ≡ byteOf gs (o + k)
-unfolding bytesFrom
-bytes-at gs o zero k h = absurd (omega arith)
-bytes-at gs o (suc n) zero h = ap (byteOf gs) (omega arith)
-bytes-at gs o (suc n) (suc k) h = bytes-at gs (suc o) n k (omega arith) ∙ ap (byteOf gs) (omega arith)
+-- ---- the bytes of a done message
 
 -- ---- segments that share no offset
 
@@ -124,7 +134,7 @@ bytes-claim limit l c t a f w =
       length-bytes (t .entry .segments) 0 n,
       λ o h.
           let at : 0 + o ≡ o = omega arith in
-          subst (ByteFrom (t .entry .segments) o) (sym (bytes-at (t .entry .segments) 0 n o h ∙ ap (byteOf (t .entry .segments)) at))
+          subst (ByteFrom (t .entry .segments) o) (sym (byte-at (t .entry .segments) 0 n o h ∙ ap (byteOf (t .entry .segments)) at))
           (byte-from (t .entry .segments) o (apart-lasts limit .takesIn l c t f (x .taken))
           (ap (covers (t .entry .segments)) (sym at) ∙ all-at (covers (t .entry .segments)) 0 _ o (x .covered) (omega (arith, x .lengthIs)))),
     ))

@@ -1,11 +1,11 @@
 -- An answer taken apart: which packet a call brings, where its segment goes, what was tested on the way, and what is entered. One walk
--- through the tests of the plain receiver.
+-- through the tests of the plain receiver; and what every change of an entry keeps, every history keeps.
 use Prim.Native.Nat.{ℕ, _+_, _≤_, _<_}
 use borrow.Author.Tests.{ltb-true, ltb-false}
 use lib.Dec.{leb, ltb}
 use mathlib.Core.Bool.{Bool, true, false, false≢true}
-use mathlib.Core.List.{List}
-use mathlib.Core.Path.{_≡_, refl}
+use mathlib.Core.List.{List, [], _∷_}
+use mathlib.Core.Path.{_≡_, refl, sym, _∙_, subst}
 use native.Mathlib.Omega.{arith}
 use Rattle.bitmap.specs.Offsets.{someOf}
 use Rattle.laws.specs.Choose.{pick}
@@ -18,14 +18,15 @@ use Rattle.protocol.specs.declared.types.Read.{Read}
 use Rattle.protocol.specs.declared.types.Refusal.{Refusal}
 use Rattle.peer.specs.Answers.{onTaken}
 use Rattle.peer.specs.Calls.{Call, cancel, packet, post, report}
-use Rattle.peer.specs.Claims.{takes}
+use Rattle.peer.specs.Claims.{history, plainAfter, takes}
 use Rattle.peer.specs.Coverage.{allOf, covers}
 use Rattle.peer.specs.Effects.{grantOf, opened}
 use Rattle.peer.specs.Expected.{Ruling, accepting, anyOverlap, enter, expectAgain, expectCancel, expectData, expectFit, expectFound, expectMore, expectNew, expectPacket, expectPlace, expectPost, expectRead, expectReport, expectTaken, expected, lowestIdle, refusing, targetOfCall}
+use Rattle.peer.specs.InWords.{FoundIsTheLowestOpen}
 use Rattle.peer.specs.Incomings.{incomingOf, isLong, isRtm}
 use Rattle.peer.specs.Matching.{ahead}
 use Rattle.peer.specs.Origins.{Origin, noteOrigin}
-use Rattle.peer.specs.Plain.{Plain, Role, Target, begunAt, enterAt, entryAt, firstPosted, grantedEntry, idle, moreAt, noEntry, nowhere, openIn, posted, put, receiving, roles, segmentOf, settle, waiting}
+use Rattle.peer.specs.Plain.{Entry, Plain, Role, Target, begunAt, enterAt, entryAt, firstPosted, freshPlain, grantedEntry, idle, moreAt, noEntry, nowhere, openIn, posted, put, receiving, roles, segmentOf, settle, waiting}
 use Rattle.peer.specs.State.{slotCount}
 use Rattle.peer.specs.declared.types.Answer.{Answer}
 use Rattle.peer.specs.declared.types.Fit.{Fit}
@@ -35,9 +36,12 @@ use Rattle.peer.specs.declared.types.Incoming.{Incoming}
 use Rattle.peer.specs.declared.types.Receive.{Receive}
 use Rattle.peer.specs.declared.types.Vacancy.{Vacancy}
 use Rattle.laws.proofs.Choosing.{and-left, and-right, branch}
+use Rattle.laws.proofs.Listing.{replicate-each, set-each}
 use Rattle.peer.proofs.AnswerLaws.{claim-from, claim-taken}
-use Rattle.peer.proofs.EntrySearch.{Foremost, foremost, open-at}
+use Rattle.peer.proofs.EntrySearch.{Foremost, foremost}
+use Rattle.peer.proofs.Roles.{role-of-entry}
 use Rattle.peer.proofs.Verdicts.{medium-only}
+use Rattle.peer.proofs.WordsHold.{found-is-the-lowest-open}
 
 -- the call brings a packet that is read
 pub record Brings (limit : ℕ) (c : Call) : Type 0 where
@@ -227,7 +231,8 @@ module _ (limit : ℕ) (l : Plain) (bs : List ℕ) (room : ℕ) (q : Packet) (re
   found : (f : Found) → openIn (h .id) 0 (roles (l .entries)) ≡ f → O (expectFound limit l h body f)
   unfolding expectFound
   found (Found.At i o) e =
-      let r = open-at (l .entries) (h .id) i o e in
+      let r : entryAt (l .entries) i .role ≡ receiving o =
+      sym (role-of-entry (l .entries) i) ∙ (unfold FoundIsTheLowestOpen in found-is-the-lowest-open (roles (l .entries)) (h .id) i o .0 e .0 .0) in
       branch O _ _ _ (λ x. again i o r) (λ x. granted i o r)
   found Found.Nothing e = branch O _ _ _ (λ x. fresh x) (λ x. shut late)
 
@@ -289,3 +294,33 @@ pub entered : (area limit : ℕ) (l : Plain) (c : Call)
     → Entered limit l c (targetOfCall limit l c) (expected area limit l c) (enter limit l c (expected area limit l c))
 unfolding enter
 entered area limit l c = walked area limit l c .1
+
+-- ---- what holds of every entry
+
+abbrev pub Every : (Entry → Type 0) → Plain → Type 0
+Every P l = (j : ℕ) → P (entryAt (l .entries) j)
+
+-- an entry's property that each change of an entry keeps
+pub record Lasting (limit : ℕ) (P : Entry → Type 0) : Type 0 where
+  pub unused : P noEntry
+  pub waits : (r : Receive) (serial : ℕ) → P (record { role = waiting r; serial = serial; segments = []; rtm = 0; grants = [] })
+  pub takesIn : (l : Plain) (c : Call) (t : Target) → Every P l → Taken limit l c t → P (t .entry)
+  pub grants : (l : Plain) (c : Call) (t : Target) (n : ℕ) → Granting limit l c t n → P (t .entry) → P (grantedEntry n (t .entry))
+
+module _ (area limit : ℕ) (P : Entry → Type 0) (p : Lasting limit P) where
+  step : (l : Plain) (c : Call) (t : Target) (a : Answer) (l′ : Plain) → Every P l → Entered limit l c t a l′ → Every P l′
+  step l c _ _ _ f (asBefore t a e u) = f
+  step l c _ _ _ f (withPost t i r e) = set-each P (l .entries) i _ noEntry (p .waits r (l .posts)) f
+  step l c _ _ _ f (withCancel t i u) = set-each P (l .entries) i noEntry noEntry (p .unused) f
+  step l c _ _ _ f (withSegment t w) = set-each P (l .entries) (t .index) (t .entry) noEntry (p .takesIn l c t f (w .taken)) f
+  step l c _ _ _ f (withGrant t n w) =
+      set-each P (l .entries) (t .index) (grantedEntry n (t .entry)) noEntry (p .grants l c t n w (p .takesIn l c t f (w .partly .taken))) f
+  step l c _ _ _ f (withEnd t a w k) = set-each P (l .entries) (t .index) noEntry noEntry (p .unused) f
+
+  after : (l : Plain) (calls : List Call) → Every P l → Every P (plainAfter area limit l calls)
+  unfolding plainAfter
+  after l [] f = f
+  after l (c ∷ cs) f = after (enter limit l c (expected area limit l c)) cs (step l c _ _ _ f (entered area limit l c))
+
+  pub every-entry : (calls : List Call) → Every P (history area limit calls)
+  every-entry calls = after freshPlain calls (λ j. subst P (sym (replicate-each slotCount noEntry j)) (p .unused))

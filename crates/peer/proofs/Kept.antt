@@ -31,7 +31,7 @@ use Rattle.bitmap.proofs.BitLaws.{length-cleared, length-marked}
 use Rattle.laws.proofs.Choosing.{or-left, or-neither}
 use Rattle.peer.proofs.Ages.{length-renumbered, older-below, phase-renumbered, valid-renumbered}
 use Rattle.peer.proofs.PacketsRead.{read-formed}
-use Rattle.peer.proofs.Slots.{found-nothing, stands-at, vacant, way-clear}
+use Rattle.peer.proofs.Slots.{found-nothing, vacant, way-clear}
 use Rattle.peer.proofs.StepCases.{StepCase, begins, cancelled, continues, dataOf, posted, refused, reported, step-case, truncated}
 use Rattle.peer.proofs.Valid.{Valid, Within, open-within, posted-within, valid-set, within-open}
 use Rattle.peer.proofs.Verdicts.{Begins, Continues, chosen-at, continued-at}
@@ -123,7 +123,7 @@ begun-standing area p h n i r v form b =
       apart = λ k l m.
           clash-begun r (b .matched .age) (opened r h) (phaseAt (p .slots) k) (λ s. unfold overlap in refl)
           (ap (λ (f : Phase). clash f (phaseAt (p .slots) k)) (sym (at .1)) ∙ v .pairs i k (at .0) l (λ x. m (sym x)))
-          (λ q x y. found-nothing (h .id) 0 (p .slots) (b .matched .unopened) k l q x y);
+          (λ q x y. found-nothing (h .id) (p .slots) (b .matched .unopened) k q x y);
     }
 
 pub continued-standing : (area : ℕ) (p : Peer) (ws : List ℕ) (h : Incoming) (i : ℕ) (o : Inbound) → Valid area (p .slots) → Continues p ws h i o
@@ -143,7 +143,7 @@ placed-kept : (area : ℕ) (p : Peer) (ws : List ℕ) (r : Receive) (i : ℕ) �
 unfolding placed
 placed-kept area p ws r i e v a c =
     quiet-kept area p (placed p r i) ws (Answer.Posted i)
-    (valid-set area all i (Phase.Posted r young) (omega (arith, at .0, length-renumbered (p .slots) (p .slots))) (valid-renumbered area (p .slots) v)
+    (valid-set area all i (Phase.Posted r young) (omega (arith, inside, length-renumbered (p .slots) (p .slots))) (valid-renumbered area (p .slots) v)
     (unfold phaseFits in le-leb (r .start + r .capacity) area a)
     (λ k l n. let l′ : k < length (p .slots) = rw (length-renumbered (p .slots) (p .slots)) at l in
     ap (clash (Phase.Posted r young)) (phase-renumbered (p .slots) (p .slots) k) ∙ apart k l′ (phaseAt (p .slots) k) refl (way-clear r (p .slots) c k)))
@@ -155,8 +155,8 @@ placed-kept area p ws r i e v a c =
     young : ℕ
     young = countPosted (p .slots)
 
-    at : (i < length (p .slots)) × (phaseAt (p .slots) i ≡ Phase.Free)
-    at = stands-at (p .slots) i Phase.Free (vacant 0 (p .slots) i e)
+    inside : i < length (p .slots)
+    inside = vacant (p .slots) i e .0
 
     apart : (k : ℕ) → k < length (p .slots) → (f : Phase) → phaseAt (p .slots) k ≡ f → inTheWay r f ≡ false
         → clash (Phase.Posted r young) (renumberedPhase (p .slots) f) ≡ false

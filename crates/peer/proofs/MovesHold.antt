@@ -1,11 +1,11 @@
--- Each answer of a peer's call leaves what 01 says: the statement of specs/Moves.antt.
-use Prim.Native.Nat.{ℕ, _+_, _*_, _%_, _≤_, _<_}
-use lib.ListN.{length, drop}
+-- Each answer of a peer's call leaves what 01 says: the statements of specs/SlotMoves.antt and specs/Moves.antt.
+use Prim.Native.Nat.{ℕ, _+_, _%_, _≤_, _<_, _*_}
+use lib.ListN.{length, set, length-set, drop}
 use mathlib.Core.Bool.{false, true≢false}
-use mathlib.Core.List.{List}
-use mathlib.Core.Logic.{_⊎_, inl, inr, ⊎-elim}
-use mathlib.Core.Path.{_≡_, refl, sym, ap, _∙_}
+use mathlib.Core.List.{List, []}
+use mathlib.Core.Path.{_≡_, refl, sym, ap, _∙_, subst}
 use native.Mathlib.Omega.{arith}
+use mathlib.Core.Logic.{_⊎_, inl, inr, ⊎-elim}
 use Rattle.bitmap.specs.Map.{cleared, marked}
 use Rattle.protocol.specs.CtsWords.{CtsReadBack}
 use Rattle.protocol.specs.InWords.{headIn}
@@ -13,36 +13,167 @@ use Rattle.protocol.specs.Reading.{readOf}
 use Rattle.protocol.specs.Values.{bytesAt}
 use Rattle.protocol.specs.declared.types.Packet.{Packet}
 use Rattle.protocol.specs.declared.types.Read.{Read}
-use Rattle.peer.specs.Calls.{Call, missingIn, packet, report}
-use Rattle.peer.specs.Effects.{Effect, accept, begun, extended, grantOf, landed, opened, progressOf, quiet, settledAs, truncatedAt, withPhase}
+use Rattle.peer.specs.Calls.{Call, countPosted, missingIn, packet, placed, renumbered, report}
+use Rattle.peer.specs.Coverage.{Segment}
+use Rattle.peer.specs.Effects.{Effect, accept, advance, begun, extended, grantOf, landed, opened, progressOf, quiet, settledAs, truncatedAt, withPhase}
 use Rattle.peer.specs.Formed.{Formed}
+use Rattle.peer.specs.InWords.{NothingFoundIsNoneOpen}
 use Rattle.peer.specs.Incomings.{incomingOf}
+use Rattle.peer.specs.Matching.{oldest, vacancy}
 use Rattle.peer.specs.Moves.{AllIn, Beginning, GoingOn, Moved, MovesAreAsSaid, SomeMissing, Taking}
 use Rattle.peer.specs.PacketBytes.{offsetIn}
-use Rattle.peer.specs.Plain.{idle}
-use Rattle.peer.specs.State.{isFree, phaseAt}
-use Rattle.peer.specs.View.{roleOf}
+use Rattle.peer.specs.Plain.{Entry, idle}
+use Rattle.peer.specs.SlotMoves.{Cancelling, Matching, OnlySlot, Posting, Truncating, Untouched, roleAt}
+use Rattle.peer.specs.State.{isFree, phaseAt, slotWith}
+use Rattle.peer.specs.View.{roleOf, rolesOf, viewOf}
 use Rattle.peer.specs.declared.types.Answer.{Answer}
+use Rattle.peer.specs.declared.types.Fit.{Fit}
 use Rattle.peer.specs.declared.types.Inbound.{Inbound}
 use Rattle.peer.specs.declared.types.Incoming.{Incoming}
 use Rattle.peer.specs.declared.types.Peer.{Peer}
 use Rattle.peer.specs.declared.types.Phase.{Phase}
 use Rattle.peer.specs.declared.types.Progress.{Progress}
 use Rattle.peer.specs.declared.types.Receive.{Receive}
+use Rattle.peer.specs.declared.types.Slot.{Slot}
+use Rattle.peer.specs.declared.types.Vacancy.{Vacancy}
 use Rattle.bitmap.proofs.BitLaws.{length-cleared, length-marked}
 use Rattle.laws.proofs.Comparing.{le-or-lt}
 use Rattle.protocol.proofs.CtsRead.{cts-read-back}
+use Rattle.peer.proofs.Ages.{length-renumbered, phase-renumbered}
+use Rattle.peer.proofs.AnswersChecked.{rtm-of}
 use Rattle.peer.proofs.BitMoves.{Reached, count-listed, first-lowest, match-marked, more-marked, reached}
 use Rattle.peer.proofs.BytesHold.{Says, bytes-told, read-says}
+use Rattle.peer.proofs.EntrySearch.{Foremost, foremost}
 use Rattle.peer.proofs.Kept.{Standing, begun-standing, continued-standing}
 use Rattle.peer.proofs.OriginReplies.{grant-left, grant-some}
 use Rattle.peer.proofs.OriginsHold.{begun-by}
+use Rattle.peer.proofs.PacketChecked.{fits-words}
 use Rattle.peer.proofs.PacketsRead.{read-formed}
-use Rattle.peer.proofs.SlotMovesHold.{free-moves, matching, placed-moves, quiet-lent, set-now, set-only, truncated-moves}
-use Rattle.peer.proofs.Slots.{found-open}
+use Rattle.peer.proofs.Roles.{renumbered-role, open-same, role-of-slot}
+use Rattle.peer.proofs.Slots.{entries-oldest, entriesOf, entry-at, entryOf, found-open, phase-other, phase-same, vacant}
 use Rattle.peer.proofs.StepCases.{StepCase, begins, cancelled, continues, posted, refused, reported, step-case, truncated}
 use Rattle.peer.proofs.Valid.{Valid, fits-valid}
-use Rattle.peer.proofs.Verdicts.{Begins, Continues, chosen-at, continued-at}
+use Rattle.peer.proofs.Verdicts.{Begins, Continues, CutOff, Matched, chosen-at, continued-at}
+use Rattle.peer.proofs.WordsHold.{nothing-found-is-none-open}
+
+-- ---- one slot replaced
+
+module _ (p : Peer) (eight : length (p .slots) ≡ 8) (i : ℕ) (inside : i < length (p .slots)) (f : Phase) where
+  pub set-now : roleOf (phaseAt (set (p .slots) i (slotWith f)) i) ≡ roleOf f
+  set-now = ap roleOf (phase-same (p .slots) i f inside)
+
+  pub set-only : (n : ℕ) → OnlySlot i p (record { next = n; slots = set (p .slots) i (slotWith f) })
+  set-only n =
+      record {
+        inSlots = omega arith;
+        slots = length-set (p .slots) i (slotWith f) ∙ eight;
+        others = λ j x. ap roleOf (phase-other (p .slots) i j f x);
+      }
+
+pub quiet-lent : (p : Peer) (ws : List ℕ) (a : Answer) → Untouched ws (quiet p ws a)
+quiet-lent p ws a = record { words = refl; bytes = refl; reply = refl }
+
+-- ---- posts
+
+pub used-role : (f : Phase) → isFree f ≡ false → roleOf f ≡ idle → ⊥
+used-role Phase.Free e x = true≢false e
+used-role (Phase.Posted r a) e x = let z : _≡_ {A = ℕ} 0 1 = cc in omega arith
+used-role (Phase.Open o) e x = let z : _≡_ {A = ℕ} 0 1 = cc in omega arith
+
+module _ (p : Peer) (ws : List ℕ) (eight : length (p .slots) ≡ 8) where
+  pub placed-moves : (r : Receive) (i : ℕ) → vacancy 0 (p .slots) ≡ Vacancy.Slot i → Posting p ws r i (quiet (placed p r i) ws (Answer.Posted i))
+  unfolding placed
+  placed-moves r i e =
+      record {
+        free = ap roleOf (at .1);
+        lowest = λ j l x. used-role (phaseAt (p .slots) j) (at .2 j l) x;
+        now = set-now q eight′ i inside new;
+        only = record {
+          inSlots = omega (arith, at .0);
+          slots = length-set all i (slotWith new) ∙ eight′;
+          others = λ j x.
+              ap roleOf (phase-other all i j new x ∙ phase-renumbered (p .slots) (p .slots) j) ∙ renumbered-role (p .slots) (phaseAt (p .slots) j);
+        };
+        next = refl;
+        lent = quiet-lent (placed p r i) ws (Answer.Posted i);
+      }
+    where
+      all : List Slot
+      all = renumbered (p .slots) (p .slots)
+
+      new : Phase
+      new = Phase.Posted r (countPosted (p .slots))
+
+      q : Peer
+      q = record { next = p .next; slots = all }
+
+      eight′ : length (q .slots) ≡ 8
+      eight′ = length-renumbered (p .slots) (p .slots) ∙ eight
+
+      at : (i < length (p .slots)) × (phaseAt (p .slots) i ≡ Phase.Free) × ((j : ℕ) → j < i → isFree (phaseAt (p .slots) j) ≡ false)
+      at = vacant (p .slots) i e
+
+      inside : i < length (q .slots)
+      inside = omega (arith, at .0, eight′)
+
+  -- ---- cancels
+
+  pub free-moves : (i : ℕ) → i < length (p .slots) → (roleAt p i ≡ idle → ⊥) → Cancelling p ws i (quiet (withPhase p i Phase.Free) ws (Answer.Cancelled i))
+  free-moves i l n =
+      record {
+        used = n;
+        now = set-now p eight i l Phase.Free;
+        only = set-only p eight i l Phase.Free (p .next);
+        next = refl;
+        lent = quiet-lent (withPhase p i Phase.Free) ws (Answer.Cancelled i);
+      }
+
+  -- ---- matches
+
+  module _ (bs : List ℕ) (h : Incoming) (says : Says bs h) where
+    pub matching : (i : ℕ) (r : Receive) → Matched p h i r → Matching p bs i r
+    unfolding NothingFoundIsNoneOpen
+    matching i r m =
+        record {
+          rtm = rtm-of says (m .rtm);
+          unopened = λ j o x y.
+              nothing-found-is-none-open (rolesOf (p .slots)) (h .id) .0 (sym (open-same (h .id) 0 (p .slots)) ∙ m .unopened) j o
+              (role-of-slot (p .slots) j ∙ x, y ∙ sym (says .id));
+          age = m .age;
+          waits = chosen-at p h i r m .1;
+          fit = fits-words (viewOf p ws) bs h says r .0 (first .fit);
+          oldest = λ j s b x y.
+              let same = entry-at none (p .slots) j ∙ ap (entryOf none) x in
+              subst (λ (n : ℕ). m .age ≤ n) (ap (λ (e : Entry). e .serial) same)
+              (first .first j s (ap (λ (e : Entry). e .role) same) (fits-words (viewOf p ws) bs h says s .1 y));
+        }
+      where
+        none : Inbound → List Segment
+        none o = []
+
+        first : Foremost h (entriesOf none (p .slots)) i r (m .age)
+        first = foremost h (entriesOf none (p .slots)) i r (m .age) (sym (entries-oldest none h 0 Fit.Unfit (p .slots)) ∙ m .chosen)
+
+    pub truncated-moves : (room i : ℕ) → CutOff p h i → Truncating p ws (packet bs room) i (h .id) (h .length) (truncatedAt p ws i h)
+    unfolding truncatedAt
+    truncated-moves room i k =
+        let l = chosen-at p h i (k .receive) (k .matched) .0 in
+        record {
+          text = bs;
+          room = room;
+          call = refl;
+          receive = k .receive;
+          matched = matching i (k .receive) (k .matched);
+          idIs = says .id;
+          lengthIs = says .length (rtm-of says (k .matched .rtm));
+          above = k .tooLong;
+          now = set-now p eight i l Phase.Free;
+          only = set-only p eight i l Phase.Free ((p .next + 1) % 4294967296);
+          next = refl;
+          lent = quiet-lent (advance (withPhase p i Phase.Free)) ws (Answer.Truncated i (h .id) (h .length));
+        }
+
+-- ---- all answers
 
 module _ (limit : ℕ) (p : Peer) (ws : List ℕ) (eight : length (p .slots) ≡ 8) where
   report-moves : (i : ℕ) (o : Inbound) → phaseAt (p .slots) i ≡ Phase.Open o → Moved limit p ws (report i) (quiet p ws (missingIn ws o)) (missingIn ws o)
@@ -191,7 +322,7 @@ module _ (limit : ℕ) (p : Peer) (ws : List ℕ) (eight : length (p .slots) ≡
         settled-moves bs room i o (p .next) (o .receive .start + h .offset) now bytes (continued-at p ws h i o c .0)
         (inr (record {
           receives = ap roleOf (continued-at p ws h i o c .1);
-          id = found-open (h .id) 0 (p .slots) i o (c .found) .1 ∙ says .id;
+          id = found-open (h .id) (p .slots) i o (c .found) .2 ∙ says .id;
           stays = refl;
           bits = more-marked ws bs (o .receive) (o .receive .start + h .offset) (length bytes) (ap (λ (x : ℕ). o .receive .start + x) (says .offset))
               (sym (form .size) ∙ says .size)
@@ -215,15 +346,10 @@ moves-are-as-said area limit p ws c fit eight words = go (step-case area limit p
     v : Valid area (p .slots)
     v = fits-valid area p fit
 
-    used : (f : Phase) → isFree f ≡ false → roleOf f ≡ idle → ⊥
-    used Phase.Free u x = true≢false u
-    used (Phase.Posted r a) u x = let z : _≡_ {A = ℕ} 0 1 = cc in omega arith
-    used (Phase.Open o) u x = let z : _≡_ {A = ℕ} 0 1 = cc in omega arith
-
     go : {c : Call} {f : Effect} → StepCase area limit p ws c f → Moved limit p ws c f (f .answer)
     go (refused c k m) = record { peer = refl; lent = quiet-lent p ws (Answer.Refused k) }
     go (posted r i e a w) = (r, refl, placed-moves p ws eight r i e)
-    go (cancelled i l u) = (refl, free-moves p ws eight i (omega arith) (used (phaseAt (p .slots) i) u))
+    go (cancelled i l u) = (refl, free-moves p ws eight i (omega arith) (used-role (phaseAt (p .slots) i) u))
     go (reported i o e) = report-moves limit p ws eight i o e
     go (truncated bs room q a i j) = unfold truncatedAt in truncated-moves p ws eight bs (incomingOf q) (read-says limit bs q (a .reads)) room i j
     go (begins bs room q a i r b) = begun-moves limit p ws eight area v words bs room q (a .reads) i r b

@@ -3,13 +3,14 @@ use Prim.Native.Nat.{ℕ, zero, suc, _+_, _<_}
 use borrow.Author.Tests.{ltb-true, ltb-false, leb-true, leb-false}
 use lib.Dec.{leb, ltb}
 use lib.ListN.{length, getD}
-use mathlib.Core.Bool.{Bool, true, false, true≢false, false≢true}
+use mathlib.Core.Bool.{true, false, true≢false, false≢true}
 use mathlib.Core.List.{List, [], _∷_}
 use mathlib.Core.Logic.{inl, inr, ⊎-elim}
 use mathlib.Core.Path.{_≡_, refl, sym, ap, _∙_, subst}
 use native.Mathlib.Omega.{arith}
 use Rattle.protocol.specs.Refusals.{badLength, overlaps}
 use Rattle.peer.specs.Calls.{cancel, post, report}
+use Rattle.laws.specs.Choose.{pick}
 use Rattle.peer.specs.Checks.{Check, Fails, checksOf, inUse, noneFree, numberOf}
 use Rattle.peer.specs.Expected.{anyOverlap, expectPlace, lowestIdle}
 use Rattle.peer.specs.InWords.{HasByte}
@@ -21,7 +22,7 @@ use Rattle.peer.specs.declared.types.Answer.{Answer}
 use Rattle.peer.specs.declared.types.Inbound.{Inbound}
 use Rattle.peer.specs.declared.types.Receive.{Receive}
 use Rattle.peer.specs.declared.types.Vacancy.{Vacancy}
-use Rattle.laws.proofs.Choosing.{or-cases, or-left, or-right}
+use Rattle.laws.proofs.Choosing.{branch, or-cases, or-left, or-right}
 use Rattle.peer.proofs.CannotBeLaws.{overlap-words}
 use Rattle.peer.proofs.FirstLaws.{Gone}
 
@@ -86,12 +87,6 @@ placed k (receiving o ∷ us) = not-idle k (receiving o) us (lowestIdle (suc k) 
 
 -- ---- the calls
 
--- "Post: .. 11, 19, 18": by its tests, whether the range ends beyond the area, and whether a used range is in the way, and the lowest free slot
-abbrev pub postAnswer : Bool → Bool → Vacancy → Answer
-postAnswer true hit y = Answer.Refused badLength
-postAnswer false true y = Answer.Refused overlaps
-postAnswer false false y = expectPlace y
-
 module _ (area limit : ℕ) (v : View) where
   -- the view's roles are those of a list of eight
   module _ (us : List Role) (same : (i : ℕ) → v .role i ≡ getD us i idle) (eight : length us ≡ 8) where
@@ -105,12 +100,14 @@ module _ (area limit : ℕ) (v : View) where
     unused : (r : Receive) → anyOverlap r us ≡ false → Fails area limit v (inUse r) → ⊥
     unused r y (i, s, u, w) = overlap-asked r us y i s (subst (λ (x : Role). UsesRange x s) (same i) u) w
 
-    pub post-gone : (r : Receive) (out hit : Bool) → ltb area (r .start + r .capacity) ≡ out → anyOverlap r us ≡ hit
-        → GoneFor area limit v (checksOf (post r)) (postAnswer out hit (lowestIdle 0 us))
-    post-gone r true hit x y = inl (ltb-true _ _ x, refl)
-    post-gone r false true x y = inr (λ l. omega (arith, ltb-false area (r .start + r .capacity) x), inl (used r y, refl))
-    post-gone r false false x y =
-        inr (λ l. omega (arith, ltb-false area (r .start + r .capacity) x), inr (unused r y, place-gone (lowestIdle 0 us) (placed 0 us)))
+    -- "Post: .. 11, 19, 18"
+    pub post-gone : (r : Receive) → GoneFor area limit v (checksOf (post r))
+        (pick (ltb area (r .start + r .capacity)) (Answer.Refused badLength) (pick (anyOverlap r us) (Answer.Refused overlaps) (expectPlace (lowestIdle 0 us))))
+    post-gone r =
+        branch (GoneFor area limit v (checksOf (post r))) _ _ _ (λ x. inl (ltb-true _ _ x, refl)) (λ x.
+        branch (GoneFor area limit v (checksOf (post r))) _ _ _
+        (λ y. inr (λ l. omega (arith, ltb-false area (r .start + r .capacity) x), inl (used r y, refl)))
+        (λ y. inr (λ l. omega (arith, ltb-false area (r .start + r .capacity) x), inr (unused r y, place-gone (lowestIdle 0 us) (placed 0 us)))))
 
   -- 20, where the slot is not below 8
   pub slot-beyond : (i : ℕ) (a : Answer) → leb 8 i ≡ true → said a ≡ say refused (20 ∷ [])

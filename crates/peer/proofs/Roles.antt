@@ -58,15 +58,15 @@ roles-set ss es i f e x y = of-slots ss i ∙ ap₂ (λ (us : List Role) (u : Ro
     of-entries (x ∷ es) (suc i) = ap (λ (us : List Role). x .role ∷ us) (of-entries es i)
 
 -- renumbering changes ages alone
+pub renumbered-role : (all : List Slot) (f : Phase) → roleOf (renumberedPhase all f) ≡ roleOf f
+renumbered-role all Phase.Free = refl
+renumbered-role all (Phase.Posted r a) = refl
+renumbered-role all (Phase.Open o) = refl
+
 pub roles-renumbered : (all ss : List Slot) → rolesOf (renumbered all ss) ≡ rolesOf ss
 unfolding renumbered
 roles-renumbered all [] = refl
-roles-renumbered all (s ∷ ss) = ap₂ (λ (u : Role) (us : List Role). u ∷ us) (same (s .phase)) (roles-renumbered all ss)
-  where
-    same : (f : Phase) → roleOf (renumberedPhase all f) ≡ roleOf f
-    same Phase.Free = refl
-    same (Phase.Posted r a) = refl
-    same (Phase.Open o) = refl
+roles-renumbered all (s ∷ ss) = ap₂ (λ (u : Role) (us : List Role). u ∷ us) (renumbered-role all (s .phase)) (roles-renumbered all ss)
 
 -- ---- the tests
 

@@ -1,180 +1,153 @@
--- What the searches over the slots find, over any list of slots.
-
--- the n-th slot of a list that is numbered from k on is slot i
+-- What the searches through the slots find, by what they find of roles and entries: the open message under an id, the oldest receive that
+-- fits, the lowest free slot. A slot replaced.
 use Prim.Native.Nat.{ℕ, zero, suc, _+_, _<_}
-use borrow.Author.Tests.{eqb-true, eqb-false}
-use lib.Dec.{ltb, eqb}
+use lib.Dec.{ltb}
 use lib.ListN.{length, set}
 use lib.Seq.{getD-set-same, getD-set-other}
-use mathlib.Core.Bool.{Bool, true, false}
+use mathlib.Core.Bool.{true, false, true≢false}
 use mathlib.Core.List.{List, [], _∷_}
-use mathlib.Core.Logic.{_⊎_, inl, inr}
-use mathlib.Core.Path.{_≡_, refl, sym, ap, ap₂, _∙_}
+use mathlib.Core.Path.{_≡_, refl, sym, ap, ap₂, _∙_, subst}
 use native.Mathlib.Omega.{arith}
-use Rattle.laws.specs.Choose.{pick}
 use Rattle.peer.specs.Calls.{someInTheWay}
-use Rattle.peer.specs.Matching.{findOpen, fits, older, olderHere, oldest, openHere, orElse, vacancy}
+use Rattle.peer.specs.Coverage.{Segment}
+use Rattle.peer.specs.InWords.{FoundIsTheLowestOpen, NothingFoundIsNoneOpen}
+use Rattle.peer.specs.Matching.{findOpen, olderHere, oldest, vacancy}
+use Rattle.peer.specs.Plain.{Entry, Role, entryAt, firstHere, firstPosted, noEntry, receiving, roles, waiting}
 use Rattle.peer.specs.State.{freeSlot, inTheWay, isFree, phaseAt, slotWith}
+use Rattle.peer.specs.View.{roleOf, rolesOf}
 use Rattle.peer.specs.declared.types.Fit.{Fit}
-use Rattle.peer.specs.declared.types.Fit.the-variants.{To, Unfit}
 use Rattle.peer.specs.declared.types.Found.{Found}
-use Rattle.peer.specs.declared.types.Found.the-variants.{At, Nothing}
 use Rattle.peer.specs.declared.types.Inbound.{Inbound}
 use Rattle.peer.specs.declared.types.Incoming.{Incoming}
 use Rattle.peer.specs.declared.types.Phase.{Phase}
-use Rattle.peer.specs.declared.types.Phase.the-variants.{Free, Open, Posted}
 use Rattle.peer.specs.declared.types.Receive.{Receive}
 use Rattle.peer.specs.declared.types.Slot.{Slot}
 use Rattle.peer.specs.declared.types.Vacancy.{Vacancy}
-use Rattle.laws.proofs.Choosing.{or-left, or-right}
+use Rattle.laws.proofs.Choosing.{branch, or-left, or-right}
+use Rattle.peer.proofs.EntrySearch.{foremost}
+use Rattle.peer.proofs.Roles.{Ordered, open-same, role-of-slot}
+use Rattle.peer.proofs.WordsHold.{found-is-the-lowest-open, nothing-found-is-none-open}
 
-pub record Stands (ss : List Slot) (k i : ℕ) (f : Phase) : Type 0 where
-  pub place : ℕ
-  pub number : i ≡ k + place
-  pub inList : place < length ss
-  pub phase : phaseAt ss place ≡ f
-
-stands-next : (s : Slot) (ss : List Slot) (k i : ℕ) (f : Phase) → Stands ss (suc k) i f → Stands (s ∷ ss) k i f
-stands-next s ss k i f w =
-    let e : i ≡ suc k + w .place = w .number in
-    record { place = suc (w .place); number = omega arith; inList = omega (arith, w .inList); phase = w .phase }
+-- a used slot stands among the slots
+pub used-slot : (ss : List Slot) (i : ℕ) → isFree (phaseAt ss i) ≡ false → i < length ss
+used-slot [] i e = absurd (true≢false e)
+used-slot (s ∷ ss) zero e = omega arith
+used-slot (s ∷ ss) (suc i) e = let h = used-slot ss i e in omega arith
 
 -- ---- the open message under an id
 
-here-nothing : (id k : ℕ) (f : Phase) → openHere id k f ≡ Found.Nothing → (o : Inbound) → f ≡ Phase.Open o → o .message .id ≡ id → ⊥
-unfolding openHere pick
-here-nothing id k Phase.Free e o p q = let z : _≡_ {A = ℕ} 0 1 = cc in omega arith
-here-nothing id k (Phase.Posted r a) e o p q = let z : _≡_ {A = ℕ} 0 1 = cc in omega arith
-here-nothing id k (Phase.Open m) e o p q = go (eqb (m .message .id) id) refl e
-  where
-    same : m ≡ o
-    same = cc
-
-    go : (b : Bool) → eqb (m .message .id) id ≡ b → pick b (Found.At k m) Found.Nothing ≡ Found.Nothing → ⊥
-    go true x y = let z : _≡_ {A = ℕ} 0 1 = cc in omega arith
-    go false x y = eqb-false (m .message .id) id x (ap (λ (y : Inbound). y .message .id) same ∙ q)
-
-here-at : (id k : ℕ) (f : Phase) (i : ℕ) (o : Inbound) → openHere id k f ≡ Found.At i o → (f ≡ Phase.Open o) × (i ≡ k) × (o .message .id ≡ id)
-unfolding openHere pick
-here-at id k Phase.Free i o e = let z : _≡_ {A = ℕ} 0 1 = cc in absurd (omega arith)
-here-at id k (Phase.Posted r a) i o e = let z : _≡_ {A = ℕ} 0 1 = cc in absurd (omega arith)
-here-at id k (Phase.Open m) i o e = go (eqb (m .message .id) id) refl e
-  where
-    go : (b : Bool) → eqb (m .message .id) id ≡ b → pick b (Found.At k m) Found.Nothing ≡ Found.At i o
-        → (Phase.Open m ≡ Phase.Open o) × (i ≡ k) × (o .message .id ≡ id)
-    go true x y =
-        let same : m ≡ o = cc in
-        let at : i ≡ k = cc in
-        (ap Phase.Open same, at, ap (λ (z : Inbound). z .message .id) (sym same) ∙ eqb-true (m .message .id) id x)
-    go false x y = let z : _≡_ {A = ℕ} 0 1 = cc in absurd (omega arith)
+pub open-phase : (f : Phase) (o : Inbound) → roleOf f ≡ receiving o → f ≡ Phase.Open o
+open-phase Phase.Free o e = let z : _≡_ {A = ℕ} 0 1 = cc in absurd (omega arith)
+open-phase (Phase.Posted r a) o e = let z : _≡_ {A = ℕ} 0 1 = cc in absurd (omega arith)
+open-phase (Phase.Open q) o e = let same : q ≡ o = cc in ap Phase.Open same
 
 -- what is found is open there under the id
-pub found-open : (id k : ℕ) (ss : List Slot) (i : ℕ) (o : Inbound) → findOpen id k ss ≡ Found.At i o → Stands ss k i (Phase.Open o) × (o .message .id ≡ id)
-unfolding findOpen
-found-open id k [] i o e = let z : _≡_ {A = ℕ} 0 1 = cc in absurd (omega arith)
-found-open id k (s ∷ ss) i o e = go (openHere id k (s .phase)) refl (found-open id (suc k) ss i o) e
-  where
-    Rest : Type 0
-    Rest = findOpen id (suc k) ss ≡ Found.At i o → Stands ss (suc k) i (Phase.Open o) × (o .message .id ≡ id)
-
-    go : (f : Found) → openHere id k (s .phase) ≡ f → Rest → orElse f (findOpen id (suc k) ss) ≡ Found.At i o
-        → Stands (s ∷ ss) k i (Phase.Open o) × (o .message .id ≡ id)
-    go (Found.At j m) x rest y =
-        let h = here-at id k (s .phase) i o (x ∙ y) in
-        (record { place = 0; number = omega (arith, h .1); inList = omega arith; phase = h .0 }, h .2)
-    go Found.Nothing x rest y =
-        let w = rest y in
-        (stands-next s ss k i (Phase.Open o) (w .0), w .1)
+pub found-open : (id : ℕ) (ss : List Slot) (i : ℕ) (o : Inbound) → findOpen id 0 ss ≡ Found.At i o
+    → (i < length ss) × (phaseAt ss i ≡ Phase.Open o) × (o .message .id ≡ id)
+unfolding FoundIsTheLowestOpen
+found-open id ss i o e =
+    let ((r, x), l) = found-is-the-lowest-open (rolesOf ss) id i o .0 (sym (open-same id 0 ss) ∙ e) in
+    let at : phaseAt ss i ≡ Phase.Open o = open-phase (phaseAt ss i) o (sym (role-of-slot ss i) ∙ r) in
+    (used-slot ss i (ap isFree at), at, x)
 
 -- where nothing is found, no slot is open under the id
-pub found-nothing : (id k : ℕ) (ss : List Slot) → findOpen id k ss ≡ Found.Nothing → (j : ℕ) → j < length ss → (o : Inbound) → phaseAt ss j ≡ Phase.Open o
-    → o .message .id ≡ id → ⊥
-unfolding findOpen
-found-nothing id k [] e j h o p q = omega arith
-found-nothing id k (s ∷ ss) e zero h o p q = go (openHere id k (s .phase)) refl e
-  where
-    go : (f : Found) → openHere id k (s .phase) ≡ f → orElse f (findOpen id (suc k) ss) ≡ Found.Nothing → ⊥
-    go (Found.At i m) x y = let z : _≡_ {A = ℕ} 0 1 = cc in omega arith
-    go Found.Nothing x y = here-nothing id k (s .phase) x o p q
-found-nothing id k (s ∷ ss) e (suc j) h o p q =
-    go (openHere id k (s .phase)) (λ y. found-nothing id (suc k) ss y j (omega arith) o p q) e
-  where
-    go : (f : Found) → (findOpen id (suc k) ss ≡ Found.Nothing → ⊥) → orElse f (findOpen id (suc k) ss) ≡ Found.Nothing → ⊥
-    go (Found.At i m) rest y = let z : _≡_ {A = ℕ} 0 1 = cc in omega arith
-    go Found.Nothing rest y = rest y
+pub found-nothing : (id : ℕ) (ss : List Slot) → findOpen id 0 ss ≡ Found.Nothing → (j : ℕ) (o : Inbound) → phaseAt ss j ≡ Phase.Open o → o .message .id ≡ id → ⊥
+unfolding NothingFoundIsNoneOpen
+found-nothing id ss e j o p q = nothing-found-is-none-open (rolesOf ss) id .0 (sym (open-same id 0 ss) ∙ e) j o (role-of-slot ss j ∙ ap roleOf p, q)
+
+-- ---- the slots as entries, with their ages as serials, and with the segments of an open message
+
+module _ (segments : Inbound → List Segment) where
+  abbrev pub entryOf : Phase → Entry
+  entryOf Phase.Free = noEntry
+  entryOf (Phase.Posted r a) = record { role = waiting r; serial = a; segments = []; rtm = 0; grants = [] }
+  entryOf (Phase.Open o) = record { role = receiving o; serial = 0; segments = segments o; rtm = 0; grants = [] }
+
+  abbrev pub entriesOf : List Slot → List Entry
+  entriesOf [] = []
+  entriesOf (s ∷ ss) = entryOf (s .phase) ∷ entriesOf ss
+
+  pub entry-at : (ss : List Slot) (j : ℕ) → entryAt (entriesOf ss) j ≡ entryOf (phaseAt ss j)
+  entry-at [] j = refl
+  entry-at (s ∷ ss) zero = refl
+  entry-at (s ∷ ss) (suc j) = entry-at ss j
+
+  pub entry-role : (f : Phase) → entryOf f .role ≡ roleOf f
+  entry-role Phase.Free = refl
+  entry-role (Phase.Posted r a) = refl
+  entry-role (Phase.Open o) = refl
+
+  pub entries-roles : (ss : List Slot) → rolesOf ss ≡ roles (entriesOf ss)
+  entries-roles [] = refl
+  entries-roles (s ∷ ss) = ap₂ (λ (u : Role) (us : List Role). u ∷ us) (sym (entry-role (s .phase))) (entries-roles ss)
+
+  pub entries-ordered : (ss : List Slot) → Ordered ss (entriesOf ss)
+  entries-ordered ss i j r s a b x y =
+      sym (ap₂ (λ (d e : Entry). ltb (d .serial) (e .serial)) (entry-at ss i ∙ ap entryOf x) (entry-at ss j ∙ ap entryOf y))
+
+  pub entries-oldest : (h : Incoming) (k : ℕ) (best : Fit) (ss : List Slot) → oldest h k best ss ≡ firstPosted h k best (entriesOf ss)
+  unfolding oldest firstPosted olderHere firstHere
+  entries-oldest h k best [] = refl
+  entries-oldest h k best (s ∷ ss) =
+      ap (λ (f : Fit). oldest h (suc k) f ss) (here (s .phase)) ∙ entries-oldest h (suc k) (firstHere h best k (entryOf (s .phase) .role) (entryOf (s .phase) .serial)) ss
+    where
+      here : (f : Phase) → olderHere h best k f ≡ firstHere h best k (entryOf f .role) (entryOf f .serial)
+      here Phase.Free = refl
+      here (Phase.Posted r a) = refl
+      here (Phase.Open o) = refl
 
 -- ---- the oldest receive that fits
 
-pub record Fitting (h : Incoming) (ss : List Slot) (k i : ℕ) (r : Receive) (a : ℕ) : Type 0 where
-  pub stands : Stands ss k i (Phase.Posted r a)
-  pub fit : fits h r ≡ true
-
--- the best so far is kept, or the receive at hand takes its place
-better : (h : Incoming) (best : Fit) (k : ℕ) (f : Phase) (i : ℕ) (r : Receive) (a : ℕ) → olderHere h best k f ≡ Fit.To i r a
-    → (best ≡ Fit.To i r a) ⊎ ((f ≡ Phase.Posted r a) × (i ≡ k) × (fits h r ≡ true))
-unfolding olderHere older pick
-better h best k Phase.Free i r a e = inl e
-better h best k (Phase.Open o) i r a e = inl e
-better h best k (Phase.Posted q b) i r a e = go (fits h q) refl e
+pub oldest-fits : (h : Incoming) (ss : List Slot) (i : ℕ) (r : Receive) (a : ℕ) → oldest h 0 Fit.Unfit ss ≡ Fit.To i r a
+    → (i < length ss) × (phaseAt ss i ≡ Phase.Posted r a)
+oldest-fits h ss i r a e =
+    let m = foremost h (entriesOf none ss) i r a (sym (entries-oldest none h 0 Fit.Unfit ss) ∙ e) in
+    let at : phaseAt ss i ≡ Phase.Posted r a = go (phaseAt ss i) (ap (λ (x : Entry). x .role) (sym (entry-at none ss i)) ∙ m .waits)
+    (m .number ∙ ap (λ (x : Entry). x .serial) (entry-at none ss i)) in
+    (used-slot ss i (ap isFree at), at)
   where
-    R : Type 0
-    R = (best ≡ Fit.To i r a) ⊎ ((Phase.Posted q b ≡ Phase.Posted r a) × (i ≡ k) × (fits h r ≡ true))
+    none : Inbound → List Segment
+    none o = []
 
-    taken : fits h q ≡ true → Fit.To k q b ≡ Fit.To i r a → R
-    taken x y =
-        let eq : q ≡ r = cc in
-        let eb : b ≡ a = cc in
-        let ei : i ≡ k = cc in
-        inr (ap₂ Phase.Posted eq eb, ei, ap (fits h) (sym eq) ∙ x)
-
-    by : (best′ : Fit) → best ≡ best′ → fits h q ≡ true → older best′ k q b ≡ Fit.To i r a → R
-    by Fit.Unfit x z y = taken z y
-    by (Fit.To j p c) x z y = pass (ltb b c) refl y
-      where
-        pass : (t : Bool) → ltb b c ≡ t → pick t (Fit.To k q b) (Fit.To j p c) ≡ Fit.To i r a → R
-        pass true u v = taken z v
-        pass false u v = inl (x ∙ v)
-
-    go : (t : Bool) → fits h q ≡ t → pick t (older best k q b) best ≡ Fit.To i r a → R
-    go true x y = by best refl x y
-    go false x y = inl y
-
-pub oldest-fits : (h : Incoming) (k : ℕ) (best : Fit) (ss : List Slot) (i : ℕ) (r : Receive) (a : ℕ) → oldest h k best ss ≡ Fit.To i r a
-    → (best ≡ Fit.To i r a) ⊎ Fitting h ss k i r a
-unfolding oldest
-oldest-fits h k best [] i r a e = inl e
-oldest-fits h k best (s ∷ ss) i r a e = go (oldest-fits h (suc k) (olderHere h best k (s .phase)) ss i r a e)
-  where
-    here : (best ≡ Fit.To i r a) ⊎ ((s .phase ≡ Phase.Posted r a) × (i ≡ k) × (fits h r ≡ true)) → (best ≡ Fit.To i r a) ⊎ Fitting h (s ∷ ss) k i r a
-    here (inl x) = inl x
-    here (inr x) = inr (record { stands = record { place = 0; number = omega (arith, x .1); inList = omega arith; phase = x .0 }; fit = x .2 })
-
-    go : (olderHere h best k (s .phase) ≡ Fit.To i r a) ⊎ Fitting h ss (suc k) i r a → (best ≡ Fit.To i r a) ⊎ Fitting h (s ∷ ss) k i r a
-    go (inl x) = here (better h best k (s .phase) i r a x)
-    go (inr w) = inr (record { stands = stands-next s ss k i (Phase.Posted r a) (w .stands); fit = w .fit })
+    go : (f : Phase) → entryOf none f .role ≡ waiting r → a ≡ entryOf none f .serial → f ≡ Phase.Posted r a
+    go Phase.Free x y = let z : _≡_ {A = ℕ} 0 1 = cc in absurd (omega arith)
+    go (Phase.Posted q b) x y = let same : q ≡ r = cc in ap₂ Phase.Posted same (sym y)
+    go (Phase.Open o) x y = let z : _≡_ {A = ℕ} 0 1 = cc in absurd (omega arith)
 
 -- ---- the lowest free slot
 
-pub vacant : (k : ℕ) (ss : List Slot) (i : ℕ) → vacancy k ss ≡ Vacancy.Slot i → Stands ss k i Phase.Free
-unfolding vacancy pick
-vacant k [] i e = let z : _≡_ {A = ℕ} 0 1 = cc in absurd (omega arith)
-vacant k (s ∷ ss) i e = go (s .phase) refl (vacant (suc k) ss i) e
+-- of slots that are numbered from k on
+abbrev Vacant : List Slot → ℕ → Vacancy → Type 0
+Vacant ss k Vacancy.Full = Unit {0}
+Vacant ss k (Vacancy.Slot i) =
+    (j : ℕ) × (i ≡ k + j) × (j < length ss) × (isFree (phaseAt ss j) ≡ true) × ((x : ℕ) → x < j → isFree (phaseAt ss x) ≡ false)
+
+vacant-from : (k : ℕ) (ss : List Slot) → Vacant ss k (vacancy k ss)
+unfolding vacancy
+vacant-from k [] = tt
+vacant-from k (s ∷ ss) =
+    branch (Vacant (s ∷ ss) k) (isFree (s .phase)) _ _ (λ x. (0, omega arith, omega arith, x, λ y l. absurd (omega arith)))
+    (λ x. go x (vacancy (suc k) ss) (vacant-from (suc k) ss))
   where
-    Rest : Type 0
-    Rest = vacancy (suc k) ss ≡ Vacancy.Slot i → Stands ss (suc k) i Phase.Free
+    go : isFree (s .phase) ≡ false → (v : Vacancy) → Vacant ss (suc k) v → Vacant (s ∷ ss) k v
+    go x Vacancy.Full w = tt
+    go x (Vacancy.Slot i) (j, e, l, free, used) = (suc j, omega arith, omega arith, free, lower)
+      where
+        lower : (y : ℕ) → y < suc j → isFree (phaseAt (s ∷ ss) y) ≡ false
+        lower zero h = x
+        lower (suc y) h = used y (omega arith)
 
-    go : (f : Phase) → s .phase ≡ f → Rest → pick (isFree f) (Vacancy.Slot k) (vacancy (suc k) ss) ≡ Vacancy.Slot i → Stands (s ∷ ss) k i Phase.Free
-    go Phase.Free x rest y =
-        let at : i ≡ k = cc in
-        record { place = 0; number = omega arith; inList = omega arith; phase = x }
-    go (Phase.Posted r a) x rest y = stands-next s ss k i Phase.Free (rest y)
-    go (Phase.Open o) x rest y = stands-next s ss k i Phase.Free (rest y)
+free-phase : (f : Phase) → isFree f ≡ true → f ≡ Phase.Free
+free-phase Phase.Free e = refl
+free-phase (Phase.Posted r a) e = absurd (true≢false (sym e))
+free-phase (Phase.Open o) e = absurd (true≢false (sym e))
 
--- from slot 0 on a slot's number is its place
-pub stands-at : (ss : List Slot) (i : ℕ) (f : Phase) → Stands ss 0 i f → (i < length ss) × (phaseAt ss i ≡ f)
-stands-at ss i f w =
-    let e : i ≡ w .place = omega (arith, w .number) in
-    (omega (arith, w .inList), ap (phaseAt ss) e ∙ w .phase)
+pub vacant : (ss : List Slot) (i : ℕ) → vacancy 0 ss ≡ Vacancy.Slot i
+    → (i < length ss) × (phaseAt ss i ≡ Phase.Free) × ((j : ℕ) → j < i → isFree (phaseAt ss j) ≡ false)
+vacant ss i e =
+    let (j, is, l, free, used) = subst (Vacant ss 0) e (vacant-from 0 ss) in
+    let same : j ≡ i = omega arith in
+    (omega arith, free-phase (phaseAt ss i) (ap (λ (n : ℕ). isFree (phaseAt ss n)) (sym same) ∙ free), λ x h. used x (omega arith))
 
 -- no used range is in the way
 pub way-clear : (r : Receive) (ss : List Slot) → someInTheWay r ss ≡ false → (j : ℕ) → inTheWay r (phaseAt ss j) ≡ false

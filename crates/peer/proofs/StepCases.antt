@@ -1,10 +1,12 @@
--- The cases of a peer's step: what a call may come to, with what the tests have shown. It holds of every peer, also one that cannot be.
+-- The cases of a peer's step: what a call may come to, with what the tests have shown; a refused call leaves all and answers a number of its
+-- call's list. It holds of every peer, also one that cannot be.
 use Prim.Native.Nat.{ℕ, _+_, _≤_, _<_}
 use borrow.Author.Tests.{ltb-false, leb-false}
 use lib.ListN.{getD}
 use mathlib.Core.Bool.{Bool, true, false}
 use mathlib.Core.List.{List}
-use mathlib.Core.Path.{_≡_, refl, ap, subst}
+use mathlib.Core.Path.{_≡_, refl, ap, subst, sym, _∙_}
+use native.Mathlib.Omega.{arith}
 use Rattle.protocol.specs.Reading.{packetIn, readFlags, readLengths, readOf, readSections, readTyped}
 use Rattle.protocol.specs.Refusals.{badLength, badSlot, noSlot, overlaps, shortReply}
 use Rattle.protocol.specs.Sections.{extentOf}
@@ -16,8 +18,10 @@ use Rattle.protocol.specs.declared.table.TypeRow.{TypeRow}
 use Rattle.protocol.specs.declared.types.Packet.{Packet}
 use Rattle.protocol.specs.declared.types.Read.{Read}
 use Rattle.protocol.specs.declared.types.Refusal.{Refusal}
+use Rattle.wire.specs.LittleEndian.{leAt}
 use Rattle.peer.specs.Calls.{Call, cancel, cancelAt, cancelEffect, missingIn, packet, packetEffect, peerStep, placed, placedIn, post, postEffect, readEffect, report, reportAt, reportEffect, someInTheWay}
-use Rattle.peer.specs.Effects.{Effect, accept, begun, carry, quiet, refuse, truncatedAt, withPhase}
+use Rattle.peer.specs.Claims.{takes}
+use Rattle.peer.specs.Effects.{Effect, accept, advance, begun, carry, opened, quiet, refuse, truncatedAt, withPhase}
 use Rattle.peer.specs.Incomings.{incomingOf}
 use Rattle.peer.specs.Judging.{judge}
 use Rattle.peer.specs.Matching.{vacancy}
@@ -30,8 +34,8 @@ use Rattle.peer.specs.declared.types.Phase.{Phase}
 use Rattle.peer.specs.declared.types.Receive.{Receive}
 use Rattle.peer.specs.declared.types.Vacancy.{Vacancy}
 use Rattle.peer.specs.declared.types.Verdict.{Verdict}
-use Rattle.wire.specs.LittleEndian.{leAt}
-use Rattle.laws.proofs.Choosing.{branch}
+use Rattle.laws.proofs.Choosing.{branch, clashing}
+use Rattle.peer.proofs.AnswerLaws.{settled-takes}
 use Rattle.peer.proofs.PacketsRead.{read-formed}
 use Rattle.peer.proofs.Verdicts.{Begins, Continues, CutOff, Judged, Listed, judged}
 
@@ -133,3 +137,24 @@ module _ (area limit : ℕ) (p : Peer) (ws : List ℕ) where
       at Phase.Free e = refused (report i) badSlot refl
       at (Phase.Posted r a) e = refused (report i) badSlot refl
       at (Phase.Open o) e = reported i o e
+
+-- ---- a refusal
+
+-- f is a refusal only by leaving all, with a number that is listed
+abbrev pub Refusing : Peer → List ℕ → List ℕ → Effect → Type 0
+Refusing p ws numbers f = (k : Refusal) → f .answer ≡ Answer.Refused k → (f ≡ refuse p ws k) × (among numbers (k .number) ≡ true)
+
+pub step-refusing : (area limit : ℕ) (p : Peer) (ws : List ℕ) (c : Call) → Refusing p ws (refusalsOf c) (peerStep area limit p ws c)
+unfolding truncatedAt begun accept
+step-refusing area limit p ws c = go (step-case area limit p ws c)
+  where
+    go : {c : Call} {f : Effect} → StepCase area limit p ws c f → Refusing p ws (refusalsOf c) f
+    go (refused c m e) k x =
+        let is : m ≡ k = cc in
+        (ap (refuse p ws) is, ap (λ (n : Refusal). among (refusalsOf c) (n .number)) (sym is) ∙ e)
+    go (posted r i e a w) k x = absurd (let z : _≡_ {A = ℕ} 0 1 = cc in omega arith)
+    go (cancelled i l u) k x = absurd (let z : _≡_ {A = ℕ} 0 1 = cc in omega arith)
+    go (reported i o e) k x = absurd (let z : _≡_ {A = ℕ} 0 1 = cc in omega arith)
+    go (truncated bs room q a i j) k x = absurd (let z : _≡_ {A = ℕ} 0 1 = cc in omega arith)
+    go (begins bs room q a i r b) k x = clashing _ (settled-takes limit (advance p) i (opened r (incomingOf q)) _) (ap takes x)
+    go (continues bs room q a i o j) k x = clashing _ (settled-takes limit p i o _) (ap takes x)

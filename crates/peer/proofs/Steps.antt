@@ -2,13 +2,13 @@
 use Prim.Native.Nat.{ℕ, zero, suc, _+_, _*_, _≤_, _<_}
 use borrow.Author.Tests.{lt-ltb, le-ltb}
 use lib.Dec.{ltb}
-use lib.ListN.{length, set, replicate, List·getD-eq-default}
+use lib.ListN.{length, set, replicate}
 use lib.Seq.{getD-set-same, getD-set-other}
 use mathlib.Core.Bool.{true}
 use mathlib.Core.List.{List, []}
 use mathlib.Core.Logic.{inr}
 use mathlib.Core.Path.{_≡_, refl, sym, ap, ap₂, _∙_, subst}
-use native.Mathlib.Decide.{decLt, ℕ-discrete}
+use native.Mathlib.Decide.{ℕ-discrete}
 use native.Mathlib.Omega.{arith}
 use Rattle.protocol.specs.declared.types.Refusal.{Refusal}
 use Rattle.bitmap.specs.Map.{cleared, marked}
@@ -18,7 +18,7 @@ use Rattle.peer.specs.Effects.{Effect, accept, advance, begun, opened, p
 use Rattle.peer.specs.Expected.{enter, expected}
 use Rattle.peer.specs.Incomings.{incomingOf, isLong}
 use Rattle.peer.specs.Plain.{Entry, Plain, Target, begunAt, enterAt, entryAt, freshPlain, moreAt, nextAfter, noEntry, nowhere, segmentOf, waiting}
-use Rattle.peer.specs.State.{clash, freeSlot, freshPeer, phaseAt, phaseFits, slotCount, slotWith}
+use Rattle.peer.specs.State.{clash, freeSlot, freshPeer, isFree, phaseAt, phaseFits, slotCount, slotWith}
 use Rattle.peer.specs.declared.types.Answer.{Answer}
 use Rattle.peer.specs.declared.types.Inbound.{Inbound}
 use Rattle.peer.specs.declared.types.Incoming.{Incoming}
@@ -27,21 +27,20 @@ use Rattle.peer.specs.declared.types.Phase.{Phase}
 use Rattle.peer.specs.declared.types.Receive.{Receive}
 use Rattle.peer.specs.declared.types.Slot.{Slot}
 use Rattle.laws.proofs.Choosing.{pick-false, pick-true}
-use Rattle.peer.proofs.Accepts.{begun-taken, more-taken, settled-agrees}
+use Rattle.peer.proofs.Entered.{agrees-kept, agrees-set, begun-taken, freed, more-taken, settled-agrees}
 use Rattle.peer.proofs.Ages.{length-renumbered, older-below, order-kept, phase-renumbered}
 use Rattle.peer.proofs.Agreement.{Agrees, Meets, alike-same, begins, cancelled, continues, meets, mirrors, posted, refused, reported, truncated}
 use Rattle.peer.proofs.CoverageLaws.{Bits, Content, Wrote}
-use Rattle.peer.proofs.Entered.{agrees-kept, agrees-set, freed}
 use Rattle.peer.proofs.PacketsRead.{read-formed}
 use Rattle.peer.proofs.Roles.{role-lengths, roles-renumbered, roles-set}
-use Rattle.peer.proofs.Slots.{Stands, phase-other, phase-same, stands-at, vacant}
+use Rattle.peer.proofs.Slots.{phase-other, phase-same, used-slot, vacant}
 use Rattle.peer.proofs.StepCases.{dataOf}
 use Rattle.peer.proofs.Valid.{Valid}
 use Rattle.peer.proofs.Verdicts.{chosen-at}
 
 -- ---- a receive is posted
 
-module _ (p : Peer) (ws : List ℕ) (mem : ℕ → ℕ) (l : Plain) (r : Receive) (i : ℕ) (a : Agrees p ws mem l) (free : Stands (p .slots) 0 i Phase.Free) where
+module _ (p : Peer) (ws : List ℕ) (mem : ℕ → ℕ) (l : Plain) (r : Receive) (i : ℕ) (a : Agrees p ws mem l) (inSlots : i < length (p .slots)) where
   ss : List Slot
   ss = set (renumbered (p .slots) (p .slots)) i (slotWith (Phase.Posted r (countPosted (p .slots))))
 
@@ -50,9 +49,6 @@ module _ (p : Peer) (ws : List ℕ) (mem : ℕ → ℕ) (l : Plain) (r : Receive
 
   es : List Entry
   es = set (l .entries) i e
-
-  inSlots : i < length (p .slots)
-  inSlots = stands-at (p .slots) i Phase.Free free .0
 
   here : (j : ℕ) → j ≡ i → (phaseAt ss j ≡ Phase.Posted r (countPosted (p .slots))) × (entryAt es j .serial ≡ l .posts)
   unfolding ss es e
@@ -86,12 +82,7 @@ module _ (p : Peer) (ws : List ℕ) (mem : ℕ → ℕ) (l : Plain) (r : Receive
   was-open (Phase.Posted q c) o x = absurd (let z : _≡_ {A = ℕ} 0 1 = cc in omega arith)
 
   in-slots : (j : ℕ) (s : Receive) (c : ℕ) → phaseAt (p .slots) j ≡ Phase.Posted s c → j < length (p .slots)
-  in-slots j s c x = elim (decLt j (length (p .slots))) as (λ d. j < length (p .slots)) [
-    | yes h ↦ h
-    | no h ↦
-        let gone : phaseAt (p .slots) j ≡ Phase.Free = ap (λ (t : Slot). t .phase) (List·getD-eq-default (p .slots) freeSlot (omega (arith, h))) in
-        absurd (let z : _≡_ {A = ℕ} 0 1 = cc in omega arith)
-  ]
+  in-slots j s c x = used-slot (p .slots) j (ap isFree x)
 
   -- the age and the number of posts before of a posted receive
   data Dated (j : ℕ) (b : ℕ) : Type 0 where
@@ -181,7 +172,7 @@ module _ (area limit : ℕ) (p : Peer) (ws : List ℕ) (mem mem′ : ℕ → ℕ
       → Agrees (f .peer) (f .words) mem′ (enterAt l c t (f .answer))
   unfolding truncatedAt begun accept
   entered (refused c k) w = shut c k w
-  entered (posted r i e) w = placed-agrees p ws mem′ l r i (same w) (vacant 0 (p .slots) i e)
+  entered (posted r i e) w = placed-agrees p ws mem′ l r i (same w) (vacant (p .slots) i e .0)
   entered (cancelled i h) w =
       agrees-set p ws ws mem′ mem′ l i Phase.Free noEntry (p .next) (l .next) (same w) (freed p ws mem′ l i (omega arith) (same w)) (agrees .next)
   entered (reported i o) w = same w

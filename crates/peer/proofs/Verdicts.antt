@@ -5,7 +5,6 @@ use lib.Dec.{eqb}
 use lib.ListN.{length}
 use mathlib.Core.Bool.{false, false≢true, true}
 use mathlib.Core.List.{List, []}
-use mathlib.Core.Logic.{_⊎_, inl, inr}
 use mathlib.Core.Path.{_≡_, refl, sym, ap, _∙_}
 use native.Mathlib.Omega.{arith}
 use Rattle.bitmap.specs.Map.{touched}
@@ -29,7 +28,7 @@ use Rattle.peer.specs.declared.types.Phase.{Phase}
 use Rattle.peer.specs.declared.types.Receive.{Receive}
 use Rattle.peer.specs.declared.types.Verdict.{Verdict}
 use Rattle.laws.proofs.Choosing.{and-left, and-right, branch}
-use Rattle.peer.proofs.Slots.{Fitting, found-open, oldest-fits, stands-at}
+use Rattle.peer.proofs.Slots.{found-open, oldest-fits}
 use Rattle.peer.proofs.Valid.{Valid, Within, open-within}
 
 -- the packet is matched to the oldest receive that it fits: its id is the next one, and open nowhere
@@ -81,8 +80,7 @@ medium-only m h x long = go (m .shape) (and-left (isMedium (m .shape)) _ (and-ri
 
 pub found-within : (area : ℕ) (p : Peer) (id i : ℕ) (o : Inbound) → Valid area (p .slots) → findOpen id 0 (p .slots) ≡ Found.At i o → Within area o
 found-within area p id i o v e =
-    let at = stands-at (p .slots) i (Phase.Open o) (found-open id 0 (p .slots) i o e .0) in
-    open-within area o (ap (phaseFits area) (sym (at .1)) ∙ v .each i)
+    open-within area o (ap (phaseFits area) (sym (found-open id (p .slots) i o e .1)) ∙ v .each i)
 
 module _ (p : Peer) (ws : List ℕ) (h : Incoming) (n : ℕ) (form : Formed h n) where
   -- a segment of an open message lies in it
@@ -152,11 +150,7 @@ module _ (p : Peer) (ws : List ℕ) (h : Incoming) (n : ℕ) (form : Formed h n)
 -- what a verdict's slot holds
 
 pub chosen-at : (p : Peer) (h : Incoming) (i : ℕ) (r : Receive) (m : Matched p h i r) → (i < length (p .slots)) × (phaseAt (p .slots) i ≡ Phase.Posted r (m .age))
-chosen-at p h i r m = go (oldest-fits h 0 Fit.Unfit (p .slots) i r (m .age) (m .chosen))
-  where
-    go : (Fit.Unfit ≡ Fit.To i r (m .age)) ⊎ Fitting h (p .slots) 0 i r (m .age) → (i < length (p .slots)) × (phaseAt (p .slots) i ≡ Phase.Posted r (m .age))
-    go (inl x) = let z : _≡_ {A = ℕ} 0 1 = cc in absurd (omega arith)
-    go (inr w) = stands-at (p .slots) i (Phase.Posted r (m .age)) (w .stands)
+chosen-at p h i r m = oldest-fits h (p .slots) i r (m .age) (m .chosen)
 
 pub continued-at : (p : Peer) (ws : List ℕ) (h : Incoming) (i : ℕ) (o : Inbound) → Continues p ws h i o → (i < length (p .slots)) × (phaseAt (p .slots) i ≡ Phase.Open o)
-continued-at p ws h i o c = stands-at (p .slots) i (Phase.Open o) (found-open (h .id) 0 (p .slots) i o (c .found) .0)
+continued-at p ws h i o c = let (inside, at, id) = found-open (h .id) (p .slots) i o (c .found) in (inside, at)

@@ -2,9 +2,9 @@
 use Prim.Native.Nat.{ℕ, zero, suc, _+_, _/_, _^_, _<_, min, max}
 use borrow.Author.Tests.{ltb-true, eqb-true, eqb-false, not-true, lt-ltb, le-ltb, eq-eqb}
 use lib.Bits.{bitOr, or-step, or-shr}
-use lib.Dec.{leb, ltb, eqb}
+use lib.Dec.{leb, eqb}
 use lib.ListN.{getD}
-use mathlib.Core.Bool.{Bool, true, false, not, _&&_, _||_, true≢false, false≢true, or-true}
+use mathlib.Core.Bool.{Bool, true, false, not, _&&_, _||_, false≢true, or-true}
 use mathlib.Core.List.{List, [], _∷_}
 use mathlib.Core.Logic.{_⊎_, _↔_, _≢_, inl, inr, ⊎-elim, ⊎-map}
 use mathlib.Core.Path.{_≡_, refl, sym, ap, ap₂, _∙_, subst}
@@ -16,19 +16,18 @@ use Rattle.protocol.specs.declared.table.Shape.{Shape}
 use Rattle.protocol.specs.declared.table.Shape.the-variants.{Cts, CtsData, Eager, LongCts, Medium}
 use Rattle.peer.specs.InWords.{AheadIsTheDistance, EagerIs64And65, EmptyOverlapsNothing, FoundIsTheLowestOpen, LongIs68And69, MediumIs66And67, NothingFoundIsNoneOpen, OpenUnder, OtherMessageDiffers, OverlapIsASharedByte, PlainFitsPlain, RtmIs64To69, SameMessageIsAllEqual, TaggedFitsOutsideIgnore, UnfitIsNoneWaiting}
 use Rattle.peer.specs.Incomings.{isEager, isLong, isMedium, isRtm}
-use Rattle.peer.specs.Matching.{ahead, bothOrNeither, fits, older, sameMedium, sameMessage, sameOutside}
+use Rattle.peer.specs.Matching.{ahead, bothOrNeither, fits, sameMedium, sameMessage, sameOutside}
 use Rattle.peer.specs.PacketBytes.{typeNumber, typeOf, typeSaid}
-use Rattle.peer.specs.Plain.{Entry, Role, entryAt, firstHere, firstPosted, idle, openIn, receiving, waiting}
+use Rattle.peer.specs.Plain.{Role, entryAt, firstPosted, idle, openIn, receiving, waiting}
 use Rattle.peer.specs.State.{overlap}
 use Rattle.peer.specs.declared.types.Fit.{Fit}
 use Rattle.peer.specs.declared.types.Found.{Found}
 use Rattle.peer.specs.declared.types.Inbound.{Inbound}
-use Rattle.peer.specs.declared.types.Incoming.{Incoming}
 use Rattle.peer.specs.declared.types.Receive.{Receive}
-use Rattle.laws.proofs.Choosing.{and-left, and-right, branch, clashing, or-cases, pick-either, pick-false, pick-true, tested}
+use Rattle.laws.proofs.Choosing.{and-left, and-right, branch, clashing, or-cases, pick-false, pick-true, tested}
 use Rattle.laws.proofs.Comparing.{both-tests, eq-words, le-words}
 use Rattle.protocol.proofs.BitWords.{same-bits}
-use Rattle.peer.proofs.EntrySearch.{foremost}
+use Rattle.peer.proofs.EntrySearch.{AtMost, foremost, most-each}
 
 -- ---- ranges
 
@@ -303,43 +302,10 @@ nothing-found-is-none-open us id = (λ e. subst (Searched us id 0) e (searched i
 
 -- ---- the receive that a packet fits
 
-abbrev isFit : Fit → Bool
-isFit Fit.Unfit = false
-isFit (Fit.To i r serial) = true
-
-module _ (h : Incoming) where
-  -- a receive that fits is kept, or another
-  older-fits : (best : Fit) (i : ℕ) (r : Receive) (s : ℕ) → isFit (older best i r s) ≡ true
-  unfolding older
-  older-fits Fit.Unfit i r s = refl
-  older-fits (Fit.To j q t) i r s = pick-either (λ (f : Fit). isFit f ≡ true) (ltb s t) refl refl
-
-  here-stays : (best : Fit) (i : ℕ) (u : Role) (s : ℕ) → isFit best ≡ true → isFit (firstHere h best i u s) ≡ true
-  unfolding firstHere
-  here-stays best i idle s e = e
-  here-stays best i (waiting r) s e = pick-either (λ (f : Fit). isFit f ≡ true) (fits h r) (older-fits best i r s) e
-  here-stays best i (receiving o) s e = e
-
-  stays-fit : (i : ℕ) (best : Fit) (es : List Entry) → isFit best ≡ true → isFit (firstPosted h i best es) ≡ true
-  unfolding firstPosted
-  stays-fit i best [] e = e
-  stays-fit i best (x ∷ es) e = stays-fit (suc i) (firstHere h best i (x .role) (x .serial)) es (here-stays best i (x .role) (x .serial) e)
-
-  waiting-fits : (i : ℕ) (best : Fit) (es : List Entry) (j : ℕ) (r : Receive) → entryAt es j .role ≡ waiting r → fits h r ≡ true
-      → isFit (firstPosted h i best es) ≡ true
-  unfolding firstPosted firstHere
-  waiting-fits i best [] j r e t = let z : _≡_ {A = ℕ} 0 1 = cc in absurd (omega arith)
-  waiting-fits i best (x ∷ es) zero r e t =
-      stays-fit (suc i) (firstHere h best i (x .role) (x .serial)) es
-      (ap (λ (u : Role). isFit (firstHere h best i u (x .serial))) e
-      ∙ ap isFit (pick-true (older best i r (x .serial)) best t)
-      ∙ older-fits best i r (x .serial))
-  waiting-fits i best (x ∷ es) (suc j) r e t = waiting-fits (suc i) (firstHere h best i (x .role) (x .serial)) es j r e t
-
 pub unfit-is-none-waiting : UnfitIsNoneWaiting
 unfolding UnfitIsNoneWaiting
 unfit-is-none-waiting h es = (
-  λ e j r w t. true≢false (sym (waiting-fits h 0 Fit.Unfit es j r w t) ∙ ap isFit e),
+  λ e j r w t. subst (AtMost (entryAt es j .serial)) e (most-each h 0 Fit.Unfit es j r w t),
   λ w. go (firstPosted h 0 Fit.Unfit es) refl w,
 )
   where

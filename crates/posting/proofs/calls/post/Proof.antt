@@ -9,8 +9,7 @@ use Rattle.laws.specs.Choose.{pick}
 use Rattle.laws.proofs.Comparing.{beyond, not-beyond}
 use Rattle.laws.proofs.Listing.{length-mapped}
 use Rattle.peer.specs.Calls.{placedIn, postEffect}
-use Rattle.peer.specs.declared.types.Phase.{Phase}
-use Rattle.peer.proofs.Slots.{stands-at, vacant}
+use Rattle.peer.proofs.Slots.{vacant}
 use Rattle.posting.proofs.calls.post.Statement.{statement}
 use Rattle.posting.proofs.calls.post.Tie as tie
 
@@ -56,7 +55,7 @@ placed-requires : tie.Need-placed-requires
 placed-requires c κs =
     let ss = c .before .before .before .before .before .before .before .before .args .peer .slots in
     let len : length ss ≡ 8 = search length-mapped in
-    omega (arith, len, stands-at ss _ Phase.Free (vacant 0 ss _ (sym (c .before .before .before .find-vacancy .ensures) ∙ c .before .i .given .1)) .0)
+    omega (arith, len, vacant ss _ (sym (c .before .before .before .find-vacancy .ensures) ∙ c .before .i .given .1) .0)
 
 returns-3 : tie.Need-returns-3
 unfolding postEffect placedIn pick
