@@ -6,18 +6,17 @@ use mathlib.Core.List.{List, [], _∷_}
 use mathlib.Core.Path.{_≡_, sym, ap, subst, subst₂}
 use native.Mathlib.Decide.{ℕ-discrete}
 use Rattle.engine.specs.Steps.{World}
-use Rattle.guarantees.specs.Delivery.{AllWrite, OwnRange, Writes, demanded}
+use Rattle.guarantees.specs.Delivery.{AllWrite, OwnRange, Writes}
 use Rattle.lending.specs.Acts.{callOf}
-use Rattle.guarantees.specs.Runs.{Request, Seen, freshWorld, noStarts, seenAt, turnOf}
+use Rattle.guarantees.specs.Runs.{Request, Seen, freshWorld, noStarts, turnOf}
 use Rattle.laws.specs.Choose.{pick}
 use Rattle.peer.specs.Calls.{Call}
-use Rattle.peer.specs.Expected.{enter, expected, targetOfCall}
+use Rattle.peer.specs.Expected.{enter, targetOfCall}
 use Rattle.peer.specs.Origins.{Origin, noOrigins, noteOrigin}
 use Rattle.peer.specs.Plain.{Plain, freshPlain}
-use Rattle.peer.specs.Starts.{noteStart}
 use Rattle.peer.specs.declared.types.Answer.{Answer}
 use Rattle.guarantees.proofs.Seeing.{fresh-tracks}
-use Rattle.guarantees.proofs.Tracking.{Tracks, other-tracks, own-seen, own-writes}
+use Rattle.guarantees.proofs.Tracking.{Tracks, other-stays, own-seen, own-stays, own-writes}
 use Rattle.laws.proofs.Choosing.{pick-false, pick-true}
 use Rattle.peer.proofs.OriginsHold.{Trace, call-traced, fresh-traced}
 
@@ -38,36 +37,20 @@ written p (q ∷ qs) w starts l gs t from = go (ℕ-discrete (q .peer) p) (writt
     noted : Answer → List Origin
     noted a = noteOrigin (targetOfCall (w .engine .limit) l c) gs c a
 
-    own : Request
-    own = record { peer = p; act = q .act }
-
-    is : q .peer ≡ p → own ≡ q
-    is e = ap (λ (n : ℕ). record { peer = n; act = q .act }) (sym e)
-
-    mine : (seenAt p w starts own ≡ demanded (w .engine .area) (w .engine .limit) l c)
-        × Tracks p (turnOf w own .world) (noteStart starts c (turnOf w own .answer)) (entered (expected (w .engine .area) (w .engine .limit) l c))
-        × (turnOf w own .world .engine .area ≡ w .engine .area) × (turnOf w own .world .engine .limit ≡ w .engine .limit)
-        → Rest p qs → AllWrite p (turnOf w own .world) (entered (turnOf w own .answer)) (noted (turnOf w own .answer)) qs
-    mine x rest =
-        subst (λ (a : Answer). AllWrite p (turnOf w own .world) (entered a) (noted a) qs) (sym (ap (λ (s : Seen). s .answer) (x .0)))
-        (rest (turnOf w own .world) _ _ _ (x .1)
-        (call-traced (w .engine .limit) l gs from (w .engine .area) c))
-
     go : Dec (q .peer ≡ p) → Rest p qs
         → (q .peer ≡ p → Writes p w (turnOf w q .world) l gs c (turnOf w q .answer))
         × AllWrite p (turnOf w q .world) (pick (eqb (q .peer) p) (entered (turnOf w q .answer)) l) (pick (eqb (q .peer) p) (noted (turnOf w q .answer)) gs) qs
     go (yes e) rest = (
-      λ x. subst (λ (r : Request). Writes p w (turnOf w r .world) l gs c (turnOf w r .answer)) (is e) (own-writes p w starts l t (q .act) gs from),
+      λ x. own-writes p w starts l t q x gs from,
       subst₂ (λ (m : Plain) (g : List Origin). AllWrite p (turnOf w q .world) m g qs) (sym (pick-true _ _ (eq-eqb (q .peer) p e))) (sym (pick-true _ _ (eq-eqb (q .peer) p e)))
-          (subst (λ (r : Request). AllWrite p (turnOf w r .world) (entered (turnOf w r .answer)) (noted (turnOf w r .answer)) qs) (is e)
-          (mine (own-seen p w starts l t (q .act)) rest)),
+          (subst (λ (a : Answer). AllWrite p (turnOf w q .world) (entered a) (noted a) qs) (sym (ap (λ (s : Seen). s .answer) (own-seen p w starts l t q e)))
+          (rest (turnOf w q .world) _ _ _ (own-stays p w starts l t q e .tracks) (call-traced (w .engine .limit) l gs from (w .engine .area) c))),
     )
-    go (no e) rest =
-        let other = other-tracks p w starts l t q e in (
-          λ x. absurd (e x),
-          subst₂ (λ (m : Plain) (g : List Origin). AllWrite p (turnOf w q .world) m g qs) (sym (pick-false _ _ (ne-eqb (q .peer) p e))) (sym (pick-false _ _ (ne-eqb (q .peer) p e)))
-              (rest (turnOf w q .world) starts l gs (other .0) from),
-        )
+    go (no e) rest = (
+      λ x. absurd (e x),
+      subst₂ (λ (m : Plain) (g : List Origin). AllWrite p (turnOf w q .world) m g qs) (sym (pick-false _ _ (ne-eqb (q .peer) p e))) (sym (pick-false _ _ (ne-eqb (q .peer) p e)))
+          (rest (turnOf w q .world) starts l gs (other-stays p w starts l t q e .tracks) from),
+    )
 
 pub own-range : OwnRange
 unfolding OwnRange

@@ -11,18 +11,15 @@ use Rattle.engine.specs.Left.{world}
 use Rattle.engine.specs.SetUp.{engineOf, peerAt, setUp}
 use Rattle.engine.specs.Steps.{World, wordsOf}
 use Rattle.engine.specs.declared.types.Ready.{Ready}
-use Rattle.guarantees.specs.Delivery.{SeenByHistory, demanded, plainRun}
-use Rattle.lending.specs.Acts.{callOf}
-use Rattle.guarantees.specs.Runs.{Request, Seen, callsOf, freshWorld, noStarts, observe, seenAt, turnOf}
-use Rattle.peer.specs.Expected.{enter, expected}
+use Rattle.guarantees.specs.Delivery.{SeenByHistory, plainRun}
+use Rattle.guarantees.specs.Runs.{Request, Seen, callsOf, freshWorld, noStarts, observe, turnOf}
 use Rattle.peer.specs.Plain.{Plain, freshPlain}
-use Rattle.peer.specs.Starts.{noteStart}
 use Rattle.peer.specs.State.{freeSlot, freshPeer, isFree, phaseAt, slotCount}
 use Rattle.peer.specs.declared.types.Peer.{Peer}
 use Rattle.engine.proofs.WordsHold.{fresh-peer}
 use Rattle.engine.proofs.Worlds.{byteIn}
 use Rattle.guarantees.proofs.SetUps.{fresh-good, fresh-is}
-use Rattle.guarantees.proofs.Tracking.{Tracks, other-tracks, own-seen}
+use Rattle.guarantees.proofs.Tracking.{Stays, Tracks, other-stays, own-seen, own-stays}
 use Rattle.laws.proofs.Choosing.{clashing, pick-false, pick-true}
 use Rattle.peer.proofs.Agreement.{Agrees}
 use Rattle.peer.proofs.Steps.{fresh-agrees, fresh-free}
@@ -35,48 +32,25 @@ Rest p qs =
     → observe p w starts qs ≡ plainRun (w .engine .area) (w .engine .limit) l (callsOf p qs)
 
 -- the numbers stay
-with-numbers : (p : ℕ) (qs : List Request) (w w′ : World) (starts : List ℕ) (l : Plain) → Rest p qs → Tracks p w′ starts l → w′ .engine .area ≡ w .engine .area
-    → w′ .engine .limit ≡ w .engine .limit → observe p w′ starts qs ≡ plainRun (w .engine .area) (w .engine .limit) l (callsOf p qs)
-with-numbers p qs w w′ starts l rest t a b = rest w′ starts l t ∙ ap₂ (λ (m n : ℕ). plainRun m n l (callsOf p qs)) a b
-
-own-call : (p : ℕ) (q : Request) (qs : List Request) (w : World) (starts : List ℕ) (l : Plain) → Rest p qs → Tracks p w starts l → q .peer ≡ p
-    → _≡_ {A = List Seen} (seenAt p w starts q ∷ observe p (turnOf w q .world) (noteStart starts (callOf (q .act)) (turnOf w q .answer)) qs)
-    (plainRun (w .engine .area) (w .engine .limit) l (callOf (q .act) ∷ callsOf p qs))
-unfolding plainRun
-own-call p q qs w starts l rest t e =
-    subst (λ (r : Request). _≡_ {A = List Seen} (seenAt p w starts r ∷ observe p (turnOf w r .world) (noteStart starts (callOf (q .act)) (turnOf w r .answer)) qs)
-    (demanded (w .engine .area) (w .engine .limit) l (callOf (q .act))
-    ∷ plainRun (w .engine .area) (w .engine .limit) (enter (w .engine .limit) l (callOf (q .act)) (expected (w .engine .area) (w .engine .limit) l (callOf (q .act)))) (callsOf p qs)))
-    (ap (λ (n : ℕ). record { peer = n; act = q .act }) (sym e))
-    (go (own-seen p w starts l t (q .act)))
-  where
-    own : Request
-    own = record { peer = p; act = q .act }
-
-    l′ : Plain
-    l′ = enter (w .engine .limit) l (callOf (q .act)) (expected (w .engine .area) (w .engine .limit) l (callOf (q .act)))
-
-    go : (seenAt p w starts own ≡ demanded (w .engine .area) (w .engine .limit) l (callOf (q .act)))
-        × Tracks p (turnOf w own .world) (noteStart starts (callOf (q .act)) (turnOf w own .answer)) l′
-        × (turnOf w own .world .engine .area ≡ w .engine .area) × (turnOf w own .world .engine .limit ≡ w .engine .limit)
-        → _≡_ {A = List Seen} (seenAt p w starts own ∷ observe p (turnOf w own .world) (noteStart starts (callOf (q .act)) (turnOf w own .answer)) qs)
-        (demanded (w .engine .area) (w .engine .limit) l (callOf (q .act)) ∷ plainRun (w .engine .area) (w .engine .limit) l′ (callsOf p qs))
-    go x = ap₂ (λ (s : Seen) (ss : List Seen). s ∷ ss) (x .0) (with-numbers p qs w (turnOf w own .world) _ l′ rest (x .1) (x .2) (x .3))
+with-numbers : (p : ℕ) (qs : List Request) (w w′ : World) (starts : List ℕ) (l : Plain) → Rest p qs → Stays p w w′ starts l
+    → observe p w′ starts qs ≡ plainRun (w .engine .area) (w .engine .limit) l (callsOf p qs)
+with-numbers p qs w w′ starts l rest s = rest w′ starts l (s .tracks) ∙ ap₂ (λ (m n : ℕ). plainRun m n l (callsOf p qs)) (s .area) (s .limit)
 
 observed : (p : ℕ) (qs : List Request) → Rest p qs
-unfolding observe callsOf
-observed p [] w starts l t = unfold plainRun in refl
+unfolding observe callsOf plainRun
+observed p [] w starts l t = refl
 observed p (q ∷ qs) w starts l t = go (ℕ-discrete (q .peer) p) (observed p qs)
   where
     go : Dec (q .peer ≡ p) → Rest p qs → observe p w starts (q ∷ qs) ≡ plainRun (w .engine .area) (w .engine .limit) l (callsOf p (q ∷ qs))
     go (yes e) rest =
         let yes′ : eqb (q .peer) p ≡ true = eq-eqb (q .peer) p e in
-        (pick-true _ _ yes′ ∙ own-call p q qs w starts l rest t e ∙ ap (plainRun (w .engine .area) (w .engine .limit) l) (sym (pick-true _ _ yes′)))
+        pick-true _ _ yes′
+        ∙ ap₂ (λ (s : Seen) (ss : List Seen). s ∷ ss) (own-seen p w starts l t q e) (with-numbers p qs w (turnOf w q .world) _ _ rest (own-stays p w starts l t q e))
+        ∙ ap (plainRun (w .engine .area) (w .engine .limit) l) (sym (pick-true _ _ yes′))
     go (no e) rest =
         let no′ : eqb (q .peer) p ≡ false = ne-eqb (q .peer) p e in
-        let x = other-tracks p w starts l t q e in
-        (pick-false _ _ no′ ∙ with-numbers p qs w (turnOf w q .world) starts l rest (x .0) (x .1) (x .2)
-        ∙ ap (plainRun (w .engine .area) (w .engine .limit) l) (sym (pick-false _ _ no′)))
+        pick-false _ _ no′ ∙ with-numbers p qs w (turnOf w q .world) starts l rest (other-stays p w starts l t q e)
+        ∙ ap (plainRun (w .engine .area) (w .engine .limit) l) (sym (pick-false _ _ no′))
 
 -- after a set-up that was not refused, every peer is tracked from a fresh history on
 pub fresh-tracks : (n area limit p : ℕ) (arena map : List ℕ) → setUp n area limit (length arena) map .started .answer ≡ Ready.Ready → p < n

@@ -45,6 +45,12 @@ pub record Tracks (p : ℕ) (w : World) (starts : List ℕ) (l : Plain) : Type 0
   pub agrees : Agrees (peerAt (w .engine) p) (wordsOf w p) (byteIn w p) l
   pub from : Starts (peerAt (w .engine) p .slots) starts
 
+-- the peer is tracked in the world after a call, too, and the numbers stay
+pub record Stays (p : ℕ) (w w′ : World) (starts : List ℕ) (l : Plain) : Type 0 where
+  pub tracks : Tracks p w′ starts l
+  pub area : w′ .engine .area ≡ w .engine .area
+  pub limit : w′ .engine .limit ≡ w .engine .limit
+
 -- ---- what is seen of a call
 
 -- the reply packet stands at the buffer's start
@@ -165,20 +171,16 @@ module _ (p : ℕ) (w : World) (starts : List ℕ) (l : Plain) (t : Tracks p w s
           ))
           (unfold putBack in yields .done)
 
-  pub own-seen : (seenAt p w starts own ≡ demanded (w .engine .area) (w .engine .limit) l (callOf a))
-      × Tracks p (turnOf w own .world) (noteStart starts (callOf a) (turnOf w own .answer)) (enter (w .engine .limit) l (callOf a) (expected (w .engine .area) (w .engine .limit) l (callOf a)))
-      × (turnOf w own .world .engine .area ≡ w .engine .area) × (turnOf w own .world .engine .limit ≡ w .engine .limit)
-  own-seen = (
-    seen,
-    subst (λ (u : Turn). Tracks p (u .world) (noteStart starts (callOf a) (u .answer)) (enter (w .engine .limit) l (callOf a) (expected (w .engine .area) (w .engine .limit) l (callOf a)))) (sym turn)
-        (unfold putBack in tracked),
-    ap (λ (u : Turn). u .world .engine .area) turn ∙ (unfold putBack in refl),
-    ap (λ (u : Turn). u .world .engine .limit) turn ∙ (unfold putBack in refl),
-  )
+  stays : Stays p w (turnOf w own .world) (noteStart starts (callOf a) (turnOf w own .answer))
+      (enter (w .engine .limit) l (callOf a) (expected (w .engine .area) (w .engine .limit) l (callOf a)))
+  stays =
+      subst (λ (u : Turn). Stays p w (u .world) (noteStart starts (callOf a) (u .answer))
+      (enter (w .engine .limit) l (callOf a) (expected (w .engine .area) (w .engine .limit) l (callOf a)))) (sym turn)
+      (unfold putBack in record { tracks = tracked; area = refl; limit = refl })
 
   -- what it writes, by the peer's origins
-  pub own-writes : (gs : List Origin) → Trace l gs → Writes p w (turnOf w own .world) l gs (callOf a) (turnOf w own .answer)
-  own-writes gs from =
+  writes : (gs : List Origin) → Trace l gs → Writes p w (turnOf w own .world) l gs (callOf a) (turnOf w own .answer)
+  writes gs from =
       subst (λ (u : Turn). Writes p w (u .world) l gs (callOf a) (u .answer)) (sym turn)
       (record {
         at = f .at;
@@ -199,42 +201,57 @@ module _ (p : ℕ) (w : World) (starts : List ℕ) (l : Plain) (t : Tracks p w s
           (outcome (w .engine .area) (w .engine .limit) l (callOf a)) (call-claim (w .engine .limit) l gs from (w .engine .area) (callOf a))
           (subst (λ (x : Answer). WriteClaim (w .engine .area) t′ x (f .at) (f .bytes)) (step .answer) (yields .writes))
 
--- ---- another's call
+module _ (p : ℕ) (w : World) (starts : List ℕ) (l : Plain) (t : Tracks p w starts l) (q : Request) where
+  is : q .peer ≡ p → record { peer = p; act = q .act } ≡ q
+  is e = ap (λ (n : ℕ). record { peer = n; act = q .act }) (sym e)
 
-pub other-tracks : (p : ℕ) (w : World) (starts : List ℕ) (l : Plain) → Tracks p w starts l → (q : Request) → (q .peer ≡ p → ⊥)
-    → Tracks p (turnOf w q .world) starts l × (turnOf w q .world .engine .area ≡ w .engine .area) × (turnOf w q .world .engine .limit ≡ w .engine .limit)
-unfolding turnOf
-other-tracks p w starts l t q d = elim (decLt (q .peer) (w .engine .n)) as (λ x. Kept′) [
-  | yes h ↦ subst Fine (sym (turn-own w (t .good) (q .peer) h (callOf (q .act)))) (made h)
-  | no h ↦ subst Fine (sym (turn-none w (t .good) (q .peer) (omega (arith, h)) (callOf (q .act)))) (t, refl, refl)
-]
-  where
-    Fine : Turn → Type 0
-    Fine u = Tracks p (u .world) starts l × (u .world .engine .area ≡ w .engine .area) × (u .world .engine .limit ≡ w .engine .limit)
+  pub own-seen : q .peer ≡ p → seenAt p w starts q ≡ demanded (w .engine .area) (w .engine .limit) l (callOf (q .act))
+  own-seen e = subst (λ (r : Request). seenAt p w starts r ≡ demanded (w .engine .area) (w .engine .limit) l (callOf (q .act))) (is e) (seen p w starts l t (q .act))
 
-    Kept′ : Type 0
-    Kept′ = Fine (callTurn w (q .peer) (callOf (q .act)))
+  pub own-stays : q .peer ≡ p → Stays p w (turnOf w q .world) (noteStart starts (callOf (q .act)) (turnOf w q .answer))
+      (enter (w .engine .limit) l (callOf (q .act)) (expected (w .engine .area) (w .engine .limit) l (callOf (q .act))))
+  own-stays e =
+      subst (λ (r : Request). Stays p w (turnOf w r .world) (noteStart starts (callOf (q .act)) (turnOf w r .answer))
+      (enter (w .engine .limit) l (callOf (q .act)) (expected (w .engine .area) (w .engine .limit) l (callOf (q .act))))) (is e) (stays p w starts l t (q .act))
 
-    made : q .peer < w .engine .n → Fine (putBack w (q .peer) (peerStep (w .engine .area) (w .engine .limit) (peerAt (w .engine) (q .peer)) (wordsOf w (q .peer)) (callOf (q .act))))
-    made h = (
-      record {
-        good = good-turn w (t .good) (q .peer) h _ k;
-        below = unfold putBack in t .below;
-        agrees = subst₂ (λ (x : Peer) (ws : List ℕ). Agrees x ws (byteIn (putBack w (q .peer) f .world) p) l)
-            (sym (peer-other w (t .good) (q .peer) h f k p e)) (sym (words-other w (t .good) (q .peer) h f k p (t .below) e))
-            (agrees-kept (w .engine .area) (peerAt (w .engine) p) (wordsOf w p) (byteIn w p) (byteIn (putBack w (q .peer) f .world) p) l (t .good .each p (t .below))
-            (byte-other w (t .good) (q .peer) h f k p e) (t .agrees));
-        from = subst (λ (x : Peer). Starts (x .slots) starts) (sym (peer-other w (t .good) (q .peer) h f k p e)) (t .from);
-      },
-      unfold putBack in refl,
-      unfold putBack in refl,
-    )
-      where
-        e : p ≡ q .peer → ⊥
-        e x = d (sym x)
+  pub own-writes : q .peer ≡ p → (gs : List Origin) → Trace l gs → Writes p w (turnOf w q .world) l gs (callOf (q .act)) (turnOf w q .answer)
+  own-writes e gs from =
+      subst (λ (r : Request). Writes p w (turnOf w r .world) l gs (callOf (q .act)) (turnOf w r .answer)) (is e) (writes p w starts l t (q .act) gs from)
 
-        f : Effect
-        f = peerStep (w .engine .area) (w .engine .limit) (peerAt (w .engine) (q .peer)) (wordsOf w (q .peer)) (callOf (q .act))
+  -- ---- another's call
 
-        k : Kept (w .engine .area) (peerAt (w .engine) (q .peer)) (wordsOf w (q .peer)) f
-        k = kept w (t .good) (q .peer) h (callOf (q .act))
+  pub other-stays : (q .peer ≡ p → ⊥) → Stays p w (turnOf w q .world) starts l
+  unfolding turnOf
+  other-stays d = elim (decLt (q .peer) (w .engine .n)) as (λ x. Fine (callTurn w (q .peer) (callOf (q .act)))) [
+    | yes h ↦ subst Fine (sym (turn-own w (t .good) (q .peer) h (callOf (q .act)))) (made h)
+    | no h ↦ subst Fine (sym (turn-none w (t .good) (q .peer) (omega (arith, h)) (callOf (q .act)))) (record { tracks = t; area = refl; limit = refl })
+  ]
+    where
+      Fine : Turn → Type 0
+      Fine u = Stays p w (u .world) starts l
+
+      f : Effect
+      f = peerStep (w .engine .area) (w .engine .limit) (peerAt (w .engine) (q .peer)) (wordsOf w (q .peer)) (callOf (q .act))
+
+      made : q .peer < w .engine .n → Fine (putBack w (q .peer) f)
+      made h =
+          unfold putBack in
+          record {
+            tracks = record {
+              good = good-turn w (t .good) (q .peer) h f k;
+              below = t .below;
+              agrees = subst₂ (λ (x : Peer) (ws : List ℕ). Agrees x ws (byteIn (putBack w (q .peer) f .world) p) l)
+                  (sym (peer-other w (t .good) (q .peer) h f k p e)) (sym (words-other w (t .good) (q .peer) h f k p (t .below) e))
+                  (agrees-kept (w .engine .area) (peerAt (w .engine) p) (wordsOf w p) (byteIn w p) (byteIn (putBack w (q .peer) f .world) p) l (t .good .each p (t .below))
+                  (byte-other w (t .good) (q .peer) h f k p e) (t .agrees));
+              from = subst (λ (x : Peer). Starts (x .slots) starts) (sym (peer-other w (t .good) (q .peer) h f k p e)) (t .from);
+            };
+            area = refl;
+            limit = refl;
+          }
+        where
+          e : p ≡ q .peer → ⊥
+          e x = d (sym x)
+
+          k : Kept (w .engine .area) (peerAt (w .engine) (q .peer)) (wordsOf w (q .peer)) f
+          k = kept w (t .good) (q .peer) h (callOf (q .act))

@@ -16,7 +16,6 @@ use Rattle.protocol.specs.Says.{readSays}
 use Rattle.protocol.specs.Values.{bytesAt, valuesIn}
 use Rattle.protocol.specs.declared.types.Packet.{Packet}
 use Rattle.protocol.specs.declared.types.Read.{Read}
-use Rattle.protocol.specs.declared.types.Refusal.{Refusal}
 use Rattle.peer.specs.Calls.{Call, cancel, packet, post, report}
 use Rattle.peer.specs.Checks.{AnswersAreChecked, Check, Fails, checksOf, judgedChecks, numberOf, unread}
 use Rattle.peer.specs.Claims.{AreBytes}
@@ -25,9 +24,9 @@ use Rattle.peer.specs.Effects.{opened}
 use Rattle.peer.specs.Expected.{Ruling, expectAgain, expectCancel, expectData, expectFit, expectFound, expectMore, expectNew, expectPacket, expectPost, expectRead, expectReport, expectTaken, expected}
 use Rattle.peer.specs.InWords.{FoundIsTheLowestOpen, NothingFoundIsNoneOpen, RtmIs64To69, UnfitIsNoneWaiting}
 use Rattle.peer.specs.Incomings.{incomingOf, isRtm}
-use Rattle.peer.specs.Matching.{ahead, fits}
+use Rattle.peer.specs.Matching.{ahead}
 use Rattle.peer.specs.PacketBytes.{Rtm, idIn, typeIn}
-use Rattle.peer.specs.Plain.{Entry, Plain, Role, entryAt, firstPosted, idle, openIn, receiving, roles, segmentOf, waiting}
+use Rattle.peer.specs.Plain.{Plain, Role, entryAt, firstPosted, idle, openIn, receiving, roles, segmentOf, waiting}
 use Rattle.peer.specs.Says.{refused, said, say}
 use Rattle.peer.specs.View.{OneEach, OpenIn, View, viewIn}
 use Rattle.peer.specs.declared.types.Answer.{Answer}
@@ -47,51 +46,7 @@ use Rattle.peer.proofs.PostChecked.{GoneFor, Unrefused, cancel-free, ca
 use Rattle.peer.proofs.Roles.{role-of-entry}
 use Rattle.peer.proofs.WordsHold.{found-is-the-lowest-open, nothing-found-is-none-open, rtm-is-64-to-69, unfit-is-none-waiting}
 
-module _ (v : View) (es : List Entry) (same : (i : ℕ) → v .role i ≡ entryAt es i .role) where
-  role-in : (i : ℕ) → getD (roles es) i idle ≡ v .role i
-  role-in i = role-of-entry es i ∙ sym (same i)
-
-  pub found-sole : OneEach v → (id i : ℕ) (o : Inbound) → openIn id 0 (roles es) ≡ Found.At i o → Sole v id i o
-  unfolding FoundIsTheLowestOpen
-  found-sole one id i o e = record { here = here; only = only }
-    where
-      here : OpenIn v id i o
-      here = let ((r, x), l) = found-is-the-lowest-open (roles es) id i o .0 e in (sym (role-in i) ∙ r, x)
-
-      only : (j : ℕ) (m : Inbound) → OpenIn v id j m → (j ≡ i) × (m ≡ o)
-      only j m x =
-          let place : j ≡ i = one id j i m o x here in
-          let role : receiving m ≡ receiving o = sym (x .0) ∙ ap (v .role) place ∙ here .0 in
-          (place, cc)
-
-  pub found-none : (id : ℕ) → openIn id 0 (roles es) ≡ Found.Nothing → (i : ℕ) (o : Inbound) → OpenIn v id i o → ⊥
-  unfolding NothingFoundIsNoneOpen
-  found-none id e i o (r, x) = nothing-found-is-none-open (roles es) id .0 e i o (role-in i ∙ r, x)
-
-  module _ (h : Incoming) where
-    pub fit-none : firstPosted h 0 Fit.Unfit es ≡ Fit.Unfit → (j : ℕ) (r : Receive) → v .role j ≡ waiting r → fits h r ≡ true → ⊥
-    unfolding UnfitIsNoneWaiting
-    fit-none e j r x f = unfit-is-none-waiting h es .0 e j r (sym (same j) ∙ x) f
-
-    pub fit-some : (i : ℕ) (r : Receive) (n : ℕ) → firstPosted h 0 Fit.Unfit es ≡ Fit.To i r n → (v .role i ≡ waiting r) × (fits h r ≡ true)
-    fit-some i r n e = let m = foremost h es i r n e in (same i ∙ m .waits, m .fit)
-
--- ---- the reader's checks
-
--- the packet is refused by the reader, or read; what stands behind the reader's checks is gone through if it is read
-pub read-gone : (area limit : ℕ) (v : View) (bs : List ℕ) (a : Answer) (d : Read) → readOf false limit bs ≡ d
-    → ((k : Refusal) → d ≡ Read.Refused k → a ≡ Answer.Refused k)
-    → ((q : Packet) → d ≡ Read.Packet q → GoneFor area limit v (judgedChecks bs) a)
-    → GoneFor area limit v (map (unread bs) readerChecks ++ judgedChecks bs) a
-unfolding RefusedByFirstToFail ReadIfNoneFails
-read-gone area limit v bs a (Read.Refused k) e f g =
-    let (i, l, n, (x, b)) = refused-by-first-to-fail false limit bs (k .number) .0 (ap (readSays bs) e) in
-    gone-at (Fails area limit v) numberOf (unread bs) readerChecks (judgedChecks bs) wrongLengths (said a) i l x b
-    (ap said (f k refl) ∙ ap (λ (m : ℕ). say refused (m ∷ [])) (sym n))
-read-gone area limit v bs a (Read.Packet q) e f g =
-    gone-past (Fails area limit v) numberOf (unread bs) readerChecks (judgedChecks bs) (said a) (read-if-none-fails false limit bs .0 (valuesIn q bs, ap (readSays bs) e)) (g q refl)
-
--- ---- the type
+-- ---- the type of a packet
 
 pub rtm-of : {bs : List ℕ} {h : Incoming} → Says bs h → isRtm (h .shape) ≡ true → Rtm bs
 unfolding RtmIs64To69
@@ -160,11 +115,23 @@ module _ (area limit : ℕ) (l : Plain) where
     abbrev J : Ruling → Type 0
     J x = G (judgedChecks bs) (x .answer)
 
+    -- the one message that is open under the packet's id, or none
     sole : (i : ℕ) (o : Inbound) → openIn (h .id) 0 (roles (l .entries)) ≡ Found.At i o → Sole v (idIn bs) i o
-    sole i o x = subst (λ (id : ℕ). Sole v id i o) (says .id) (found-sole v (l .entries) (λ i. refl) one (h .id) i o x)
+    unfolding FoundIsTheLowestOpen
+    sole i o e = subst (λ (id : ℕ). Sole v id i o) (says .id) (record { here = here; only = only })
+      where
+        here : OpenIn v (h .id) i o
+        here = let ((r, x), w) = found-is-the-lowest-open (roles (l .entries)) (h .id) i o .0 e in (sym (role-of-entry (l .entries) i) ∙ r, x)
+
+        only : (j : ℕ) (m : Inbound) → OpenIn v (h .id) j m → (j ≡ i) × (m ≡ o)
+        only j m x =
+            let place : j ≡ i = one (h .id) j i m o x here in
+            let role : receiving m ≡ receiving o = sym (x .0) ∙ ap (v .role) place ∙ here .0 in
+            (place, cc)
 
     none : openIn (h .id) 0 (roles (l .entries)) ≡ Found.Nothing → (i : ℕ) (o : Inbound) → OpenIn v (idIn bs) i o → ⊥
-    none x = subst (λ (id : ℕ). (i : ℕ) (o : Inbound) → OpenIn v id i o → ⊥) (says .id) (found-none v (l .entries) (λ i. refl) (h .id) x)
+    unfolding NothingFoundIsNoneOpen
+    none e i o (r, x) = nothing-found-is-none-open (roles (l .entries)) (h .id) .0 e i o (role-of-entry (l .entries) i ∙ r, x ∙ sym (says .id))
 
     -- the answer to one segment more
     abbrev more : ℕ → Inbound → Answer
@@ -194,7 +161,7 @@ module _ (area limit : ℕ) (l : Plain) where
 
     -- "if not open, 15, 12, 13"
     new : Rtm bs → ((i : ℕ) (o : Inbound) → OpenIn v (idIn bs) i o → ⊥) → J (expectNew limit l h body)
-    unfolding expectNew expectFit
+    unfolding expectNew expectFit UnfitIsNoneWaiting
     new w n =
         branch J _ _ _ (λ x. new-late area limit v bs h says (Answer.Refused late) w n small octets (ltb-true _ _ x) refl)
         (λ x.
@@ -205,12 +172,12 @@ module _ (area limit : ℕ) (l : Plain) where
         fits-at : ahead (h .id) (l .next) < 2 ^ 31 → ahead (h .id) (l .next) ≡ 0 → (f : Fit) → firstPosted h 0 Fit.Unfit (l .entries) ≡ f
             → J (expectFit limit h body f)
         fits-at b z Fit.Unfit x =
-            new-unfit area limit v bs h says (Answer.Refused noReceive) w n small octets b z (fit-none v (l .entries) (λ i. refl) h x) refl
+            new-unfit area limit v bs h says (Answer.Refused noReceive) w n small octets b z (λ j r y f. unfit-is-none-waiting h (l .entries) .0 x j r y f) refl
         fits-at b z (Fit.To i r serial) x =
-            let (role, f) = fit-some v (l .entries) (λ i. refl) h i r serial x in
+            let m = foremost h (l .entries) i r serial x in
             branch J _ _ _
-            (λ y. new-fits area limit v bs h says (Answer.Truncated i (h .id) (h .length)) w n small octets b z i r role f (λ u. let z : _≡_ {A = ℕ} 0 1 = cc in omega arith))
-            (λ y. new-fits area limit v bs h says (expectTaken limit i (opened r h) (segmentOf h body ∷ [])) w n small octets b z i r role f
+            (λ y. new-fits area limit v bs h says (Answer.Truncated i (h .id) (h .length)) w n small octets b z i r (m .waits) (m .fit) (λ u. let z : _≡_ {A = ℕ} 0 1 = cc in omega arith))
+            (λ y. new-fits area limit v bs h says (expectTaken limit i (opened r h) (segmentOf h body ∷ [])) w n small octets b z i r (m .waits) (m .fit)
             (takes-unrefused (expectTaken limit i (opened r h) (segmentOf h body ∷ [])) (expect-takes limit i (opened r h) (segmentOf h body ∷ []))))
 
     judged : J (expectFound limit l h body (openIn (h .id) 0 (roles (l .entries))))
@@ -224,18 +191,20 @@ module _ (area limit : ℕ) (l : Plain) where
 
   packet-checked : OneEach (viewIn l) → l .next < 2 ^ 32 → (bs : List ℕ) (room : ℕ) → ((i : ℕ) → getD bs i 0 < 256)
       → G (checksOf (packet bs room)) (expected area limit l (packet bs room))
-  unfolding expected expectPacket expectRead
+  unfolding expected expectPacket expectRead RefusedByFirstToFail ReadIfNoneFails
   packet-checked one small bs room octets =
       branch (λ (x : Ruling). G (checksOf (packet bs room)) (x .answer)) _ _ _ (λ x. inl (ltb-true _ _ x, refl))
       (λ x. inr (λ y. omega (arith, ltb-false room 24 x), read (readOf false limit bs) refl))
     where
+      -- the reader's checks, then the judgement's
       read : (d : Read) → readOf false limit bs ≡ d → G (map (unread bs) readerChecks ++ judgedChecks bs) (expectRead limit l bs d .answer)
       read (Read.Refused k) e =
-          read-gone area limit v bs (Answer.Refused k) (Read.Refused k) e (λ m x. let same : k ≡ m = cc in ap Answer.Refused same)
-          (λ q x. let z : _≡_ {A = ℕ} 0 1 = cc in absurd (omega arith))
+          let (i, w, n, (x, b)) = refused-by-first-to-fail false limit bs (k .number) .0 (ap (readSays bs) e) in
+          gone-at (Fails area limit v) numberOf (unread bs) readerChecks (judgedChecks bs) wrongLengths (said (Answer.Refused k)) i w x b
+          (ap (λ (m : ℕ). say refused (m ∷ [])) (sym n))
       read (Read.Packet q) e =
-          read-gone area limit v bs (expectRead limit l bs (Read.Packet q) .answer) (Read.Packet q) e
-          (λ m x. let z : _≡_ {A = ℕ} 0 1 = cc in absurd (omega arith)) (λ q′ x. judged one small bs octets q e)
+          gone-past (Fails area limit v) numberOf (unread bs) readerChecks (judgedChecks bs) (said (expectRead limit l bs (Read.Packet q) .answer))
+          (read-if-none-fails false limit bs .0 (valuesIn q bs, ap (readSays bs) e)) (judged one small bs octets q e)
 
   pub answer-checked : (c : Call) → OneEach (viewIn l) → length (l .entries) ≡ 8 → l .next < 2 ^ 32 → AreBytes c → G (checksOf c) (expected area limit l c)
   answer-checked (post r) one eight small b = unfold expected in post-checked eight r

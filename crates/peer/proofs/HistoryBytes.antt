@@ -3,9 +3,9 @@
 use Prim.Native.Nat.{ℕ, zero, suc, _+_, _-_, _<_}
 use lib.ListN.{length, getD}
 use mathlib.Core.Bool.{Bool, true, false, _||_, false≢true, or-true}
+use mathlib.Core.Logic.{⊎-elim}
 use mathlib.Core.List.{List, [], _∷_}
 use mathlib.Core.Path.{_≡_, refl, sym, ap, _∙_, subst}
-use native.Mathlib.Decide.{ℕ-discrete}
 use native.Mathlib.Omega.{arith}
 use Rattle.bitmap.specs.Offsets.{someOf}
 use Rattle.laws.specs.Choose.{pick}
@@ -13,15 +13,16 @@ use Rattle.peer.specs.Calls.{Call}
 use Rattle.peer.specs.Claims.{ByteFrom, BytesBySegments, BytesClaim, DoneClaim, DoneWhenCovered, Unfinished, history, segmentAt}
 use Rattle.peer.specs.Coverage.{Segment, byteOf, covers, inside}
 use Rattle.peer.specs.Expected.{expected, targetOfCall}
+use Rattle.peer.specs.InWords.{SomeOfIsSomeOffset}
 use Rattle.peer.specs.Plain.{Entry, Plain, Target, entryAt, segmentOf}
 use Rattle.peer.specs.declared.types.Answer.{Answer}
 use Rattle.peer.specs.declared.types.Inbound.{Inbound}
 use Rattle.peer.specs.declared.types.Incoming.{Incoming}
-use Rattle.laws.proofs.Choosing.{clashing, or-left, or-right, pick-false, pick-true}
+use Rattle.laws.proofs.Choosing.{tested, clashing, pick-false, pick-true}
 use Rattle.peer.proofs.AnswerLaws.{claim-from}
 use Rattle.peer.proofs.CoverageLaws.{all-at, byte-at, inside-end, length-bytes}
 use Rattle.peer.proofs.HistoryFacts.{Aims, Every, Lasting, Outcome, Partly, begins, bytesOf, every-entry, goesOn, headOf, outcome, taken-role}
-use Rattle.peer.proofs.HistorySerials.{waits}
+use Rattle.peer.proofs.OffsetsHold.{some-of-is-some-offset}
 use Rattle.peer.proofs.PacketsRead.{read-formed}
 
 done-claim : (limit : ℕ) (l : Plain) (c : Call) (t : Target) (a : Answer) → Outcome limit l c t a → DoneClaim t a
@@ -95,12 +96,9 @@ byte-from (g ∷ gs) o a e = go (inside g o) refl (byte-from gs o (a .1)) e
 -- ---- accepted segments are apart
 
 none-of : (f : ℕ → Bool) (at n k : ℕ) → someOf f at n ≡ false → k < n → f (at + k) ≡ false
-unfolding someOf
-none-of f at zero k e h = absurd (omega arith)
-none-of f at (suc n) k e h = elim (ℕ-discrete k n) as (λ d. f (at + k) ≡ false) [
-  | yes x ↦ ap (λ (j : ℕ). f (at + j)) x ∙ or-right (someOf f at n) (f (at + n)) e
-  | no x ↦ none-of f at n k (or-left (someOf f at n) (f (at + n)) e) (omega (arith, x))
-]
+unfolding SomeOfIsSomeOffset
+none-of f at n k e h =
+    ⊎-elim (λ x. clashing (someOf f at n) (some-of-is-some-offset f at n .1 (at + k, omega arith, omega arith, x)) e) (λ x. x) (tested (f (at + k)))
 
 segments-apart : (l : Plain) (h : Incoming) (bytes : List ℕ) (t : Target) (o : Inbound) → h .size ≡ length bytes
     → ((j : ℕ) → Apart (entryAt (l .entries) j .segments)) → Aims l h bytes t o → Apart (t .entry .segments)

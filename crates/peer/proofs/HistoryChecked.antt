@@ -6,14 +6,14 @@ use lib.ListN.{length, getD, replicate, length-replicate}
 use mathlib.Core.Bool.{Bool, false, _&&_, and-false}
 use mathlib.Core.List.{List, [], _∷_}
 use mathlib.Core.Logic.{_⊎_, inl, inr}
-use mathlib.Core.Path.{_≡_, sym, ap, _∙_}
+use mathlib.Core.Path.{subst, _≡_, sym, ap, _∙_}
 use native.Mathlib.Omega.{arith}
 use Rattle.laws.specs.Choose.{pick}
 use Rattle.peer.specs.Calls.{Call, peerStep}
 use Rattle.peer.specs.Checks.{AnswersAreChecked, HistoriesAreChecked}
-use Rattle.peer.specs.Claims.{history, plainAfter}
+use Rattle.peer.specs.Claims.{isMatch, history, plainAfter}
 use Rattle.peer.specs.Expected.{enter, expected}
-use Rattle.peer.specs.Plain.{Plain, Target, entryAt, freshPlain, nextAfter}
+use Rattle.peer.specs.Plain.{Plain, Target, entryAt, freshPlain}
 use Rattle.peer.specs.State.{freeSlot, freshPeer, phaseAt, slotCount}
 use Rattle.peer.specs.View.{OneEach, roleOf, viewIn}
 use Rattle.peer.specs.declared.types.Answer.{Answer}
@@ -22,7 +22,8 @@ use Rattle.laws.proofs.Choosing.{and-intro, pick-either, pick-false, pick-true}
 use Rattle.peer.proofs.Agreement.{Agrees}
 use Rattle.peer.proofs.AcceptOrRefuse.{one-each}
 use Rattle.peer.proofs.CoverageLaws.{Wrote}
-use Rattle.peer.proofs.HistoryFacts.{Entered, asBefore, entered, withCancel, withEnd, withGrant, withPost, withSegment}
+use Rattle.peer.proofs.HistoryCount.{next-after}
+use Rattle.peer.proofs.HistoryFacts.{Entered, entered}
 use Rattle.peer.proofs.Kept.{step-kept}
 use Rattle.peer.proofs.Roles.{role-at, role-lengths}
 use Rattle.peer.proofs.Steps.{fresh-agrees, fresh-valid, stepped}
@@ -73,22 +74,15 @@ module _ (area limit : ℕ) where
       }
 
   -- next stays a number of 4 bytes
-  next-settled : (l : Plain) (t : Target) → l .next < 2 ^ 32 → nextAfter l t < 2 ^ 32
-  next-settled l t h = pick-either (λ (n : ℕ). n < 2 ^ 32) (t .matched) (omega arith) h
-
-  next-on : (l : Plain) (c : Call) (t : Target) (a : Answer) (l′ : Plain) → Entered limit l c t a l′ → l .next < 2 ^ 32 → l′ .next < 2 ^ 32
-  next-on l c _ _ _ (asBefore t a e n) h = h
-  next-on l c _ _ _ (withPost t i r e) h = h
-  next-on l c _ _ _ (withCancel t i n) h = h
-  next-on l c _ _ _ (withSegment t w) h = next-settled l t h
-  next-on l c _ _ _ (withGrant t n w) h = next-settled l t h
-  next-on l c _ _ _ (withEnd t a w k) h = next-settled l t h
+  next-on : {l : Plain} {c : Call} {t : Target} {a : Answer} {l′ : Plain} → Entered limit l c t a l′ → l .next < 2 ^ 32 → l′ .next < 2 ^ 32
+  next-on {l} {t = t} {a = a} w h =
+      subst (λ (n : ℕ). n < 2 ^ 32) (sym (next-after w)) (pick-either (λ (n : ℕ). n < 2 ^ 32) (isMatch t a) (omega arith) h)
 
   runs : (l : Plain) (calls : List Call) → Run area l × (l .next < 2 ^ 32)
       → Run area (plainAfter area limit l calls) × (plainAfter area limit l calls .next < 2 ^ 32)
   unfolding plainAfter
   runs l [] w = w
-  runs l (c ∷ cs) (r, h) = runs (enter limit l c (expected area limit l c)) cs (run-on l c r, next-on l c _ _ _ (entered area limit l c) h)
+  runs l (c ∷ cs) (r, h) = runs (enter limit l c (expected area limit l c)) cs (run-on l c r, next-on (entered area limit l c) h)
 
   fresh-run : Run area freshPlain
   unfolding freshPeer

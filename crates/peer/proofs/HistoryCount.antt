@@ -24,7 +24,7 @@ use Rattle.peer.proofs.HistoryFacts.{Aims, Entered, asBefore, begins, e
 -- ---- the next id
 
 -- next moves on at a match, and at no other call
-next-after : {limit : ℕ} {l : Plain} {c : Call} {t : Target} {a : Answer} {l′ : Plain} → Entered limit l c t a l′
+pub next-after : {limit : ℕ} {l : Plain} {c : Call} {t : Target} {a : Answer} {l′ : Plain} → Entered limit l c t a l′
     → l′ .next ≡ pick (isMatch t a) ((l .next + 1) % 4294967296) (l .next)
 unfolding pick
 next-after (asBefore t a e n) = rw e

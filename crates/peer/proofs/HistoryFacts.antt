@@ -152,6 +152,14 @@ pub data Entered (limit : ℕ) (l : Plain) (c : Call) : Target → Answer → Pl
 abbrev Walked : ℕ → Plain → Call → Target → Answer → Type 0
 Walked limit l c t a = Outcome limit l c t a × Entered limit l c t a (enterAt l c t a)
 
+-- a refusal enters nothing
+refused-walked : (limit : ℕ) (l : Plain) (c : Call) (k : Refusal) → Walked limit l c nowhere (Answer.Refused k)
+unfolding pick
+refused-walked limit l (post r) k = (tt, asBefore nowhere _ refl (λ gs. refl))
+refused-walked limit l (packet bs room) k = (tt, asBefore nowhere _ refl (λ gs. refl))
+refused-walked limit l (cancel i) k = (tt, asBefore nowhere _ refl (λ gs. refl))
+refused-walked limit l (report i) k = (tt, asBefore nowhere _ refl (λ gs. refl))
+
 -- ---- the tests of a packet, one after the other
 
 module _ (limit : ℕ) (l : Plain) (bs : List ℕ) (room : ℕ) (q : Packet) (reads : readOf false limit bs ≡ Read.Packet q) where
@@ -168,8 +176,8 @@ module _ (limit : ℕ) (l : Plain) (bs : List ℕ) (room : ℕ) (q : Packet) (re
   O x = Walked limit l (packet bs room) (x .target) (x .answer)
 
   shut : (k : Refusal) → O (refusing k)
-  unfolding O pick
-  shut k = (tt, asBefore nowhere (Answer.Refused k) refl (λ gs. refl))
+  unfolding O
+  shut k = refused-walked limit l (packet bs room) k
 
   accepted : (t : Target) (o : Inbound) → Aims l h body t o → Fitting (t .matched) o → O (accepting limit o t)
   unfolding O expectTaken
@@ -239,52 +247,37 @@ module _ (limit : ℕ) (l : Plain) (bs : List ℕ) (room : ℕ) (q : Packet) (re
 -- ---- every call
 
 walked : (area limit : ℕ) (l : Plain) (c : Call) → Walked limit l c (targetOfCall limit l c) (expected area limit l c)
-unfolding targetOfCall expected expectPost expectPacket expectRead O pick
+unfolding targetOfCall expected expectPost expectPacket expectRead O
 walked area limit l (post r) =
-    branch P (ltb area (r .start + r .capacity)) _ _ (λ x. shut badLength) (λ x.
-    branch P (anyOverlap r (roles (l .entries))) _ _ (λ y. shut overlaps) (λ y. go (lowestIdle 0 (roles (l .entries)))))
+    branch P (ltb area (r .start + r .capacity)) _ _ (λ x. refused-walked limit l (post r) badLength) (λ x.
+    branch P (anyOverlap r (roles (l .entries))) _ _ (λ y. refused-walked limit l (post r) overlaps) (λ y. go (lowestIdle 0 (roles (l .entries)))))
   where
     P : Answer → Type 0
     P = Walked limit l (post r) nowhere
 
-    shut : (k : Refusal) → P (Answer.Refused k)
-    shut k = (tt, asBefore nowhere _ refl (λ gs. refl))
-
     go : (v : Vacancy) → P (expectPlace v)
-    go Vacancy.Full = shut noSlot
+    go Vacancy.Full = refused-walked limit l (post r) noSlot
     go (Vacancy.Slot i) = (tt, withPost nowhere i r refl)
 walked area limit l (packet bs room) =
-    branch (λ (x : Ruling). Walked limit l (packet bs room) (x .target) (x .answer)) (ltb room 24) _ _ (λ x. shut shortReply) (λ x. go (readOf false limit bs) refl)
+    branch (λ (x : Ruling). Walked limit l (packet bs room) (x .target) (x .answer)) (ltb room 24) _ _
+    (λ x. refused-walked limit l (packet bs room) shortReply) (λ x. go (readOf false limit bs) refl)
   where
-    shut : (k : Refusal) → Walked limit l (packet bs room) nowhere (Answer.Refused k)
-    shut k = (tt, asBefore nowhere _ refl (λ gs. refl))
-
     go : (x : Read) → readOf false limit bs ≡ x → Walked limit l (packet bs room) (expectRead limit l bs x .target) (expectRead limit l bs x .answer)
-    go (Read.Refused k) e = shut k
+    go (Read.Refused k) e = refused-walked limit l (packet bs room) k
     go (Read.Packet q) e = found limit l bs room q e (openIn (incomingOf q .id) 0 (roles (l .entries))) refl
-walked area limit l (cancel i) = branch P (leb slotCount i) _ _ (λ x. shut) (λ x. go (entryAt (l .entries) i .role))
+walked area limit l (cancel i) =
+    branch (Walked limit l (cancel i) nowhere) (leb slotCount i) _ _ (λ x. refused-walked limit l (cancel i) badSlot) (λ x. go (entryAt (l .entries) i .role))
   where
-    P : Answer → Type 0
-    P = Walked limit l (cancel i) nowhere
-
-    shut : P (Answer.Refused badSlot)
-    shut = (tt, asBefore nowhere _ refl (λ gs. refl))
-
-    go : (u : Role) → P (expectCancel i u)
-    go idle = shut
+    go : (u : Role) → Walked limit l (cancel i) nowhere (expectCancel i u)
+    go idle = refused-walked limit l (cancel i) badSlot
     go (waiting r) = (tt, withCancel nowhere i (λ gs. refl))
     go (receiving o) = (tt, withCancel nowhere i (λ gs. refl))
-walked area limit l (report i) = branch P (leb slotCount i) _ _ (λ x. shut) (λ x. go (entryAt (l .entries) i .role))
+walked area limit l (report i) =
+    branch (Walked limit l (report i) nowhere) (leb slotCount i) _ _ (λ x. refused-walked limit l (report i) badSlot) (λ x. go (entryAt (l .entries) i .role))
   where
-    P : Answer → Type 0
-    P = Walked limit l (report i) nowhere
-
-    shut : P (Answer.Refused badSlot)
-    shut = (tt, asBefore nowhere _ refl (λ gs. refl))
-
-    go : (u : Role) → P (expectReport (entryAt (l .entries) i .segments) u)
-    go idle = shut
-    go (waiting r) = shut
+    go : (u : Role) → Walked limit l (report i) nowhere (expectReport (entryAt (l .entries) i .segments) u)
+    go idle = refused-walked limit l (report i) badSlot
+    go (waiting r) = refused-walked limit l (report i) badSlot
     go (receiving o) = (tt, asBefore nowhere _ refl (λ gs. refl))
 
 pub outcome : (area limit : ℕ) (l : Plain) (c : Call) → Outcome limit l c (targetOfCall limit l c) (expected area limit l c)

@@ -24,7 +24,6 @@ use Rattle.laws.proofs.Choosing.{or-cases}
 use Rattle.peer.proofs.AnswerLaws.{claim-from}
 use Rattle.peer.proofs.CoverageLaws.{all-at, inside-end}
 use Rattle.peer.proofs.HistoryFacts.{Aims, Every, Lasting, Outcome, Taken, begins, bytesOf, every-entry, goesOn, headOf, outcome, same-message, taken-role}
-use Rattle.peer.proofs.HistorySerials.{waits}
 use Rattle.peer.proofs.PacketsRead.{read-formed}
 
 -- of an open message: all that may come is its RTM's data and the grants; what came lies below; each grant but one that reaches the length is

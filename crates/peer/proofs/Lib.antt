@@ -18,7 +18,6 @@ pub mod HistoryFacts
 pub mod HistoryOrder
 pub mod HistoryBytes
 pub mod HistoryGrants
-pub mod HistorySerials
 pub mod HistoryOnce
 pub mod OffsetsHold
 pub mod FieldsHold

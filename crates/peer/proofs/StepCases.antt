@@ -99,41 +99,29 @@ module _ (area limit : ℕ) (p : Peer) (ws : List ℕ) where
   pub step-case : (c : Call) → StepCase area limit p ws c (peerStep area limit p ws c)
   unfolding peerStep postEffect placedIn packetEffect readEffect cancelEffect cancelAt reportEffect reportAt
   step-case (post r) =
-      branch S _ _ _ (λ x. refused (post r) badLength refl) (λ x.
-      branch S _ _ _ (λ y. refused (post r) overlaps refl) (λ y. place (vacancy 0 (p .slots)) refl (ltb-false area _ x) y))
+      branch (StepCase area limit p ws (post r)) _ _ _ (λ x. refused (post r) badLength refl) (λ x.
+      branch (StepCase area limit p ws (post r)) _ _ _ (λ y. refused (post r) overlaps refl) (λ y. place (vacancy 0 (p .slots)) refl (ltb-false area _ x) y))
     where
-      S : Effect → Type 0
-      S = StepCase area limit p ws (post r)
-
-      place : (v : Vacancy) → vacancy 0 (p .slots) ≡ v → r .start + r .capacity ≤ area → someInTheWay r (p .slots) ≡ false → S (placedIn p ws r v)
+      place : (v : Vacancy) → vacancy 0 (p .slots) ≡ v → r .start + r .capacity ≤ area → someInTheWay r (p .slots) ≡ false → StepCase area limit p ws (post r) (placedIn p ws r v)
       place Vacancy.Full e x y = refused (post r) noSlot refl
       place (Vacancy.Slot i) e x y = posted r i e x y
   step-case (packet bs room) =
-      branch S _ _ _ (λ x. refused (packet bs room) shortReply refl) (λ x. read (readOf false limit bs) refl (ltb-false room 24 x))
+      branch (StepCase area limit p ws (packet bs room)) _ _ _ (λ x. refused (packet bs room) shortReply refl) (λ x. read (readOf false limit bs) refl (ltb-false room 24 x))
     where
-      S : Effect → Type 0
-      S = StepCase area limit p ws (packet bs room)
-
-      read : (d : Read) → readOf false limit bs ≡ d → 24 ≤ room → S (readEffect limit p ws bs d)
+      read : (d : Read) → readOf false limit bs ≡ d → 24 ≤ room → StepCase area limit p ws (packet bs room) (readEffect limit p ws bs d)
       read (Read.Refused k) e x = refused (packet bs room) k (subst ReadListed e (read-listed false limit bs))
       read (Read.Packet q) e x =
           carried bs room q (record { roomy = x; reads = e }) (judge p ws (incomingOf q)) (judged p ws (incomingOf q) _ (read-formed limit bs q e))
   step-case (cancel i) =
-      branch S _ _ _ (λ x. refused (cancel i) badSlot refl) (λ x. at (phaseAt (p .slots) i) refl (leb-false slotCount i x))
+      branch (StepCase area limit p ws (cancel i)) _ _ _ (λ x. refused (cancel i) badSlot refl) (λ x. at (phaseAt (p .slots) i) refl (leb-false slotCount i x))
     where
-      S : Effect → Type 0
-      S = StepCase area limit p ws (cancel i)
-
-      at : (f : Phase) → phaseAt (p .slots) i ≡ f → i < slotCount → S (cancelAt p ws i f)
+      at : (f : Phase) → phaseAt (p .slots) i ≡ f → i < slotCount → StepCase area limit p ws (cancel i) (cancelAt p ws i f)
       at Phase.Free e x = refused (cancel i) badSlot refl
       at (Phase.Posted r a) e x = cancelled i x (ap isFree e)
       at (Phase.Open o) e x = cancelled i x (ap isFree e)
-  step-case (report i) = branch S _ _ _ (λ x. refused (report i) badSlot refl) (λ x. at (phaseAt (p .slots) i) refl)
+  step-case (report i) = branch (StepCase area limit p ws (report i)) _ _ _ (λ x. refused (report i) badSlot refl) (λ x. at (phaseAt (p .slots) i) refl)
     where
-      S : Effect → Type 0
-      S = StepCase area limit p ws (report i)
-
-      at : (f : Phase) → phaseAt (p .slots) i ≡ f → S (reportAt p ws f)
+      at : (f : Phase) → phaseAt (p .slots) i ≡ f → StepCase area limit p ws (report i) (reportAt p ws f)
       at Phase.Free e = refused (report i) badSlot refl
       at (Phase.Posted r a) e = refused (report i) badSlot refl
       at (Phase.Open o) e = reported i o e
