@@ -9,9 +9,5 @@ pub(crate) fn write_segment(area: &mut [u8], at: usize, bytes: &[u8])
     requires { ⌜ at + length (now bytes) ≤ length (now area) ⌝ }
     ensures { λ _. ⌜ now (area .exit) ≡ storeAt (now (area .entry)) at (now (bytes .entry)) ⌝ }
 {
-    let mut i: usize = 0;
-    while i < bytes.len() {
-        area[at + i] = bytes[i];
-        i += 1;
-    }
+    wire::write_bytes(area, at, bytes);
 }
