@@ -1,5 +1,5 @@
 pub mod Worlds
-pub mod Walking
-pub mod Turns
+pub mod CheckLaws
+pub mod PutBack
 pub mod WordsHold
 pub mod EngineChecked

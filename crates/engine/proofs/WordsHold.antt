@@ -20,7 +20,7 @@ use Rattle.peer.specs.State.{freeSlot, freshPeer, phaseAt, slotCount}
 use Rattle.peer.specs.declared.types.Peer.{Peer}
 use Rattle.peer.specs.declared.types.Phase.{Phase}
 use Rattle.engine.proofs.EngineChecked.{words-are-the-areas-bits}
-use Rattle.engine.proofs.Walking.{fit-numbers, fit-peer, small}
+use Rattle.engine.proofs.CheckLaws.{fit-numbers, fit-peer, small}
 use Rattle.engine.proofs.Worlds.{Good, byte-other, good-called, kept, lent-lengths, peer-other, sized, turn-own, words-other}
 use Rattle.laws.proofs.Choosing.{and-left, and-right, branch}
 use Rattle.peer.proofs.Valid.{fits-valid}

@@ -1,6 +1,6 @@
 pub mod SetUp
 pub mod Steps
 pub mod Gates
-pub mod Left
+pub mod Leaves
 pub mod InWords
 pub mod Checks

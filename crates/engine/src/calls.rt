@@ -9,7 +9,7 @@ use peer::Receive;
 ghost use mathlib.Core.Path.{_≡_};
 ghost use lib.ListN.{length};
 ghost use Rattle.peer.specs.Calls.{post, packet, cancel, report};
-ghost use Rattle.engine.specs.Left.{world, silent, leaves};
+ghost use Rattle.engine.specs.Leaves.{world, silent, leaves};
 ghost use Rattle.engine.specs.Steps.{callTurn};
 
 // A receive is posted for a peer.

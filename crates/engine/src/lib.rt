@@ -2,17 +2,17 @@
 // anything of its caller, and each states its whole result by a definition of specs/.
 mod calls;
 mod checks;
+mod run_checks;
 mod setting_up;
-mod standing;
 mod types;
 
 pub use calls::cancel;
 pub use calls::packet;
 pub use calls::post;
 pub use calls::report;
+pub use run_checks::admit;
+pub use run_checks::fits;
 pub use setting_up::set_up;
-pub use standing::admit;
-pub use standing::fits;
 pub use types::Engine;
 pub use types::Gate;
 pub use types::Outcome;

@@ -12,7 +12,7 @@ use Rattle.engine.specs.SetUp.{engineFits, numbersFit, peerCount}
 use Rattle.engine.specs.Steps.{World, callTurn, refusedTurn}
 use Rattle.engine.specs.declared.types.Engine.{Engine}
 use Rattle.engine.specs.declared.types.Gate.{Gate}
-use Rattle.engine.proofs.Walking.{Passed, fit-numbers, gate-open, opened, small, through}
+use Rattle.engine.proofs.CheckLaws.{Gated, Passed, fit-numbers, gate-open, opened, small, through}
 use Rattle.engine.proofs.WordsHold.{checked-good}
 use Rattle.engine.proofs.Worlds.{Good, good-called, good-fits}
 use Rattle.protocol.specs.declared.types.Refusal.{Refusal}
@@ -29,20 +29,20 @@ good-numbers e false x = refl
 
 module _ {good : Bool} (w : World) (p : ℕ) (s : CheckedOnce good (w .engine)) (g : Gate)
     (y : g ≡ gateOf (good && numbersFit (w .engine .n) (w .engine .area) (w .engine .limit)) (w .engine .n) (w .engine .area) (length (w .arena)) (length (w .map)) p) where
-  gate : g ≡ gateOf good (w .engine .n) (w .engine .area) (length (w .arena)) (length (w .map)) p
-  gate = rw (good-numbers (w .engine) good (s .state)) at y
+  gate : Gated (w .engine) (length (w .arena)) (length (w .map)) p g
+  gate = record { eight = s .eights .peers; says = rw (s .state) (rw (good-numbers (w .engine) good (s .state)) at y) }
 
   -- a call that is not let through
   pub once-shut : (k : Refusal) (c : Call) → g ≡ Gate.Shut k → callTurn w p c ≡ refusedTurn w k
   unfolding throughGate
-  once-shut k c z = through w p c good g (Gate.Shut k) (s .state) gate z
+  once-shut k c z = through w p c (Gate.Shut k) gate z
 
   module _ (z : g ≡ Gate.Open) where
     pub once-passed : Passed good (w .engine .n) (w .engine .area) (length (w .arena)) (length (w .map)) p
-    once-passed = gate-open good (w .engine .n) (w .engine .area) (length (w .arena)) (length (w .map)) p (sym gate ∙ z)
+    once-passed = gate-open good (w .engine .n) (w .engine .area) (length (w .arena)) (length (w .map)) p (rw (s .state) at (sym (gate .says) ∙ z))
 
     pub once-owned : (d : Peer) → Owned (w .engine .area) (w .engine .limit) p (length (w .arena)) (length (w .map)) (getD (w .engine .peers) p d)
-    once-owned = opened (w .engine) good (length (w .arena)) (length (w .map)) p g (s .eights .peers) (s .state) gate z .owns
+    once-owned = opened gate z .owns
 
     few : w .engine .n ≤ peerCount
     few = small (w .engine .n) (w .engine .area) (w .engine .limit) (fit-numbers (w .engine) (s .state ∙ once-passed .state)) .few

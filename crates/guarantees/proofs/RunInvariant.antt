@@ -20,7 +20,7 @@ use Rattle.peer.specs.declared.types.Request.{Request}
 use Rattle.lending.specs.Acts.{Inside, actOf, callOf, placeOf}
 use Rattle.lending.specs.Lending.{Lent, leavesAt}
 use Rattle.engine.specs.Gates.{gateOf}
-use Rattle.engine.specs.Left.{world}
+use Rattle.engine.specs.Leaves.{world}
 use Rattle.engine.specs.SetUp.{numbersFit}
 use Rattle.engine.specs.Steps.{Turn, World, putBack, refusedTurn, withPeer, wordsOf}
 use Rattle.engine.specs.declared.types.Gate.{Gate}

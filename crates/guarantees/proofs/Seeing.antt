@@ -7,7 +7,7 @@ use mathlib.Core.Bool.{true, false}
 use mathlib.Core.List.{List, [], _∷_}
 use mathlib.Core.Path.{_≡_, refl, sym, ap, ap₂, _∙_, subst}
 use native.Mathlib.Decide.{ℕ-discrete}
-use Rattle.engine.specs.Left.{world}
+use Rattle.engine.specs.Leaves.{world}
 use Rattle.engine.specs.SetUp.{engineOf, peerAt, setUp}
 use Rattle.engine.specs.Steps.{World, wordsOf}
 use Rattle.engine.specs.declared.types.Ready.{Ready}

@@ -5,7 +5,7 @@ use mathlib.Core.Bool.{_&&_}
 use mathlib.Core.List.{List, [], _∷_}
 use mathlib.Core.Path.{_≡_, refl, sym, ap, _∙_, subst}
 use native.Mathlib.Omega.{arith}
-use Rattle.engine.specs.Left.{world}
+use Rattle.engine.specs.Leaves.{world}
 use Rattle.engine.specs.SetUp.{Prepared, engineOf, lentFits, notStarted, numbersFit, peerCount, setUp}
 use Rattle.engine.specs.Steps.{World, callTurn}
 use Rattle.engine.specs.declared.types.Ready.{Ready}

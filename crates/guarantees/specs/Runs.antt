@@ -13,7 +13,7 @@ use Rattle.peer.specs.Says.{Saying, said}
 use Rattle.peer.specs.Starts.{noteStart}
 use Rattle.peer.specs.State.{slotCount}
 use Rattle.lending.specs.Acts.{Act, actOf, bufferOf, callOf}
-use Rattle.engine.specs.Left.{world}
+use Rattle.engine.specs.Leaves.{world}
 use Rattle.engine.specs.SetUp.{setUp}
 use Rattle.engine.specs.Steps.{World, Turn, callTurn}
 

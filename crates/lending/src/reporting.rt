@@ -7,7 +7,7 @@ use protocol::BAD_SLOT;
 ghost use mathlib.Core.Path.{_≡_};
 ghost use Prim.Native.Nat.{_*_};
 ghost use lib.ListN.{length};
-ghost use Rattle.receiving.specs.Asks.{Mapped, Mapping};
+ghost use Rattle.receiving.specs.Preconditions.{Mapped, Mapping};
 ghost use Rattle.peer.specs.Calls.{missingIn, reportEffect};
 ghost use Rattle.peer.specs.Effects.{quiet};
 

@@ -9,7 +9,7 @@ use native.Mathlib.Omega.{arith}
 use Rattle.laws.proofs.Choosing.{clashing, pick-either, pick-false, pick-true}
 use Rattle.peer.specs.State.{freeSlot, freshPeer, slotCount}
 use Rattle.peer.specs.declared.types.Peer.{Peer}
-use Rattle.engine.specs.Left.{world}
+use Rattle.engine.specs.Leaves.{world}
 use Rattle.engine.specs.SetUp.{engineOf, peerAt, peerCount}
 use Rattle.state_words.specs.Flat.{tabulate}
 use Rattle.state_words.specs.Loading.{engineIn, isState, peerIn, stateAfter, stateOf}

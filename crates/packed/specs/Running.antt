@@ -3,7 +3,7 @@ use Prim.Native.Nat.{ℕ, zero, suc, _+_, _/_, min}
 use mathlib.Core.List.{List, [], _∷_}
 use lib.ListN.{length}
 use Rattle.peer.specs.declared.types.Request.{Request}
-use Rattle.engine.specs.Left.{world}
+use Rattle.engine.specs.Leaves.{world}
 use Rattle.engine.specs.Steps.{World}
 use Rattle.guarantees.specs.Outputs.{RunLeaves, runLeaves}
 use Rattle.state_words.specs.Loading.{stateOf, stateAfter}

@@ -10,7 +10,7 @@ use engine::Gate;
 use peer::Answer;
 ghost use mathlib.Core.Path.{_≡_};
 ghost use Prim.Native.Nat.{_*_};
-ghost use Rattle.engine.specs.Left.{world};
+ghost use Rattle.engine.specs.Leaves.{world};
 ghost use Rattle.packed.specs.Running.{budgetOf, ranFrom, runOf};
 ghost use Rattle.engine.specs.InWords.{Eights};
 

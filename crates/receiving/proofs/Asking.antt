@@ -13,11 +13,11 @@ use Rattle.protocol.specs.Reading.{packetIn, readOf}
 use Rattle.protocol.specs.declared.table.TypeRow.{TypeRow}
 use Rattle.protocol.specs.declared.types.Packet.{Packet}
 use Rattle.protocol.specs.declared.types.Read.{Read}
-use Rattle.receiving.specs.Asks.{Beginning, Carrying, Granting, Judging, Limited, Placed, Storing}
+use Rattle.receiving.specs.Preconditions.{Beginning, Carrying, Granting, Judging, Limited, Placed, Storing}
 use Rattle.peer.specs.Effects.{grantOf, opened, progressOf, quiet}
 use Rattle.peer.specs.Incomings.{isRtm}
 use Rattle.peer.specs.Judging.{judge}
-use Rattle.receiving.specs.Left.{Left, Replied, leaves}
+use Rattle.receiving.specs.Leaves.{PacketLeaves, Replied, leaves}
 use Rattle.peer.specs.Matching.{findOpen, sameMessage}
 use Rattle.peer.specs.State.{slotCount}
 use Rattle.peer.specs.declared.types.Answer.{Answer}
@@ -169,10 +169,10 @@ data-inside limit bs q e = go (as-read limit bs q (served-read limit bs q e))
 
 -- the step and the reply of a part, within the whole
 pub within : (area words : List ℕ) (s t : Replied) → s ≡ t
-    → _≡_ {A = Left} (record { step = s .step; area = area; words = words; reply = s .reply }) (record { step = t .step; area = area; words = words; reply = t .reply })
+    → _≡_ {A = PacketLeaves} (record { step = s .step; area = area; words = words; reply = s .reply }) (record { step = t .step; area = area; words = words; reply = t .reply })
 within area words s t e = ap (λ (x : Replied). record { step = x .step; area = area; words = words; reply = x .reply }) e
 
 -- a quiet step leaves what is lent
 pub left-quiet : (area ws reply : List ℕ) (p : Peer) (a : Answer)
-    → _≡_ {A = Left} (record { step = record { peer = p; answer = a }; area = area; words = ws; reply = reply }) (leaves area reply (quiet p ws a))
+    → _≡_ {A = PacketLeaves} (record { step = record { peer = p; answer = a }; area = area; words = ws; reply = reply }) (leaves area reply (quiet p ws a))
 left-quiet area ws reply p a = rw (store-nothing area 0, store-nothing reply 0)

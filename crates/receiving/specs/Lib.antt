@@ -1,2 +1,2 @@
-pub mod Asks
-pub mod Left
+pub mod Preconditions
+pub mod Leaves

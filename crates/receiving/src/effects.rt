@@ -16,10 +16,10 @@ ghost use mathlib.Core.Path.{_≡_};
 ghost use mathlib.Core.List.{List};
 ghost use Prim.Native.Nat.{ℕ, _+_, _*_, _≤_, _<_};
 ghost use lib.ListN.{length};
-ghost use Rattle.receiving.specs.Asks.{Granting, Mapping, Accepting, Storing, Beginning, Carrying};
+ghost use Rattle.receiving.specs.Preconditions.{Granting, Mapping, Accepting, Storing, Beginning, Carrying};
 ghost use Rattle.peer.specs.Effects.{quiet, opened, extended, progressOf, finished, granting, holding, settledAs, accept, begun, truncatedAt, carry};
 ghost use Rattle.peer.specs.Judging.{judge};
-ghost use Rattle.receiving.specs.Left.{leaves, replies};
+ghost use Rattle.receiving.specs.Leaves.{leaves, replies};
 ghost use Rattle.peer.specs.State.{slotCount};
 
 // The message that a packet begins in this receive.

@@ -10,7 +10,7 @@ ghost use Prim.Native.Nat.{_≤_, min, max};
 ghost use lib.ListN.{length};
 ghost use Rattle.laws.specs.Parts.{storeAt};
 ghost use Rattle.protocol.specs.Cts.{ctsHeader, ctsBytes};
-ghost use Rattle.receiving.specs.Asks.{Granting};
+ghost use Rattle.receiving.specs.Preconditions.{Granting};
 ghost use Rattle.peer.specs.Effects.{grantOf};
 
 // The numbers of a CTS packet; its flags are clear.

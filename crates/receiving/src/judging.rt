@@ -18,7 +18,7 @@ ghost use mathlib.Core.Bool.{true};
 ghost use Prim.Native.Nat.{_+_};
 ghost use lib.Dec.{leb};
 ghost use lib.ListN.{length};
-ghost use Rattle.receiving.specs.Asks.{Placed, Judging};
+ghost use Rattle.receiving.specs.Preconditions.{Placed, Judging};
 ghost use Rattle.peer.specs.Matching.{sameMessage};
 ghost use Rattle.peer.specs.Judging.{judgeMore, judgeAgain, judgeData, judgeFit, judgeNew, judge};
 

@@ -7,9 +7,9 @@ use protocol::Read;
 use protocol::SHORT_REPLY;
 ghost use mathlib.Core.Path.{_≡_};
 ghost use lib.ListN.{length};
-ghost use Rattle.receiving.specs.Asks.{Limited, Mapped};
+ghost use Rattle.receiving.specs.Preconditions.{Limited, Mapped};
 ghost use Rattle.peer.specs.Calls.{packetEffect};
-ghost use Rattle.receiving.specs.Left.{leaves};
+ghost use Rattle.receiving.specs.Leaves.{leaves};
 
 // A packet comes in: it is read, judged, and the verdict carried out in the peer's own area and map words.
 pub fn packet(

@@ -8,12 +8,12 @@ use Rattle.laws.specs.Parts.{storeAt}
 use Rattle.recording.specs.declared.types.Written.{Written}
 
 -- what is answered, and the buffer
-pub record Left : Type 0 where
+pub record WriteLeaves : Type 0 where
   pub written : Written
   pub out : List ℕ
 
 -- the bytes from `at` on and the place behind them, or nothing where the buffer is too short
-unfoldable pub wrote : List ℕ → ℕ → List ℕ → Left
+unfoldable pub wrote : List ℕ → ℕ → List ℕ → WriteLeaves
 wrote out at bytes =
     pick (leb (at + length bytes) (length out))
     (record { written = Written.Next (at + length bytes); out = storeAt out at bytes })

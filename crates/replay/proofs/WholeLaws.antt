@@ -15,7 +15,7 @@ use Rattle.text.specs.Lines.{bytesOf}
 use Rattle.text.proofs.LineLaws.{length-line}
 use Rattle.protocol.specs.declared.types.Refusal.{Refusal}
 use Rattle.engine.specs.InWords.{Eights}
-use Rattle.engine.specs.Left.{world}
+use Rattle.engine.specs.Leaves.{world}
 use Rattle.engine.specs.SetUp.{Prepared, engineFits, engineOf, lentFits, notStarted, numbersFit, setUp}
 use Rattle.engine.specs.Steps.{World}
 use Rattle.engine.specs.declared.types.Ready.{Ready}

@@ -13,7 +13,7 @@ ghost use Prim.Native.Nat.{_+_, _*_, _≤_};
 ghost use lib.ListN.{length};
 ghost use mathlib.Core.Bool.{true};
 ghost use Rattle.engine.specs.InWords.{Eights};
-ghost use Rattle.engine.specs.Left.{world};
+ghost use Rattle.engine.specs.Leaves.{world};
 ghost use Rattle.engine.specs.SetUp.{engineFits};
 ghost use Rattle.replay.specs.Decoding.{decode, endingAt, withBuffer};
 ghost use Rattle.replay.specs.Replaying.{ran};
@@ -69,11 +69,10 @@ pub(crate) fn run(
         place = next;
         taken += 1;
     }
-    let ending = ending(place, trace.len());
     Replayed {
         taken,
         written,
-        ending,
+        ending: ending(place, trace.len()),
     }
 }
 

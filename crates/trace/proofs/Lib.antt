@@ -5,7 +5,7 @@ pub mod GroupCounts
 pub mod GroupBytes
 pub mod NumberGroups
 pub mod ShortestForm
-pub mod Standing
+pub mod StandsLaws
 pub mod OnlyAsRecorded
 pub mod GroupsRead
 pub mod ReadBack

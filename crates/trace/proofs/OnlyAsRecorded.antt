@@ -23,7 +23,7 @@ use Rattle.trace.specs.declared.types.Pair.{Pair}
 use Rattle.trace.specs.declared.types.SetUp.{SetUp}
 use Rattle.trace.proofs.NumberLaws.{number-inside, on-number}
 use Rattle.trace.proofs.ShortestForm.{number-shortest}
-use Rattle.trace.proofs.Standing.{numbers-then, part-stands, stands-then}
+use Rattle.trace.proofs.StandsLaws.{numbers-then, part-stands, stands-then}
 
 -- what holds of the result for a malformed pair and for each that may be read
 on-pair : {A : Type 0} (P : A → Type 0) (m : Pair) (bad : A) (f : ℕ → ℕ → ℕ → A) → P bad

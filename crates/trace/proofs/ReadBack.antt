@@ -23,7 +23,7 @@ use Rattle.trace.specs.declared.types.Pair.{Pair}
 use Rattle.trace.specs.declared.types.SetUp.{SetUp}
 use Rattle.peer.specs.declared.types.Call.{Call}
 use Rattle.trace.proofs.GroupsRead.{number-read}
-use Rattle.trace.proofs.Standing.{stands-drop}
+use Rattle.trace.proofs.StandsLaws.{stands-drop}
 
 -- the numbers stand at a place of s, and r behind them
 record Stand (s : List ℕ) (at : ℕ) (ns r : List ℕ) : Type 0 where

@@ -3,7 +3,7 @@ use Prim.Native.Nat.{ℕ, _*_, _/_}
 use borrow.Author.Needs.{needs}
 use mathlib.Core.Path.{_≡_, subst, sym}
 use native.Mathlib.Omega.{arith}
-use Rattle.receiving.specs.Asks.{Mapped}
+use Rattle.receiving.specs.Preconditions.{Mapped}
 use Rattle.laws.proofs.Storing.{length-lent, lent-part}
 use Rattle.lending.proofs.report_at.Statement.{statement}
 use Rattle.lending.proofs.report_at.Tie as tie

@@ -1,20 +1,13 @@
 -- `engine::calls::cancel` meets its contract. The loop's invariant: the state can be if it `fits` so far and the peers from i on can be.
-use Prim.Native.Nat.{_-_, _<_}
+use Prim.Native.Nat.{_-_}
 use borrow.Author.Needs.{needs}
-use borrow.Author.Tests.{ltb-true, ltb-false}
 use lib.ListN.{length}
-use mathlib.Core.Logic.{⊎-elim}
-use mathlib.Core.Path.{_≡_, sym, _∙_}
+use mathlib.Core.Logic.{⊎-map}
 use native.Mathlib.Omega.{arith}
 use Rattle.laws.proofs.Listing.{length-mapped}
-use Rattle.engine.specs.Gates.{throughGate}
-use Rattle.engine.specs.Left.{world}
-use Rattle.engine.specs.SetUp.{engineFits}
-use Rattle.engine.specs.Steps.{wordsOf}
-use Rattle.peer.specs.Calls.{cancel, peerStep}
-use Rattle.peer.specs.State.{freshPeer}
-use Rattle.engine.proofs.Turns.{quiet-call}
-use Rattle.engine.proofs.Walking.{Opened, Walked, opened, through, walk-end, walk-inside, walk-left, walk-start, walk-turn}
+use Rattle.peer.specs.Calls.{peerStep, cancel}
+use Rattle.engine.proofs.CheckLaws.{Gated, Walked, gated, opened, walk-below, walk-start, walk-turn}
+use Rattle.engine.proofs.PutBack.{quiet-call, shut-turn}
 use Rattle.engine.proofs.calls.cancel.Statement.{statement}
 use Rattle.engine.proofs.calls.cancel.Tie as tie
 
@@ -24,130 +17,33 @@ Inv-loop peer slot arena map engine n area fits₀ i₀ fits i = Walked engine f
 abbrev μ-loop : tie.MeasureT-loop
 μ-loop peer slot arena map engine n area fits₀ i₀ fits i = n - i
 
-eight : (s : tie.Start Inv-loop μ-loop) → length (s .args .t1 .peers) ≡ 8
-eight s = search length-mapped
+-- behind the walk it is known what the gate says
+passed : (c : tie.After-gate Inv-loop μ-loop) → let a = c .before .before .before .before .before .before .args in Gated (a .t1) (length (a .arena .now)) (length (a .map .now)) (a .peer) (c .gate .result)
+passed c = gated (c .before .before .loop .inv) (⊎-map (λ w. (w .0 .taken, w .1 .left)) (λ w. w .left) (c .before .loop-test .came)) (c .gate .ensures)
 
--- past the loop it is known whether the state can be
-state : (c : tie.Left-loop Inv-loop μ-loop) → engineFits (c .before .before .before .before .before .args .t1) ≡ c .before .loop .fits
-state c =
-    let l = c .before in
-    let s = l .before .before .before .before in
-    let e = s .args .t1 in
-    ⊎-elim
-    (λ w. walk-end e (l .loop .i) (l .loop .fits) (eight s) (l .loop .inv) (w .0 .taken) (ltb-false (l .loop .i) (e .n) (w .1 .left)))
-    (λ w. walk-left e (l .loop .i) (l .loop .fits) (l .loop .inv) (w .left))
-    (c .loop-test .came)
-
--- behind an open gate the peer is there, and owns its part
-admitted : (c : tie.After-enum-told Inv-loop μ-loop) → let a = c .before .before .before .before .before .before .before .before .args in
-    Opened (a .t1) (length (a .arena .now)) (length (a .map .now)) (a .peer)
-admitted c =
-    let k = c .before .before .before in
-    let s = k .before .before .before .before .before in
-    opened (s .args .t1) (k .before .loop .fits) _ _ (s .args .peer) (c .before .before .gate .result) (eight s) (state k)
-    (c .before .before .gate .ensures) (c .enum-told .given .1)
-
--- in the loop i is a peer's number
-turning : (c : tie.Then1 Inv-loop μ-loop) → let l = c .before .before in (l .loop .i < l .before .before .before .before .args .t1 .n) × (l .loop .i < 8)
-turning c =
-    let l = c .before .before in
-    let e = l .before .before .before .before .args .t1 in
-    let h = ltb-true (l .loop .i) (e .n) (c .if1 .taken) in
-    (h, walk-inside e (l .loop .i) (l .loop .fits) (l .loop .inv) (c .before .loop-test .taken) h)
-
-numbers-fit-requires : tie.Need-numbers-fit-requires Inv-loop μ-loop
-numbers-fit-requires c κs = search needs
-
-loop-holds : tie.Need-loop-holds Inv-loop μ-loop
-loop-holds c = walk-start (c .before .before .before .args .t1) (c .numbers-fit .result) (c .numbers-fit .ensures)
-
-mul-other : tie.Need-mul-other Inv-loop μ-loop
-mul-other c = omega (arith, turning c .1)
-
-element-copy-out-other : tie.Need-element-copy-out-other Inv-loop μ-loop
-element-copy-out-other c = omega (arith, turning c .1)
-
-fits-requires : tie.Need-fits-requires Inv-loop μ-loop
-fits-requires c κs = search needs
-
-add-i : tie.Need-add-i Inv-loop μ-loop
-add-i c = omega (arith, turning (c .before .before) .1)
-
-loop-less : tie.Need-loop-less Inv-loop μ-loop
-loop-less c = omega (arith, turning (c .before .before) .0)
-
-loop-again : tie.Need-loop-again Inv-loop μ-loop
-loop-again c =
-    let l = c .before .before .before .before in
-    let s = l .before .before .before .before in
-    walk-turn (s .args .t1) (l .loop .i) _ (l .loop .fits) (c .fits2 .result) (eight s) (l .loop .inv) (c .before .before .before .loop-test .taken)
-    (turning (c .before .before) .0) (c .fits2 .ensures)
-
-gate-requires : tie.Need-gate-requires Inv-loop μ-loop
-gate-requires c κs = c .before .loop .inv .small
-
-enum-known-refusal : tie.Need-enum-known-refusal Inv-loop μ-loop
-enum-known-refusal c = search needs
-
-enum-told : tie.Need-enum-told Inv-loop μ-loop
-enum-told c = search needs
-
-mul-holder : tie.Need-mul-holder Inv-loop μ-loop
-mul-holder c = omega (arith, admitted c .below)
-
-element-copy-out-holder : tie.Need-element-copy-out-holder Inv-loop μ-loop
-element-copy-out-holder c = omega (arith, admitted c .below)
-
-cancel-requires : tie.Need-cancel-requires Inv-loop μ-loop
-cancel-requires c κs = search needs
-
-mul-cancelled : tie.Need-mul-cancelled Inv-loop μ-loop
-mul-cancelled c = omega (arith, admitted (c .before .before .before) .below)
-
-element-set-from-cancelled : tie.Need-element-set-from-cancelled Inv-loop μ-loop
-element-set-from-cancelled c = omega (arith, admitted (c .before .before .before) .below)
-
-returns : tie.Need-returns Inv-loop μ-loop
-unfolding throughGate
-returns c =
-    let k = c .before .before .before .before in
-    let a = k .before .before .before .before .before .args in
-    sym (through (world (a .t1) (a .arena .now) (a .map .now)) (a .peer) (cancel (a .slot)) (k .before .loop .fits) _ _ (state k) (c .before .before .before .gate .ensures) (c .before .refusal .given .1))
-
-returns-2 : tie.Need-returns-2 Inv-loop μ-loop
-unfolding throughGate peerStep
-returns-2 c =
-    let t = c .before .before .before in
-    let k = t .before .before .before in
-    let s = k .before .before .before .before .before in
-    let a = s .args in
-    let len = eight s in
-    let w = world (a .t1) (a .arena .now) (a .map .now) in
-    sym
-    (through w (a .peer) (cancel (a .slot)) (k .before .loop .fits) _ _ (state k) (c .before .before .before .before .before .gate .ensures) (c .before .before .before .enum-told .given .1)
-    ∙ quiet-call w (a .peer) (cancel (a .slot)) _ _ _ (omega (arith, len, admitted t .below)) (admitted t .owns freshPeer .mapped .inMap) (c .before .cancel .ensures (wordsOf w (a .peer))))
+makes : tie.Need-returns-2 Inv-loop μ-loop
+unfolding peerStep
+makes c = quiet-call _ (passed (c .before .before .before .before .before)) (c .before .before .before .enum-told .given .1) (cancel _) _ (c .before .cancel .ensures _)
 
 pub cancel-spec : {M : Type 1} → statement M
 cancel-spec =
     tie.close
-    (tie.spec
-    Inv-loop
-    μ-loop
-    numbers-fit-requires
-    loop-holds
-    mul-other
-    element-copy-out-other
-    fits-requires
-    add-i
-    loop-less
-    loop-again
-    gate-requires
-    enum-known-refusal
-    enum-told
-    mul-holder
-    element-copy-out-holder
-    cancel-requires
-    mul-cancelled
-    element-set-from-cancelled
-    returns
-    returns-2)
+    (tie.spec Inv-loop μ-loop
+    (λ c κs. search needs)
+    (λ c. walk-start (search length-mapped) (c .numbers-fit .ensures))
+    (λ c. omega (arith, walk-below (c .before .before .loop .inv) (c .before .loop-test .taken) (c .if1 .taken) .1))
+    (λ c. omega (arith, walk-below (c .before .before .loop .inv) (c .before .loop-test .taken) (c .if1 .taken) .1))
+    (λ c κs. search needs)
+    (λ c. omega (arith, walk-below (c .before .before .before .before .loop .inv) (c .before .before .before .loop-test .taken) (c .before .before .if1 .taken) .1))
+    (λ c. omega (arith, walk-below (c .before .before .before .before .loop .inv) (c .before .before .before .loop-test .taken) (c .before .before .if1 .taken) .0))
+    (λ c. walk-turn (c .before .before .before .before .loop .inv) _ (c .before .before .before .loop-test .taken) (c .before .before .if1 .taken) (c .fits2 .ensures))
+    (λ c κs. c .before .loop .inv .small)
+    (λ c. search needs)
+    (λ c. search needs)
+    (λ c. omega (arith, opened (passed (c .before .before)) (c .enum-told .given .1) .below))
+    (λ c. omega (arith, opened (passed (c .before .before)) (c .enum-told .given .1) .below))
+    (λ c κs. search needs)
+    (λ c. omega (arith, opened (passed (c .before .before .before .before .before)) (c .before .before .before .enum-told .given .1) .below))
+    (λ c. omega (arith, opened (passed (c .before .before .before .before .before)) (c .before .before .before .enum-told .given .1) .below))
+    (λ c. shut-turn _ (passed (c .before .before .before)) (cancel _) (c .before .refusal .given .1))
+    makes)

@@ -2,7 +2,7 @@
 use borrow.Author.Tests.{eq-eqb, ne-eqb}
 use native.Mathlib.Omega.{arith}
 use Rattle.engine.specs.SetUp.{lentFits}
-use Rattle.engine.proofs.Walking.{arena-small, map-small}
+use Rattle.engine.proofs.CheckLaws.{arena-small, map-small}
 use Rattle.engine.proofs.checks.lent_fits.Statement.{statement}
 use Rattle.engine.proofs.checks.lent_fits.Tie as tie
 

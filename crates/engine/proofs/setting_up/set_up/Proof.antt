@@ -9,8 +9,8 @@ use native.Mathlib.Omega.{arith}
 use Rattle.bitmap.specs.Map.{cleared}
 use Rattle.engine.specs.SetUp.{setUp}
 use Rattle.laws.specs.Choose.{pick}
-use Rattle.engine.proofs.Turns.{cleared-all}
-use Rattle.engine.proofs.Walking.{map-small, small}
+use Rattle.engine.proofs.PutBack.{cleared-all}
+use Rattle.engine.proofs.CheckLaws.{map-small, small}
 use Rattle.engine.proofs.Worlds.{lent-lengths}
 use Rattle.engine.proofs.setting_up.set_up.Statement.{statement}
 use Rattle.engine.proofs.setting_up.set_up.Tie as tie

@@ -6,7 +6,7 @@ use lib.ListN.{length}
 use mathlib.Core.Logic.{⊎-elim}
 use mathlib.Core.Path.{_≡_, refl, sym, _∙_}
 use native.Mathlib.Omega.{arith}
-use Rattle.engine.specs.Left.{world}
+use Rattle.engine.specs.Leaves.{world}
 use Rattle.guarantees.proofs.CheckedOnce.{CheckedOnce, once-in-peers, once-owned}
 use Rattle.guarantees.proofs.RunInvariant.{run-open, run-room, run-shut}
 use Rattle.packed.specs.Calls.{requestAt}

@@ -7,7 +7,7 @@ use mathlib.Core.Bool.{true}
 use mathlib.Core.Logic.{inl, inr, ⊎-elim}
 use mathlib.Core.Path.{_≡_, refl, sym, _∙_}
 use native.Mathlib.Omega.{arith}
-use Rattle.engine.specs.Left.{world}
+use Rattle.engine.specs.Leaves.{world}
 use Rattle.trace.specs.Entries.{entryAt}
 use Rattle.trace.specs.declared.types.Found.{Found}
 use Rattle.guarantees.specs.Outputs.{runLeaves}

@@ -6,14 +6,14 @@ use Rattle.peer.specs.declared.types.Step.{Step}
 use Rattle.peer.specs.Effects.{Effect, Settled}
 
 -- the step, and the lent area, map words and reply buffer
-pub record Left : Type 0 where
+pub record PacketLeaves : Type 0 where
   pub step : Step
   pub area : List ℕ
   pub words : List ℕ
   pub reply : List ℕ
 
 -- the effect's bytes are put into the area, and its reply packet at the start of the reply buffer
-abbrev pub leaves : List ℕ → List ℕ → Effect → Left
+abbrev pub leaves : List ℕ → List ℕ → Effect → PacketLeaves
 leaves area reply f =
     record {
       step = record { peer = f .peer; answer = f .answer };

@@ -1,11 +1,12 @@
 -- The checks of a call: the numbers, the walk over the peers, and the gate in front of the peer's own step.
 use Prim.Native.Nat.{ℕ, zero, suc, _+_, _*_, _/_, _%_, _≤_, _<_}
-use borrow.Author.Tests.{ltb-true, leb-true}
+use borrow.Author.Tests.{ltb-true, ltb-false, leb-true}
 use lib.Dec.{leb, ltb, eqb}
 use lib.ListN.{length, getD, take, drop, drop-of-length-le}
 use lib.Seq.{length-take-le, drop-cons, getD-take}
 use mathlib.Core.Bool.{Bool, true, false, _&&_}
 use mathlib.Core.List.{List, [], _∷_}
+use mathlib.Core.Logic.{_⊎_, ⊎-elim}
 use mathlib.Core.Path.{_≡_, refl, sym, ap, _∙_}
 use native.Mathlib.Nat.{mul-le-mul}
 use native.Mathlib.Numerals.{add-one}
@@ -64,31 +65,35 @@ module _ (area n : ℕ) (ps : List Peer) (i : ℕ) where
 
 -- the walk has come to peer i with `fits`: the state can be if it `fits` and the peers from i on can be
 pub record Walked (e : Engine) (fits : Bool) (i : ℕ) : Type 0 where
+  pub eight : length (e .peers) ≡ peerCount
   pub small : fits ≡ true → Small (e .n) (e .area)
   pub rest : engineFits e ≡ (fits && allPeersFit (e .area) (drop i (take (e .n) (e .peers))))
 
-module _ (e : Engine) where
-  pub walk-start : (fits : Bool) → fits ≡ numbersFit (e .n) (e .area) (e .limit) → Walked e fits 0
+module _ {e : Engine} where
+  pub walk-start : {fits : Bool} → length (e .peers) ≡ peerCount → fits ≡ numbersFit (e .n) (e .area) (e .limit) → Walked e fits 0
   unfolding engineFits
-  walk-start fits x = record { small = λ y. small (e .n) (e .area) (e .limit) (sym x ∙ y); rest = rw x }
+  walk-start k x = record { eight = k; small = λ y. small (e .n) (e .area) (e .limit) (sym x ∙ y); rest = rw x }
 
-  pub walk-inside : (i : ℕ) (fits : Bool) → Walked e fits i → fits ≡ true → i < e .n → i < peerCount
-  walk-inside i fits w t h = omega (arith, w .small t .few)
+  module _ {fits : Bool} {i : ℕ} (w : Walked e fits i) where
+    -- on the way i is a peer's number
+    pub walk-below : fits ≡ true → ltb i (e .n) ≡ true → (i < e .n) × (i < peerCount)
+    walk-below t l = let h = ltb-true i (e .n) l in (h, omega (arith, w .small t .few))
 
-  pub walk-turn : (i : ℕ) (d : Peer) (fits next : Bool) → length (e .peers) ≡ peerCount → Walked e fits i → fits ≡ true → i < e .n
-      → next ≡ peerFits (e .area) (getD (e .peers) i d) → Walked e next (i + 1)
-  walk-turn i d fits next k w t h y =
-      record {
-        small = λ _. w .small t;
-        rest = w .rest ∙ rw (t, y) (peers-turn (e .area) (e .n) (e .peers) i d h (omega (arith, k, w .small t .few)));
-      }
+    pub walk-turn : (d : Peer) {next : Bool} → fits ≡ true → ltb i (e .n) ≡ true → next ≡ peerFits (e .area) (getD (e .peers) i d) → Walked e next (i + 1)
+    walk-turn d t l y =
+        record {
+          eight = w .eight;
+          small = λ _. w .small t;
+          rest = w .rest ∙ rw (t, y) (peers-turn (e .area) (e .n) (e .peers) i d (walk-below t l .0) (omega (arith, w .eight, w .small t .few)));
+        }
 
-  pub walk-left : (i : ℕ) (fits : Bool) → Walked e fits i → fits ≡ false → engineFits e ≡ fits
-  walk-left i fits w x = w .rest ∙ rw x
+    pub walk-left : fits ≡ false → engineFits e ≡ fits
+    walk-left x = w .rest ∙ rw x
 
-  pub walk-end : (i : ℕ) (fits : Bool) → length (e .peers) ≡ peerCount → Walked e fits i → fits ≡ true → e .n ≤ i → engineFits e ≡ fits
-  walk-end i fits k w t h = w .rest ∙ rw (t, peers-end (e .area) (e .n) (e .peers) i h (omega (arith, k, w .small t .few)))
+    pub walk-end : fits ≡ true → ltb i (e .n) ≡ false → engineFits e ≡ fits
+    walk-end t l = w .rest ∙ rw (t, peers-end (e .area) (e .n) (e .peers) i (ltb-false i (e .n) l) (omega (arith, w .eight, w .small t .few)))
 
+module _ (e : Engine) where
   -- what the check says of the numbers and of each peer
   pub fit-numbers : engineFits e ≡ true → numbersFit (e .n) (e .area) (e .limit) ≡ true
   unfolding engineFits
@@ -143,12 +148,20 @@ pub record Opened (e : Engine) (arena map p : ℕ) : Type 0 where
   pub below : p < peerCount
   pub owns : (d : Peer) → Owned (e .area) (e .limit) p arena map (getD (e .peers) p d)
 
-pub opened : (e : Engine) (fits : Bool) (arena map p : ℕ) (g : Gate) → length (e .peers) ≡ peerCount → engineFits e ≡ fits
-    → g ≡ gateOf fits (e .n) (e .area) arena map p → g ≡ Gate.Open → Opened e arena map p
-opened e fits arena map p g eight x y h =
-    let o = gate-open fits (e .n) (e .area) arena map p (sym y ∙ h) in
-    let state : engineFits e ≡ true = x ∙ o .state in
-    let numbers = fit-numbers e state in
+-- what the gate says of the call of peer p, lent so much of arena and map
+pub record Gated (e : Engine) (arena map p : ℕ) (g : Gate) : Type 0 where
+  pub eight : length (e .peers) ≡ peerCount
+  pub says : g ≡ gateOf (engineFits e) (e .n) (e .area) arena map p
+
+-- behind the walk
+pub gated : {e : Engine} {fits : Bool} {i arena map p : ℕ} {g : Gate} → Walked e fits i → ((fits ≡ true) × (ltb i (e .n) ≡ false)) ⊎ (fits ≡ false)
+    → g ≡ gateOf fits (e .n) (e .area) arena map p → Gated e arena map p g
+gated w c y = record { eight = w .eight; says = rw (⊎-elim (λ h. walk-end w (h .0) (h .1)) (λ h. walk-left w h) c) y }
+
+pub opened : {e : Engine} {arena map p : ℕ} {g : Gate} → Gated e arena map p g → g ≡ Gate.Open → Opened e arena map p
+opened {e} {arena} {map} {p} w h =
+    let o = gate-open (engineFits e) (e .n) (e .area) arena map p (sym (w .says) ∙ h) in
+    let numbers = fit-numbers e (o .state) in
     let s = small (e .n) (e .area) (e .limit) numbers in
     let z = sized (e .n) (e .area) (e .limit) numbers in
     let (a, m) = lent-lengths (e .n) (e .area) arena map (o .lent) in
@@ -156,7 +169,7 @@ opened e fits arena map p g eight x y h =
       below = omega (arith, o .peer, s .few);
       owns = λ d. record {
         mapped = record {
-          fits = fit-peer e p d state (o .peer) (omega (arith, eight, s .few));
+          fits = fit-peer e p d (o .state) (o .peer) (omega (arith, w .eight, s .few));
           whole = z .whole;
           short = s .short;
           inMap = omega (arith, part-inside (e .n) p (e .area / 64) (o .peer));
@@ -170,9 +183,6 @@ opened e fits arena map p g eight x y h =
     }
 
 -- a call, by what its gate says
-pub through : (w : World) (p : ℕ) (c : Call) (fits : Bool) (g h : Gate) → engineFits (w .engine) ≡ fits
-    → g ≡ gateOf fits (w .engine .n) (w .engine .area) (length (w .arena)) (length (w .map)) p → g ≡ h → callTurn w p c ≡ throughGate w p c h
-through w p c fits g h x y z =
-    gate-turn w p c
-    ∙ ap (λ (f : Bool). throughGate w p c (gateOf f (w .engine .n) (w .engine .area) (length (w .arena)) (length (w .map)) p)) x
-    ∙ ap (throughGate w p c) (sym y ∙ z)
+pub through : (w : World) (p : ℕ) (c : Call) {g : Gate} (h : Gate) → Gated (w .engine) (length (w .arena)) (length (w .map)) p g → g ≡ h
+    → callTurn w p c ≡ throughGate w p c h
+through w p c h x z = gate-turn w p c ∙ ap (throughGate w p c) (sym (x .says) ∙ z)

@@ -14,14 +14,14 @@ abbrev pub silent : Outcome → List ℕ → List ℕ → Turn
 silent r arena map = record { world = world (r .engine) arena map; answer = r .answer; reply = [] }
 
 -- the outcome, and the lent arena, map and reply buffer
-pub record Left : Type 0 where
+pub record CallLeaves : Type 0 where
   pub outcome : Outcome
   pub arena : List ℕ
   pub map : List ℕ
   pub reply : List ℕ
 
 -- the reply packet is put at the start of the reply buffer
-abbrev pub leaves : List ℕ → Turn → Left
+abbrev pub leaves : List ℕ → Turn → CallLeaves
 leaves reply t =
     record {
       outcome = record { engine = t .world .engine; answer = t .answer };

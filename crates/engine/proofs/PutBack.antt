@@ -6,9 +6,12 @@ use mathlib.Core.List.{List, [], append-nil}
 use mathlib.Core.Path.{_≡_, sym, ap, ap₂, _∙_}
 use native.Mathlib.Omega.{arith}
 use Rattle.bitmap.specs.Map.{cleared}
-use Rattle.engine.specs.Left.{Left, leaves, world}
+use Rattle.engine.specs.Gates.{throughGate}
+use Rattle.engine.specs.Leaves.{CallLeaves, leaves}
+use Rattle.engine.specs.SetUp.{peerAt}
+use Rattle.engine.specs.declared.types.Gate.{Gate}
 use Rattle.lending.specs.Lending.{Lent, leavesAt}
-use Rattle.engine.specs.Steps.{World, peerTurn, putBack, refusedTurn, withPeer, wordsOf}
+use Rattle.engine.specs.Steps.{World, callTurn, peerTurn, putBack, refusedTurn, withPeer, wordsOf}
 use Rattle.engine.specs.declared.types.Engine.{Engine}
 use Rattle.protocol.specs.declared.types.Refusal.{Refusal}
 use Rattle.peer.specs.Calls.{Call, packet, packetEffect, peerStep}
@@ -20,6 +23,7 @@ use Rattle.bitmap.proofs.BitLaws.{length-cleared}
 use Rattle.bitmap.proofs.Stores.{clear-split, clear-whole}
 use Rattle.laws.proofs.Storing.{store-nothing, store-own}
 use Rattle.laws.proofs.Listing.{getD-any}
+use Rattle.engine.proofs.CheckLaws.{Gated, opened, through}
 
 -- a step that changes nothing but the peer
 pub quiet-turn : (w : World) (p : ℕ) (q : Peer) (a : Answer) → p * (w .engine .area / 64) + w .engine .area / 64 ≤ length (w .map)
@@ -30,7 +34,7 @@ quiet-turn w p q a h =
     (store-nothing (w .arena) (p * w .engine .area + 0)) (store-own (w .map) (p * (w .engine .area / 64)) (w .engine .area / 64) h)
 
 -- a packet's step
-abbrev pub putIn : Engine → ℕ → Lent → Left
+abbrev pub putIn : Engine → ℕ → Lent → CallLeaves
 putIn e p l =
     record {
       outcome = record { engine = withPeer e p (l .step .peer); answer = l .step .answer };
@@ -39,33 +43,47 @@ putIn e p l =
       reply = l .reply;
     }
 
-pub quiet-call : (w : World) (p : ℕ) (c : Call) (d q : Peer) (a : Answer) → p < length (w .engine .peers)
-    → p * (w .engine .area / 64) + w .engine .area / 64 ≤ length (w .map)
-    → quiet q (wordsOf w p) a ≡ peerStep (w .engine .area) (w .engine .limit) (getD (w .engine .peers) p d) (wordsOf w p) c
-    → peerTurn w p c ≡ record { world = record { engine = withPeer (w .engine) p q; arena = w .arena; map = w .map }; answer = a; reply = [] }
-unfolding peerTurn
-quiet-call w p c d q a h m e =
-    ap (λ (x : Peer). putBack w p (peerStep (w .engine .area) (w .engine .limit) x (wordsOf w p) c)) (getD-any (w .engine .peers) p freshPeer d h)
-    ∙ ap (putBack w p) (sym e) ∙ quiet-turn w p q a m
-
 -- a peer that is put back as it was
 pub same-peer : (e : Engine) (p : ℕ) (d : Peer) → withPeer e p (getD (e .peers) p d) ≡ e
 same-peer e p d = ap (λ (ps : List Peer). record { peers = ps; n = e .n; area = e .area; limit = e .limit }) (set-getD (e .peers) p d)
 
-pub packet-call : (w : World) (p : ℕ) (d : Peer) (bs reply : List ℕ) (l : Lent) → p < length (w .engine .peers)
-    → l ≡ leavesAt 0 (w .engine .area) p (w .arena) (w .map) reply (packetEffect (w .engine .limit) (getD (w .engine .peers) p d) (wordsOf w p) bs (length reply))
-    → putIn (w .engine) p l ≡ leaves reply (peerTurn w p (packet bs (length reply)))
-unfolding peerTurn putBack peerStep
-packet-call w p d bs reply l h e =
-    ap (putIn (w .engine) p)
-    (e ∙ ap (λ (x : Peer). leavesAt 0 (w .engine .area) p (w .arena) (w .map) reply (packetEffect (w .engine .limit) x (wordsOf w p) bs (length reply)))
-    (getD-any (w .engine .peers) p d freshPeer h))
+-- ---- a call that its gate lets through, and one that it does not
 
--- a refused call leaves what it is lent
-pub left-refused : (e : Engine) (arena map reply : List ℕ) (k : Refusal)
-    → _≡_ {A = Left} (record { outcome = record { engine = e; answer = Answer.Refused k }; arena = arena; map = map; reply = reply })
-    (leaves reply (refusedTurn (world e arena map) k))
-left-refused e arena map reply k = rw (store-nothing reply 0)
+module _ (w : World) {p : ℕ} {g : Gate} (x : Gated (w .engine) (length (w .arena)) (length (w .map)) p g) where
+  pub shut-turn : {k : Refusal} (c : Call) → g ≡ Gate.Shut k → refusedTurn w k ≡ callTurn w p c
+  unfolding throughGate
+  shut-turn {k} c z = sym (through w p c (Gate.Shut k) x z)
+
+  -- a refused call leaves what it is lent
+  pub shut-leaves : {k : Refusal} (c : Call) (reply : List ℕ) → g ≡ Gate.Shut k
+      → _≡_ {A = CallLeaves} (record { outcome = record { engine = w .engine; answer = Answer.Refused k }; arena = w .arena; map = w .map; reply = reply })
+      (leaves reply (callTurn w p c))
+  shut-leaves c reply z = rw (← shut-turn c z) (rw (store-nothing reply 0))
+
+  module _ (z : g ≡ Gate.Open) where
+    step-of : (d : Peer) → getD (w .engine .peers) p d ≡ peerAt (w .engine) p
+    step-of d = getD-any (w .engine .peers) p d freshPeer (omega (arith, x .eight, opened x z .below))
+
+    -- a step that changes nothing but the peer
+    pub quiet-call : (c : Call) (d : Peer) {q : Peer} {a : Answer}
+        → quiet q (wordsOf w p) a ≡ peerStep (w .engine .area) (w .engine .limit) (getD (w .engine .peers) p d) (wordsOf w p) c
+        → record { world = record { engine = withPeer (w .engine) p q; arena = w .arena; map = w .map }; answer = a; reply = [] } ≡ callTurn w p c
+    unfolding peerTurn throughGate
+    quiet-call c d {q} {a} e =
+        sym
+        (through w p c Gate.Open x z
+        ∙ ap (λ (y : Peer). putBack w p (peerStep (w .engine .area) (w .engine .limit) y (wordsOf w p) c)) (sym (step-of d))
+        ∙ ap (putBack w p) (sym e) ∙ quiet-turn w p q a (opened x z .owns d .mapped .inMap))
+
+    -- a packet's
+    pub packet-call : (d : Peer) (bs reply : List ℕ) (l : Lent)
+        → l ≡ leavesAt 0 (w .engine .area) p (w .arena) (w .map) reply (packetEffect (w .engine .limit) (getD (w .engine .peers) p d) (wordsOf w p) bs (length reply))
+        → putIn (w .engine) p l ≡ leaves reply (callTurn w p (packet bs (length reply)))
+    unfolding peerTurn putBack peerStep throughGate
+    packet-call d bs reply l e =
+        ap (putIn (w .engine) p)
+        (e ∙ ap (λ (y : Peer). leavesAt 0 (w .engine .area) p (w .arena) (w .map) reply (packetEffect (w .engine .limit) y (wordsOf w p) bs (length reply))) (step-of d))
+        ∙ ap (leaves reply) (sym (through w p (packet bs (length reply)) Gate.Open x z))
 
 -- ---- the map, cleared whole
 

@@ -1,9 +1,9 @@
--- `engine::standing::admit` meets its contract: it is the gate by the set-up numbers.
+-- `engine::run_checks::admit` meets its contract: it is the gate by the set-up numbers.
 use borrow.Author.Needs.{needs}
 use mathlib.Core.Path.{sym, _∙_, refl}
-use Rattle.engine.proofs.Walking.{small}
-use Rattle.engine.proofs.standing.admit.Statement.{statement}
-use Rattle.engine.proofs.standing.admit.Tie as tie
+use Rattle.engine.proofs.CheckLaws.{small}
+use Rattle.engine.proofs.run_checks.admit.Statement.{statement}
+use Rattle.engine.proofs.run_checks.admit.Tie as tie
 
 numbers-fit-requires : tie.Need-numbers-fit-requires
 numbers-fit-requires c κs = search needs
