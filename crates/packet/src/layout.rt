@@ -1,5 +1,6 @@
 // The fields of a packet, read and written where its type's row says that they stand.
 use crate::options;
+use protocol::COUNT;
 use protocol::CREDIT_REQUEST;
 use protocol::Fields;
 use protocol::Header;
@@ -19,8 +20,8 @@ ghost use mathlib.Core.Path.{_≡_};
 ghost use Prim.Native.Nat.{_+_, _≤_, _<_};
 ghost use lib.ListN.{length};
 ghost use Rattle.laws.specs.Parts.{storeAt};
-ghost use Rattle.protocol.specs.FieldNumbers.{fieldBytes, fieldsIn, numberThere, putFields, putThere};
-ghost use Rattle.protocol.specs.Layout.{credit-request, layout, msg-id, msg-length, multiuse, padding, placeBy, recv-id, recv-length, seg-length, seg-offset, send-id, tag};
+ghost use Rattle.protocol.specs.FieldNumbers.{countIn, fieldBytes, fieldsIn, numberThere, putFields, putThere};
+ghost use Rattle.protocol.specs.Layout.{Field, credit-request, layout, msg-id, msg-length, multiuse, padding, placeBy, recv-id, recv-length, seg-length, seg-offset, send-id, tag};
 ghost use Rattle.protocol.specs.Rules.{Sound};
 
 // Where a field stands; 0 where the type has no such field.
@@ -75,6 +76,15 @@ pub(crate) fn read(row: TypeRow, bytes: &[u8]) -> Fields
     }
 }
 
+// The count of an array; 0 where the type has none.
+pub(crate) fn count(row: TypeRow, bytes: &[u8]) -> u32
+    requires { ⌜ Sound row ⌝ }
+    requires { ⌜ row .header ≤ length (now bytes) ⌝ }
+    ensures { λ r. ⌜ r ≡ countIn row (now (bytes .entry)) ⌝ }
+{
+    number_u32(bytes, row.places, COUNT)
+}
+
 // Puts a number there, if the type has the field.
 fn put_u32(out: &mut [u8], places: u64, unit: u64, x: u32)
     requires { ⌜ 0 < unit ⌝ }
@@ -100,11 +110,11 @@ fn put_u64(out: &mut [u8], places: u64, unit: u64, x: u64)
     wire::write_u64(out, at, x);
 }
 
-// The identifiers.
+// The identifiers. They stand as they are, whatever the count of an array.
 fn write_ids(row: TypeRow, header: Header, out: &mut [u8])
     requires { ⌜ Sound row ⌝ }
     requires { ⌜ row .header ≤ length (now out) ⌝ }
-    ensures { λ _. ⌜ now (out .exit) ≡ putFields row header (msg-id ∷ recv-id ∷ send-id ∷ []) (now (out .entry)) ⌝ }
+    ensures { λ _. ⌜ now (out .exit) ≡ putFields row 0 header (msg-id ∷ recv-id ∷ send-id ∷ []) (now (out .entry)) ⌝ }
 {
     let fields = header.fields;
     put_u32(out, row.places, MSG_ID, fields.msg_id);
@@ -116,7 +126,7 @@ fn write_ids(row: TypeRow, header: Header, out: &mut [u8])
 fn write_lengths(row: TypeRow, header: Header, out: &mut [u8])
     requires { ⌜ Sound row ⌝ }
     requires { ⌜ row .header ≤ length (now out) ⌝ }
-    ensures { λ _. ⌜ now (out .exit) ≡ putFields row header (msg-length ∷ seg-length ∷ recv-length ∷ seg-offset ∷ []) (now (out .entry)) ⌝ }
+    ensures { λ _. ⌜ now (out .exit) ≡ putFields row 0 header (msg-length ∷ seg-length ∷ recv-length ∷ seg-offset ∷ []) (now (out .entry)) ⌝ }
 {
     let fields = header.fields;
     put_u64(out, row.places, MSG_LENGTH, fields.msg_length);
@@ -125,11 +135,11 @@ fn write_lengths(row: TypeRow, header: Header, out: &mut [u8])
     put_u64(out, row.places, SEG_OFFSET, fields.seg_offset);
 }
 
-// The other fields: multiuse with the connid, if there is one, and padding with zero.
-fn write_others(row: TypeRow, header: Header, out: &mut [u8])
+// The other fields: multiuse with the connid, if there is one, padding with zero, and the count.
+fn write_others(row: TypeRow, header: Header, count: u32, out: &mut [u8])
     requires { ⌜ Sound row ⌝ }
     requires { ⌜ row .header ≤ length (now out) ⌝ }
-    ensures { λ _. ⌜ now (out .exit) ≡ putFields row header (credit-request ∷ tag ∷ multiuse ∷ padding ∷ []) (now (out .entry)) ⌝ }
+    ensures { λ _. ⌜ now (out .exit) ≡ putFields row count header (credit-request ∷ tag ∷ multiuse ∷ padding ∷ Field.count ∷ []) (now (out .entry)) ⌝ }
 {
     let fields = header.fields;
     put_u32(out, row.places, CREDIT_REQUEST, fields.credit_request);
@@ -137,15 +147,16 @@ fn write_others(row: TypeRow, header: Header, out: &mut [u8])
     let connid = header.connid;
     put_u32(out, row.places, MULTIUSE, options::connid_or_zero(connid));
     put_u32(out, row.places, PADDING, 0);
+    put_u32(out, row.places, COUNT, count);
 }
 
-// All fields of a packet are written.
-pub(crate) fn write(row: TypeRow, header: Header, out: &mut [u8])
+// All fields of a packet are written, with this count.
+pub(crate) fn write(row: TypeRow, header: Header, count: u32, out: &mut [u8])
     requires { ⌜ Sound row ⌝ }
     requires { ⌜ row .header ≤ length (now out) ⌝ }
-    ensures { λ _. ⌜ now (out .exit) ≡ storeAt (now (out .entry)) 4 (fieldBytes (layout row) header) ⌝ }
+    ensures { λ _. ⌜ now (out .exit) ≡ storeAt (now (out .entry)) 4 (fieldBytes (layout row) count header) ⌝ }
 {
     write_ids(row, header, out);
     write_lengths(row, header, out);
-    write_others(row, header, out);
+    write_others(row, header, count, out);
 }

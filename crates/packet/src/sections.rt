@@ -1,4 +1,5 @@
-// Where a packet's optional headers and its data lie.
+// Where a packet's counted array, its optional headers and its data lie.
+use crate::arrays;
 use crate::flags;
 use crate::layout;
 use protocol::CONNID;
@@ -10,7 +11,7 @@ use protocol::TypeRow;
 ghost use mathlib.Core.Path.{_≡_};
 ghost use Prim.Native.Nat.{_<_, _^_};
 ghost use Rattle.protocol.specs.Sections.{connidAt, extentOf};
-ghost use Rattle.protocol.specs.SectionsInTurn.{cqDataLength, connidLength, sectionsFrom};
+ghost use Rattle.protocol.specs.SectionsInTurn.{cqDataLength, connidLength, sectionsBehind, sectionsFrom};
 ghost use Rattle.protocol.specs.Rules.{Sound};
 
 // The bytes that CQ data and connid take where they are flagged.
@@ -37,11 +38,11 @@ fn connid_at(row: TypeRow, after: usize) -> usize
     if at == 0 { after } else { at }
 }
 
-// The sections of a packet of n bytes, whose raw address ends before at.
-fn from(row: TypeRow, flags: u16, raw: Span, at: usize, n: usize) -> Extent
+// The sections of a packet of n bytes, with its array, and its raw address, which ends before at.
+fn from(row: TypeRow, flags: u16, array: Span, raw: Span, at: usize, n: usize) -> Extent
     requires { ⌜ Sound row ⌝ }
     requires { ⌜ at < 2 ^ 48 ⌝ }
-    ensures { λ r. ⌜ r ≡ sectionsFrom row flags raw at n ⌝ }
+    ensures { λ r. ⌜ r ≡ sectionsFrom row flags array raw at n ⌝ }
 {
     let after = at + cq_data_length(row, flags);
     let data_at = after + connid_length(row, flags);
@@ -49,6 +50,7 @@ fn from(row: TypeRow, flags: u16, raw: Span, at: usize, n: usize) -> Extent
         return Extent::Cut;
     }
     Extent::Whole(Sections {
+        array,
         raw,
         cq_at: at,
         connid_at: connid_at(row, after),
@@ -56,23 +58,36 @@ fn from(row: TypeRow, flags: u16, raw: Span, at: usize, n: usize) -> Extent
     })
 }
 
+// The sections of a packet with these flags and with its array, which ends before at.
+fn behind(row: TypeRow, flags: u16, bytes: &[u8], array: Span, at: usize) -> Extent
+    requires { ⌜ Sound row ⌝ }
+    requires { ⌜ at < 2 ^ 41 ⌝ }
+    ensures { λ r. ⌜ r ≡ sectionsBehind row flags (now (bytes .entry)) array at ⌝ }
+{
+    let n = bytes.len();
+    if !flags::raw_address(row, flags) {
+        return from(row, flags, array, Span { at: 0, size: 0 }, at, n);
+    }
+    let start = at + 4;
+    if n < start {
+        return Extent::Cut;
+    }
+    let size = wire::read_u32(bytes, at) as usize;
+    from(row, flags, array, Span { at: start, size }, start + size, n)
+}
+
 // The sections of a packet with these flags.
 pub(crate) fn find(row: TypeRow, flags: u16, bytes: &[u8]) -> Extent
     requires { ⌜ Sound row ⌝ }
     ensures { λ r. ⌜ r ≡ extentOf row flags (now (bytes .entry)) ⌝ }
 {
-    let n = bytes.len();
     let at = row.header;
-    if n < at {
+    if bytes.len() < at {
         return Extent::Cut;
     }
-    if !flags::raw_address(row, flags) {
-        return from(row, flags, Span { at: 0, size: 0 }, at, n);
+    if row.unit == 0 {
+        return behind(row, flags, bytes, Span { at: 0, size: 0 }, at);
     }
-    if n - at < 4 {
-        return Extent::Cut;
-    }
-    let size = wire::read_u32(bytes, at) as usize;
-    let start = at + 4;
-    from(row, flags, Span { at: start, size }, start + size, n)
+    let size = arrays::length(row, layout::count(row, bytes));
+    behind(row, flags, bytes, Span { at, size }, at + size)
 }

@@ -33,6 +33,8 @@ const TYPES: [TypeRow; 8] = [
         connid: 0,
         request: false,
         length_at: 16,
+        unit: 0,
+        less: 0,
     },
     TypeRow {
         kind: 4,
@@ -46,6 +48,8 @@ const TYPES: [TypeRow; 8] = [
         connid: 8,
         request: false,
         length_at: 8,
+        unit: 0,
+        less: 0,
     },
     TypeRow {
         kind: 64,
@@ -59,6 +63,8 @@ const TYPES: [TypeRow; 8] = [
         connid: 4,
         request: true,
         length_at: 0,
+        unit: 0,
+        less: 0,
     },
     TypeRow {
         kind: 65,
@@ -72,6 +78,8 @@ const TYPES: [TypeRow; 8] = [
         connid: 4,
         request: true,
         length_at: 0,
+        unit: 0,
+        less: 0,
     },
     TypeRow {
         kind: 66,
@@ -85,6 +93,8 @@ const TYPES: [TypeRow; 8] = [
         connid: 4,
         request: true,
         length_at: 8,
+        unit: 0,
+        less: 0,
     },
     TypeRow {
         kind: 67,
@@ -98,6 +108,8 @@ const TYPES: [TypeRow; 8] = [
         connid: 4,
         request: true,
         length_at: 8,
+        unit: 0,
+        less: 0,
     },
     TypeRow {
         kind: 68,
@@ -111,6 +123,8 @@ const TYPES: [TypeRow; 8] = [
         connid: 4,
         request: true,
         length_at: 8,
+        unit: 0,
+        less: 0,
     },
     TypeRow {
         kind: 69,
@@ -124,6 +138,8 @@ const TYPES: [TypeRow; 8] = [
         connid: 4,
         request: true,
         length_at: 8,
+        unit: 0,
+        less: 0,
     },
 ];
 

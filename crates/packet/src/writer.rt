@@ -1,4 +1,5 @@
 // Writing a packet: its checks in their order, then its bytes.
+use crate::arrays;
 use crate::flags;
 use crate::layout;
 use crate::lengths;
@@ -19,10 +20,12 @@ use protocol::Refusal;
 use protocol::TypeRow;
 use protocol::Written;
 ghost use mathlib.Core.Path.{_≡_};
-ghost use mathlib.Core.Bool.{true};
+ghost use mathlib.Core.Bool.{true, _&&_};
 ghost use Prim.Native.Nat.{_≤_};
 ghost use lib.ListN.{length};
 ghost use Rattle.laws.specs.Parts.{storeAt};
+ghost use Rattle.protocol.specs.Arrays.{arrayAllowed, arrayWhole};
+ghost use Rattle.protocol.specs.Lengths.{lengthsFit};
 ghost use Rattle.protocol.specs.Optional.{flagsOf, optionsFit};
 ghost use Rattle.protocol.specs.SectionsInTurn.{headLength};
 ghost use Rattle.protocol.specs.Writing.{baseBytes, mandatoryBytes, packetBytes, writeAs, writeOf};
@@ -43,23 +46,27 @@ fn head_length(row: TypeRow, flags: u16) -> usize
     row.header + sections::cq_data_length(row, flags) + sections::connid_length(row, flags)
 }
 
-// The length of a packet with these flags and so many bytes of raw address, where it is there, and
-// of data.
-fn total(row: TypeRow, flags: u16, raw: usize, size: usize) -> Length
+// The length of a packet with these flags and so many bytes of array and raw address, where they
+// are there, and of data.
+fn total(row: TypeRow, flags: u16, array: usize, raw: usize, size: usize) -> Length
     requires { ⌜ Sound row ⌝ }
-    ensures { λ r. ⌜ r ≡ totalOf row flags raw size ⌝ }
+    requires { ⌜ arrayAllowed row array ≡ true ⌝ }
+    ensures { λ r. ⌜ r ≡ totalOf row flags array raw size ⌝ }
 {
     let head = head_length(row, flags);
     if LIMIT < size {
         return Length::Above;
     }
+    if LIMIT < array {
+        return Length::Above;
+    }
     if !flags::raw_address(row, flags) {
-        return limited(head + size);
+        return limited(head + array + size);
     }
     if LIMIT < raw {
         return Length::Above;
     }
-    limited(head + 4 + raw + size)
+    limited(head + array + 4 + raw + size)
 }
 
 fn limited(n: usize) -> Length
@@ -82,29 +89,40 @@ fn put_base(out: &mut [u8], kind: u8, flags: u16)
     wire::write_u16(out, 2, flags);
 }
 
-// The mandatory header.
-fn put_mandatory(out: &mut [u8], row: TypeRow, header: Header, flags: u16)
+// The mandatory header of a packet with an array of n bytes.
+fn put_mandatory(out: &mut [u8], row: TypeRow, header: Header, flags: u16, n: usize)
     requires { ⌜ Sound row ⌝ }
     requires { ⌜ row .header ≤ length (now out) ⌝ }
     requires { ⌜ flags ≡ flagsOf row header ⌝ }
-    ensures { λ _. ⌜ now (out .exit) ≡ storeAt (now (out .entry)) 0 (mandatoryBytes row header) ⌝ }
+    requires { ⌜ n ≤ 8192 ⌝ }
+    ensures { λ _. ⌜ now (out .exit) ≡ storeAt (now (out .entry)) 0 (mandatoryBytes row header n) ⌝ }
 {
     put_base(out, row.kind, flags);
-    layout::write(row, header, out);
+    layout::write(row, header, arrays::count_of(row, n), out);
 }
 
 // A whole packet.
-fn put(out: &mut [u8], row: TypeRow, header: Header, flags: u16, raw: &[u8], data: &[u8])
+fn put(
+    out: &mut [u8],
+    row: TypeRow,
+    header: Header,
+    flags: u16,
+    array: &[u8],
+    raw: &[u8],
+    data: &[u8],
+)
     requires { ⌜ Sound row ⌝ }
     requires { ⌜ flags ≡ flagsOf row header ⌝ }
     requires { ⌜ optionsFit row header ≡ true ⌝ }
-    requires { ⌜ length (packetBytes row header (now raw) (now «data»)) ≤ 8192 ⌝ }
-    requires { ⌜ length (packetBytes row header (now raw) (now «data»)) ≤ length (now out) ⌝ }
-    ensures { λ _. ⌜ now (out .exit) ≡ storeAt (now (out .entry)) 0 (packetBytes row header (now (raw .entry)) (now («data» .entry))) ⌝ }
+    requires { ⌜ arrayAllowed row (length (now array)) ≡ true ⌝ }
+    requires { ⌜ length (packetBytes row header (now array) (now raw) (now «data»)) ≤ 8192 ⌝ }
+    requires { ⌜ length (packetBytes row header (now array) (now raw) (now «data»)) ≤ length (now out) ⌝ }
+    ensures { λ _. ⌜ now (out .exit) ≡ storeAt (now (out .entry)) 0 (packetBytes row header (now (array .entry)) (now (raw .entry)) (now («data» .entry))) ⌝ }
 {
-    put_mandatory(out, row, header, flags);
+    put_mandatory(out, row, header, flags, array.len());
     let after_header = row.header;
-    let after_raw = options::write_raw_address(out, after_header, header.raw_address, raw);
+    let after_array = wire::write_bytes(out, after_header, array);
+    let after_raw = options::write_raw_address(out, after_array, header.raw_address, raw);
     let cq_data = header.cq_data;
     let after_cq = options::write_cq_data(out, after_raw, cq_data);
     let connid = header.connid;
@@ -112,27 +130,50 @@ fn put(out: &mut [u8], row: TypeRow, header: Header, flags: u16, raw: &[u8], dat
     wire::write_bytes(out, data_at, data);
 }
 
-// A packet of a known type.
-fn typed(row: TypeRow, header: Header, raw: &[u8], data: &[u8], out: &mut [u8]) -> Written
+// Whether a packet of this type may have the optional headers of this header and so many bytes of an
+// array.
+fn may_have(row: TypeRow, header: Header, array: usize) -> bool
     requires { ⌜ Sound row ⌝ }
-    ensures { λ r. ⌜ record { answer = r; out = now (out .exit) } ≡ writeAs row header (now (raw .entry)) (now («data» .entry)) (now (out .entry)) ⌝ }
+    ensures { λ r. ⌜ r ≡ (optionsFit row header && arrayAllowed row array) ⌝ }
 {
-    if !flags::options_fit(row, header) {
-        return refused(BAD_FLAGS);
-    }
+    flags::options_fit(row, header) && arrays::allowed(row, array)
+}
+
+// Whether a packet of this type may have so many bytes of an array and of data.
+fn lengths_fit(row: TypeRow, header: Header, array: usize, size: usize) -> bool
+    ensures { λ r. ⌜ r ≡ (arrayWhole row array && lengthsFit (row .shape) (header .fields) size) ⌝ }
+{
     let shape = row.shape;
     let fields = header.fields;
-    if !lengths::fit(shape, fields, data.len()) {
+    arrays::whole(row, array) && lengths::fit(shape, fields, size)
+}
+
+// A packet of a known type.
+fn typed(
+    row: TypeRow,
+    header: Header,
+    array: &[u8],
+    raw: &[u8],
+    data: &[u8],
+    out: &mut [u8],
+) -> Written
+    requires { ⌜ Sound row ⌝ }
+    ensures { λ r. ⌜ record { answer = r; out = now (out .exit) } ≡ writeAs row header (now (array .entry)) (now (raw .entry)) (now («data» .entry)) (now (out .entry)) ⌝ }
+{
+    if !may_have(row, header, array.len()) {
+        return refused(BAD_FLAGS);
+    }
+    if !lengths_fit(row, header, array.len(), data.len()) {
         return refused(BAD_LENGTH);
     }
     let flags = flags::written(row, header);
-    match total(row, flags, raw.len(), data.len()) {
+    match total(row, flags, array.len(), raw.len(), data.len()) {
         Length::Above => refused(ABOVE_LIMIT),
         Length::Bytes(n) => {
             if out.len() < n {
                 return refused(NO_ROOM);
             }
-            put(out, row, header, flags, raw, data);
+            put(out, row, header, flags, array, raw, data);
             Written::Length(n)
         }
     }
@@ -140,12 +181,13 @@ fn typed(row: TypeRow, header: Header, raw: &[u8], data: &[u8], out: &mut [u8]) 
 
 // Writes the packet with these numbers, this raw address, if the header says that it has one, and
 // these data to the start of out, and answers its length. Refused, it leaves out as it was.
+// No type of the table has an array yet, so that it is lent an empty one.
 pub fn write(header: Header, raw_address: &[u8], data: &[u8], out: &mut [u8]) -> Written
     ensures { λ r. ⌜ record { answer = r; out = now (out .exit) } ≡ writeOf header (now («raw_address» .entry)) (now («data» .entry)) (now (out .entry)) ⌝ }
 {
     let kind = header.kind;
     match table::find(kind) {
         Found::Unknown => refused(BAD_TYPE),
-        Found::Row(row) => typed(row, header, raw_address, data, out),
+        Found::Row(row) => typed(row, header, &[], raw_address, data, out),
     }
 }

@@ -65,6 +65,7 @@ number-said v Field.credit-request h = mod-eq-of-lt h
 number-said v Field.tag h = refl
 number-said v Field.multiuse h = refl
 number-said v Field.padding h = refl
+number-said v Field.count h = refl
 
 own-said : (v : List ℕ) (fs : List Field) → fieldsFit v fs ≡ true → map (numberIn (fieldsIn v)) fs ≡ map (numberOf v) fs
 unfolding fieldsFit
@@ -112,6 +113,7 @@ numbers-said v words =
     small Field.tag = words 9
     small Field.multiuse = lit< tt
     small Field.padding = lit< tt
+    small Field.count = lit< tt
 
 -- ---- words that pass their checks are left to the packet writer
 

@@ -10,7 +10,7 @@ use mathlib.Core.Logic.{⊎-elim}
 use mathlib.Core.Path.{_≡_, refl, sym, _∙_}
 use native.Mathlib.Omega.{arith}
 use Rattle.laws.specs.Choose.{pick}
-use Rattle.protocol.specs.Layout.{Field, credit-request, has, isOwn, layout, msg-id, msg-length, multiuse, ordinal, ownFields, padding, placeOf, recv-id, recv-length, sameField, seg-length, seg-offset, select, send-id, tag, width}
+use Rattle.protocol.specs.Layout.{Field, count, credit-request, has, isOwn, layout, msg-id, msg-length, multiuse, ordinal, ownFields, padding, placeOf, recv-id, recv-length, sameField, seg-length, seg-offset, select, send-id, tag, width}
 use Rattle.protocol.specs.Optional.{hasCqData, optionsFit}
 use Rattle.protocol.specs.Rules.{Sound}
 use Rattle.protocol.specs.declared.table.TypeRow.{TypeRow}
@@ -102,6 +102,7 @@ module _ (v : List ℕ) where
     seen e tag m o = lt-ltb (getD v 9 0) (2 ^ 64) (words 9)
     seen e multiuse m o = absurd (false≢true o)
     seen e padding m o = absurd (false≢true o)
+    seen e count m o = absurd (false≢true o)
 
     pub own-fit : fieldsFit v (ownFields r) ≡ looked-at
     unfolding ownFields

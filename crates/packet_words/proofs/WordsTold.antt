@@ -97,6 +97,7 @@ module _ (values : List ℕ) (p : Packet) where
   field-word Field.tag = word-at 9 (lit< tt)
   field-word Field.multiuse = refl
   field-word Field.padding = refl
+  field-word Field.count = refl
 
   own-words : (fs : List Field) → map (numberOf wordsOf) fs ≡ map (numberIn (p .header .fields)) fs
   own-words [] = refl

@@ -23,7 +23,7 @@ use Rattle.packet_words.specs.Values.{valueCount}
 
 -- ---- the words of the values
 
--- the number that the words give an own field; padding and multiuse have none
+-- the number that the words give an own field; padding, multiuse and count have none
 abbrev pub numberOf : List ℕ → Field → ℕ
 numberOf v Field.msg-id = getD v 1 0
 numberOf v Field.recv-id = getD v 2 0
@@ -36,6 +36,7 @@ numberOf v Field.credit-request = getD v 8 0
 numberOf v Field.tag = getD v 9 0
 numberOf v Field.multiuse = 0
 numberOf v Field.padding = 0
+numberOf v Field.count = 0
 
 abbrev pub typeWord : List ℕ → ℕ
 typeWord v = getD v 0 0

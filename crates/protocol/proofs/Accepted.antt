@@ -3,7 +3,7 @@ use Prim.Native.Nat.{ℕ, _-_, _≤_, _<_}
 use borrow.Author.Tests.{ltb-false, eqb-true, le-ltb, eq-eqb, not-false}
 use lib.ListN.{length, getD}
 use mathlib.Core.Bool.{true, false, not}
-use mathlib.Core.List.{List}
+use mathlib.Core.List.{List, []}
 use mathlib.Core.Path.{_≡_, sym, ap, ap₂, _∙_, subst}
 use native.Mathlib.Omega.{arith}
 use Rattle.laws.specs.Choose.{pick}
@@ -124,20 +124,20 @@ pub record WrittenAs (h : Header) (raw body out : List ℕ) (r : TypeRow) : Type
   pub row : rowOf (h .kind) ≡ Row r
   pub options : optionsFit r h ≡ true
   pub lengths : lengthsFit (r .shape) (h .fields) (length body) ≡ true
-  pub allowed : length (packetBytes r h raw body) ≤ 8192
-  pub room : length (packetBytes r h raw body) ≤ length out
+  pub allowed : length (packetBytes r h [] raw body) ≤ 8192
+  pub room : length (packetBytes r h [] raw body) ≤ length out
 
 pub write-as : (h : Header) (raw body out : List ℕ) (r : TypeRow)
     → WrittenAs h raw body out r
-    → writeOf h raw body out ≡ record { answer = Written.Length (length (packetBytes r h raw body)); out = storeAt out 0 (packetBytes r h raw body) }
+    → writeOf h raw body out ≡ record { answer = Written.Length (length (packetBytes r h [] raw body)); out = storeAt out 0 (packetBytes r h [] raw body) }
 write-as h raw body out r a =
     write-judged h raw body out
     ∙ none-of shortBuffer (write-failing h raw body out) (refusing h raw body out) (written h raw body out (rowOf (h .kind))) writerChecks
     (λ i l. pass (writerCheckAt i))
     ∙ ap (written h raw body out) (a .row)
-    ∙ ap (λ (m : ℕ). record { answer = Written.Length m; out = storeAt out 0 (packetBytes r h raw body) }) (sym size)
+    ∙ ap (λ (m : ℕ). record { answer = Written.Length m; out = storeAt out 0 (packetBytes r h [] raw body) }) (sym size)
   where
-    size : length (packetBytes r h raw body) ≡ packetLength h (length raw) (length body)
+    size : length (packetBytes r h [] raw body) ≡ packetLength h (length raw) (length body)
     size = length-in-words h raw body r (a .row) (a .options)
 
     pass : (c : WriterCheck) → write-failing h raw body out c ≡ false
@@ -152,7 +152,7 @@ no-length k n e = let z : _≡_ {A = ℕ} 0 1 = cc in omega arith
 
 pub as-written : (h : Header) (raw body out : List ℕ) (n : ℕ)
     → writeOf h raw body out .answer ≡ Written.Length n
-    → (r : TypeRow) × WrittenAs h raw body out r × (n ≡ length (packetBytes r h raw body))
+    → (r : TypeRow) × WrittenAs h raw body out r × (n ≡ length (packetBytes r h [] raw body))
 as-written h raw body out n e = accepted (row-out _ (pass noType))
   where
     total : ℕ
@@ -175,7 +175,7 @@ as-written h raw body out n e = accepted (row-out _ (pass noType))
     pass : (c : WriterCheck) → write-failing h raw body out c ≡ false
     pass c = let (i, l, same) = write-placed c in ap (write-failing h raw body out) (sym same) ∙ tests .0 i l
 
-    accepted : (r : TypeRow) × (rowOf (h .kind) ≡ Row r) → (r : TypeRow) × WrittenAs h raw body out r × (n ≡ length (packetBytes r h raw body))
+    accepted : (r : TypeRow) × (rowOf (h .kind) ≡ Row r) → (r : TypeRow) × WrittenAs h raw body out r × (n ≡ length (packetBytes r h [] raw body))
     accepted (r, x) =
         let fits = not-false _ (sym (row-at _ r (λ q. not (optionsFit q h)) x) ∙ pass misplacedHeader) in
         let size = length-in-words h raw body r x fits in

@@ -3,7 +3,7 @@ use Prim.Native.Nat.{ℕ, _+_, _≤_}
 use borrow.Author.Tests.{eq-eqb, ne-eqb}
 use lib.Dec.{eqb}
 use lib.ListN.{length, drop}
-use mathlib.Core.Bool.{Bool}
+use mathlib.Core.Bool.{Bool, true}
 use mathlib.Core.List.{List, []}
 use mathlib.Core.Logic.{inr}
 use mathlib.Core.Option.{some, none}
@@ -17,10 +17,10 @@ use Rattle.protocol.specs.Flags.{hasFlag}
 use Rattle.protocol.specs.InWords.{ReadSaysItsBytes, ReadTellsItsBytes, Told, connidPlace, cqEnd, flagged, flagsIn, headIn, rawEnd, typeIn, valuesTold}
 use Rattle.protocol.specs.Options.{connidIn, cqDataIn}
 use Rattle.protocol.specs.Reading.{headerIn, packetIn}
-use Rattle.protocol.specs.Optional.{Section, connid, cq-data, flagOf, raw-address}
+use Rattle.protocol.specs.Optional.{Section, connid, cq-data, flagOf, isAmong, options, raw-address}
 use Rattle.protocol.specs.Optional as Optional
 use Rattle.protocol.specs.Sections.{connidAt, rawSpan, span}
-use Rattle.protocol.specs.SectionsInTurn.{afterRaw, cqDataLength}
+use Rattle.protocol.specs.SectionsInTurn.{afterArray, afterRaw, cqDataLength}
 use Rattle.protocol.specs.Types.{rowOf}
 use Rattle.protocol.specs.Values.{bytesAt, ownNumbers, values, valuesIn}
 use Rattle.protocol.specs.declared.table.Found.{Found}
@@ -36,9 +36,10 @@ use Rattle.laws.proofs.Storing.{length-part, part-rest}
 use Rattle.protocol.proofs.Accepted.{ReadAs, as-read, dataFrom, packetOf}
 use Rattle.protocol.proofs.FlagWords.{flagged-by-flag, flags-in-words}
 use Rattle.protocol.proofs.OrderHolds.{row-head}
+use Rattle.protocol.proofs.RowLaws.{after-no-array}
 use Rattle.protocol.proofs.Sayings.{read-gives}
 use Rattle.protocol.proofs.Served.{any-read}
-use Rattle.protocol.proofs.TableRule.{by-row, row-kind}
+use Rattle.protocol.proofs.TableRule.{by-row, no-array, row-kind}
 use Rattle.protocol.proofs.TypeWords.{fields-in-words, header-in-words, own-in-words, shape-in-words, tagged-in-words}
 
 -- a flag that is set, and one that is not
@@ -79,27 +80,30 @@ module _ (limit : ℕ) (bs : List ℕ) (p : Packet) (r : TypeRow) (a : ReadAs li
   rule : FlagRule k f
   rule = flags-in-words k r f (a .row) .0 (a .flags)
 
-  there : (x : Section) → Optional.flagged r f x ≡ hasFlag f (flagOf x)
+  there : (x : Section) → isAmong x options ≡ true → Optional.flagged r f x ≡ hasFlag f (flagOf x)
   there = flagged-by-flag f k r (a .row) rule
+
+  after : afterArray r bs ≡ r .header
+  after = after-no-array r bs (no-array k r (a .row))
 
   raw-end : afterRaw r f bs ≡ rawEnd k f bs
   unfolding afterRaw hasFlag
-  raw-end = rw (there raw-address) (ap (λ (h : ℕ). h + flagged f 0 (4 + leAt 4 bs h)) header)
+  raw-end = rw (after, there raw-address refl) (ap (λ (h : ℕ). h + flagged f 0 (4 + leAt 4 bs h)) header)
 
   raw-bytes : bitOf f 0 ≡ 1 → bytesAt bs (p .«raw_address») ≡ part bs (headerLength k + 4) (leAt 4 bs (headerLength k))
   unfolding packetIn rawSpan hasFlag
   raw-bytes b =
       ap (λ (y : Packet). bytesAt bs (y .«raw_address»)) q
-      ∙ ap (λ (t : Bool). bytesAt bs (rawSpan t bs (r .header))) (there raw-address)
-      ∙ ap (bytesAt bs) (set f 0 (span (r .header + 4) (leAt 4 bs (r .header))) (span 0 0) b)
-      ∙ ap (λ (h : ℕ). part bs (h + 4) (leAt 4 bs h)) header
+      ∙ ap (λ (t : Bool). bytesAt bs (rawSpan t bs (afterArray r bs))) (there raw-address refl)
+      ∙ ap (bytesAt bs) (set f 0 (span (afterArray r bs + 4) (leAt 4 bs (afterArray r bs))) (span 0 0) b)
+      ∙ ap (λ (h : ℕ). part bs (h + 4) (leAt 4 bs h)) (after ∙ header)
 
   no-raw-bytes : bitOf f 0 ≡ 0 → bytesAt bs (p .«raw_address») ≡ []
   unfolding packetIn rawSpan hasFlag part
   no-raw-bytes b =
       ap (λ (y : Packet). bytesAt bs (y .«raw_address»)) q
-      ∙ ap (λ (t : Bool). bytesAt bs (rawSpan t bs (r .header))) (there raw-address)
-      ∙ ap (bytesAt bs) (clear f 0 (span (r .header + 4) (leAt 4 bs (r .header))) (span 0 0) b)
+      ∙ ap (λ (t : Bool). bytesAt bs (rawSpan t bs (afterArray r bs))) (there raw-address refl)
+      ∙ ap (bytesAt bs) (clear f 0 (span (afterArray r bs + 4) (leAt 4 bs (afterArray r bs))) (span 0 0) b)
 
   raw-length : bitOf f 0 ≡ 1 → length (bytesAt bs (p .«raw_address»)) ≡ leAt 4 bs (headerLength k)
   raw-length b =
@@ -108,7 +112,7 @@ module _ (limit : ℕ) (bs : List ℕ) (p : Packet) (r : TypeRow) (a : ReadAs li
 
   connid-from : connidAt r (afterRaw r f bs + cqDataLength r f) ≡ connidPlace k f bs
   unfolding cqDataLength hasFlag
-  connid-from = rw (there cq-data) (ap (λ (m : ℕ). connidAt r (m + flagged f 1 8)) raw-end ∙ connid-placed f bs k r (a .row) rule)
+  connid-from = rw (there cq-data refl) (ap (λ (m : ℕ). connidAt r (m + flagged f 1 8)) raw-end ∙ connid-placed f bs k r (a .row) rule)
 
   told : Told bs k f p
   unfolding packetIn headerIn cqDataIn connidIn hasFlag
@@ -118,28 +122,28 @@ module _ (limit : ℕ) (bs : List ℕ) (p : Packet) (r : TypeRow) (a : ReadAs li
         shape = ap (λ (y : Packet). y .shape) q ∙ shape-in-words k r (a .row);
         tagged = ap (λ (y : Packet). y .tagged) q ∙ tagged-in-words k r (a .row);
         fields = ap (λ (y : Packet). y .header .fields) q ∙ fields-in-words bs k r (a .row);
-        rawAddress = λ b. (ap (λ (y : Packet). y .header .«raw_address») q ∙ there raw-address ∙ eq-eqb (bitOf f 0) 1 b, raw-bytes b, raw-length b);
+        rawAddress = λ b. (ap (λ (y : Packet). y .header .«raw_address») q ∙ there raw-address refl ∙ eq-eqb (bitOf f 0) 1 b, raw-bytes b, raw-length b);
         noRawAddress = λ b. (
-          ap (λ (y : Packet). y .header .«raw_address») q ∙ there raw-address ∙ ne-eqb (bitOf f 0) 1 (λ x. omega arith),
+          ap (λ (y : Packet). y .header .«raw_address») q ∙ there raw-address refl ∙ ne-eqb (bitOf f 0) 1 (λ x. omega arith),
           no-raw-bytes b,
         );
         cqData = λ b.
             ap (λ (y : Packet). y .header .«cq_data») q
-            ∙ ap (λ (t : Bool). cqDataIn t bs (afterRaw r f bs)) (there cq-data)
+            ∙ ap (λ (t : Bool). cqDataIn t bs (afterRaw r f bs)) (there cq-data refl)
             ∙ set f 1 (CqData.Present (leAt 8 bs (afterRaw r f bs))) CqData.Absent b
             ∙ ap (λ (m : ℕ). CqData.Present (leAt 8 bs m)) raw-end;
         noCqData = λ b.
             ap (λ (y : Packet). y .header .«cq_data») q
-            ∙ ap (λ (t : Bool). cqDataIn t bs (afterRaw r f bs)) (there cq-data)
+            ∙ ap (λ (t : Bool). cqDataIn t bs (afterRaw r f bs)) (there cq-data refl)
             ∙ clear f 1 (CqData.Present (leAt 8 bs (afterRaw r f bs))) CqData.Absent b;
         connid = λ b.
             ap (λ (y : Packet). y .header .connid) q
-            ∙ ap (λ (t : Bool). connidIn t bs (connidAt r (afterRaw r f bs + cqDataLength r f))) (there connid)
+            ∙ ap (λ (t : Bool). connidIn t bs (connidAt r (afterRaw r f bs + cqDataLength r f))) (there connid refl)
             ∙ set f 15 (Connid.Present (leAt 4 bs (connidAt r (afterRaw r f bs + cqDataLength r f)))) Connid.Absent b
             ∙ ap (λ (m : ℕ). Connid.Present (leAt 4 bs m)) connid-from;
         noConnid = λ b.
             ap (λ (y : Packet). y .header .connid) q
-            ∙ ap (λ (t : Bool). connidIn t bs (connidAt r (afterRaw r f bs + cqDataLength r f))) (there connid)
+            ∙ ap (λ (t : Bool). connidIn t bs (connidAt r (afterRaw r f bs + cqDataLength r f))) (there connid refl)
             ∙ clear f 15 (Connid.Present (leAt 4 bs (connidAt r (afterRaw r f bs + cqDataLength r f)))) Connid.Absent b;
         rest = ap (λ (y : Packet). bytesAt bs (y .«data»)) q ∙ part-rest bs (dataFrom r f bs) ∙ ap (λ (m : ℕ). drop m bs) (row-head bs r (a .row) (a .flags));
       }

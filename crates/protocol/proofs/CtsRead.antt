@@ -6,13 +6,14 @@ use mathlib.Core.Bool.{true}
 use mathlib.Core.List.{List, []}
 use mathlib.Core.Path.{_≡_, refl, ap, subst}
 use native.Mathlib.Omega.{arith}
+use Rattle.protocol.specs.Arrays.{arrayAllowed, arrayWhole, countOf}
 use Rattle.protocol.specs.Checks.{gives}
 use Rattle.protocol.specs.Cts.{ctsBytes, ctsHeader}
 use Rattle.protocol.specs.CtsWords.{CtsReadBack, ReadsAsCts}
 use Rattle.protocol.specs.FieldNumbers.{fieldBytes, numberIn}
-use Rattle.protocol.specs.Layout.{Field, credit-request, layout, msg-id, msg-length, multiuse, ownFields, padding, recv-id, recv-length, seg-length, seg-offset, send-id, tag, width}
+use Rattle.protocol.specs.Layout.{Field, count, credit-request, layout, msg-id, msg-length, multiuse, ownFields, padding, recv-id, recv-length, seg-length, seg-offset, send-id, tag, width}
 use Rattle.protocol.specs.Lengths.{lengthsFit}
-use Rattle.protocol.specs.Optional.{flagsOf, mayHave, optionsFit, sectionsOf}
+use Rattle.protocol.specs.Optional.{flagsOf, optionsFit, sectionsOf}
 use Rattle.protocol.specs.Options.{connidOrZero}
 use Rattle.protocol.specs.Reading.{readOf}
 use Rattle.protocol.specs.RoundTrip.{Numbers}
@@ -50,10 +51,11 @@ module _ (sendId recvId recvLength : ℕ) (s : sendId < 2 ^ 32) (r : recvId < 2 
       go tag = omega arith
       go multiuse = omega arith
       go padding = omega arith
+      go count = omega arith
 
   -- as the writer writes it into 24 bytes
   written : writeOf (ctsHeader sendId recvId recvLength) [] [] (replicate 24 0) ≡ record { answer = Written.Length 24; out = bytes }
-  unfolding bytes ctsBytes writeOf writeTyped writeAs writeBytes rowOf rowIn optionsFit mayHave flagsOf lengthsFit pick storeAt packetBytes mandatoryBytes baseBytes fieldBytes layout sectionsOf connidOrZero leBytes
+  unfolding bytes ctsBytes writeOf writeTyped writeAs writeBytes rowOf rowIn optionsFit arrayAllowed arrayWhole countOf flagsOf lengthsFit pick storeAt packetBytes mandatoryBytes baseBytes fieldBytes layout sectionsOf connidOrZero leBytes
   written = rw (le-leb 1 recvLength some)
 
   read-back : readSays bytes (readOf true 8192 bytes) ≡ gives (values (ctsHeader sendId recvId recvLength) [] [])

@@ -11,8 +11,10 @@ use mathlib.Core.Path.{_≡_, refl, sym, ap, _∙_}
 use native.Mathlib.Nat.{mod-lt}
 use native.Mathlib.Omega.{arith}
 use Rattle.laws.specs.Choose.{pick}
-use Rattle.protocol.specs.Flags.{flagsFit, hasFlag}
-use Rattle.protocol.specs.Optional.{Section, connid, cq-data, flagged, flagsOf, flagsTaken, hasConnid, hasCqData, isAmong, mayHave, optionsFit, raw-address, sectionsOf}
+use Rattle.protocol.specs.Arrays.{hasArray}
+use Rattle.protocol.specs.Flags.{connidFlag, flagsFit, hasFlag}
+use Rattle.protocol.specs.Layout.{multiuse, placeOf}
+use Rattle.protocol.specs.Optional.{Section, array, connid, cq-data, flagSum, flagged, flagsOf, flagsTaken, hasConnid, hasCqData, isAmong, mayHave, optionsFit, raw-address, sameSection, sectionsOf}
 use Rattle.protocol.specs.Rules.{Sound}
 use Rattle.protocol.specs.declared.table.TypeRow.{TypeRow}
 use Rattle.protocol.specs.declared.types.Header.{Header}
@@ -59,10 +61,16 @@ pub flags-small : (r : TypeRow) (h : Header) → Sound r → flagsOf r h < 2 ^ 1
 flags-small r h s = omega (arith, flags-as-bits r h, s .small, bits-small h)
 
 -- the flags that a type may have: all of them in a request, the connid's alone in any other
+no-flag : (a : Bool) (ss : List Section) → flagSum (pick a (array ∷ []) [] ++ ss) ≡ flagSum ss
+unfolding pick
+no-flag true ss = omega arith
+no-flag false ss = refl
+
 taken : (r : TypeRow) → Sound r → flagsTaken r ≡ pick (r .request) 0x8003 0x8000
 unfolding flagsTaken sectionsOf pick
 taken r s =
-    ⊎-elim (λ m. let c = ne-eqb (r .connid) 0 (λ z. omega (arith, m .1)) in rw (eq-eqb _ 0 (m .0), c) (⊎-elim (λ e. rw e) (λ e. rw e) (tested (r .request))))
+    ap (λ (n : ℕ). n + pick (eqb (placeOf r multiuse) 0) 0 connidFlag) (no-flag (hasArray r) _)
+    ∙ ⊎-elim (λ m. let c = ne-eqb (r .connid) 0 (λ z. omega (arith, m .1)) in rw (eq-eqb _ 0 (m .0), c) (⊎-elim (λ e. rw e) (λ e. rw e) (tested (r .request))))
     (λ m. rw (ne-eqb _ 0 (m .0), eq-eqb (r .connid) 0 (m .1)) (⊎-elim (λ e. rw e) (λ e. rw e) (tested (r .request))))
     (s .connidPlace)
 
@@ -88,24 +96,29 @@ module _ (r : TypeRow) (s : Sound r) where
 
 -- ---- the optional headers that a type may have
 
--- the sections of a row that is a request, or not, and has a connid among them, or not
-abbrev pub listed : Bool → Bool → List Section
-listed q z = pick q (raw-address ∷ cq-data ∷ []) [] ++ pick z [] (connid ∷ [])
+-- the sections of a row that has an array, or not, is a request, or not, and has a connid among them, or not
+abbrev pub listed : Bool → Bool → Bool → List Section
+listed a q z = pick a (array ∷ []) [] ++ (pick q (raw-address ∷ cq-data ∷ []) [] ++ pick z [] (connid ∷ []))
 
 -- raw address and CQ data in a request, and a connid always
-raw-listed : (q z : Bool) → (isAmong raw-address (listed q z) || false) ≡ q
+past-array : (a q z : Bool) (s : Section) → sameSection s array ≡ false → isAmong s (listed a q z) ≡ isAmong s (listed false q z)
+unfolding pick
+past-array true q z s e = rw e
+past-array false q z s e = refl
+
+raw-listed : (q z : Bool) → (isAmong raw-address (listed false q z) || false) ≡ q
 unfolding pick
 raw-listed true z = refl
 raw-listed false true = refl
 raw-listed false false = refl
 
-cq-listed : (q z : Bool) → (isAmong cq-data (listed q z) || false) ≡ q
+cq-listed : (q z : Bool) → (isAmong cq-data (listed false q z) || false) ≡ q
 unfolding pick
 cq-listed true z = refl
 cq-listed false true = refl
 cq-listed false false = refl
 
-connid-listed : (q z t : Bool) → (z ≡ true → t ≡ true) → (isAmong connid (listed q z) || t) ≡ true
+connid-listed : (q z t : Bool) → (z ≡ true → t ≡ true) → (isAmong connid (listed false q z) || t) ≡ true
 unfolding pick
 connid-listed true true t x = x refl
 connid-listed true false t x = refl
@@ -116,15 +129,18 @@ module _ (r : TypeRow) (h : Header) (s : Sound r) where
   connid-allowed : mayHave r connid ≡ true
   unfolding mayHave sectionsOf
   connid-allowed =
+      ap (λ (t : Bool). t || not (eqb (placeOf r multiuse) 0)) (past-array (hasArray r) (r .request) (eqb (r .connid) 0) connid refl) ∙
       connid-listed (r .request) (eqb (r .connid) 0) _ (λ z. ⊎-elim (λ m. absurd (omega (arith, m .1, eqb-true (r .connid) 0 z))) (λ m. ap not (ne-eqb _ 0 (m .0))) (s .connidPlace))
 
   raw-allowed : mayHave r raw-address ≡ r .request
   unfolding mayHave sectionsOf
-  raw-allowed = raw-listed (r .request) (eqb (r .connid) 0)
+  raw-allowed =
+      ap (λ (t : Bool). t || false) (past-array (hasArray r) (r .request) (eqb (r .connid) 0) raw-address refl) ∙ raw-listed (r .request) (eqb (r .connid) 0)
 
   cq-allowed : mayHave r cq-data ≡ r .request
   unfolding mayHave sectionsOf
-  cq-allowed = cq-listed (r .request) (eqb (r .connid) 0)
+  cq-allowed =
+      ap (λ (t : Bool). t || false) (past-array (hasArray r) (r .request) (eqb (r .connid) 0) cq-data refl) ∙ cq-listed (r .request) (eqb (r .connid) 0)
 
   pub options-tested : optionsFit r h ≡ (r .request || (not (h .«raw_address») && not (hasCqData (h .«cq_data»))))
   unfolding optionsFit

@@ -3,21 +3,22 @@ use Prim.Native.Nat.{ℕ, suc, _-_, _^_, _≤_, _<_, min}
 use borrow.Author.Tests.{leb-true, eqb-true, eq-eqb, ne-eqb}
 use lib.Bits.{bitAnd}
 use lib.Dec.{leb, eqb, lit<, lit≤}
-use mathlib.Core.Bool.{true, false, _||_, true≢false}
+use mathlib.Core.Bool.{true, false, _||_, false≢true, true≢false}
 use mathlib.Core.Logic.{_⊎_, _↔_, inl, inr, ⊎-elim}
 use mathlib.Core.Path.{_≡_, refl, sym, ap, _∙_}
 use native.Mathlib.Decide.{decLt, ℕ-discrete}
 use native.Mathlib.Omega.{arith}
 use Rattle.protocol.specs.ByType.{CtsFlags, CtsOrData, FlagRule, Rtm, RtmFlags, Tagged, bitOf}
 use Rattle.protocol.specs.Flags.{flagsFit, hasFlag}
-use Rattle.protocol.specs.Optional.{Section, connid, cq-data, flagOf, flagged, raw-address}
+use Rattle.protocol.specs.Optional.{Section, array, connid, cq-data, flagOf, flagged, isAmong, options, raw-address}
 use Rattle.protocol.specs.Rules.{Sound}
 use Rattle.protocol.specs.Types.{rowOf}
 use Rattle.protocol.specs.declared.table.Found.the-variants.{Row}
 use Rattle.protocol.specs.declared.table.TypeRow.{TypeRow}
-use Rattle.laws.proofs.Choosing.{or-cases}
+use Rattle.laws.proofs.Choosing.{or-cases, tested}
 use Rattle.protocol.proofs.BitWords.{allBelow, bitOf-past, bitOf-without, each-below, same-bits}
-use Rattle.protocol.proofs.TableRule.{by-row, rowAt, sound}
+use Rattle.protocol.proofs.TableRule.{by-row, sound}
+use Rattle.protocol.proofs.TypeWords.{request-in-words}
 
 -- "must have .., may have .., and no other": each flag that the type may not have is set exactly if it must have it
 abbrev ByBits : ℕ → ℕ → ℕ → Type 0
@@ -153,24 +154,19 @@ rule-by-bits f =
 pub flags-in-words : (k : ℕ) (r : TypeRow) (f : ℕ) → rowOf k ≡ Row r → (flagsFit r f ≡ true) ↔ FlagRule k f
 flags-in-words k r f e = through (bit-by-bit r f (sound k r e)) (rule-by-bits f k r e)
 
--- so a section is there exactly if its flag is set
-pub flagged-by-flag : (f k : ℕ) (r : TypeRow) → rowOf k ≡ Row r → FlagRule k f → (s : Section) → flagged r f s ≡ hasFlag f (flagOf s)
-flagged-by-flag f =
-    by-row (λ k r. FlagRule k f → (s : Section) → flagged r f s ≡ hasFlag f (flagOf s)) (λ w. plain (rowAt 0) refl (w .0 (inl refl)))
-    (λ w. plain (rowAt 1) refl (w .0 (inr refl)))
-    (λ w. request (rowAt 2) refl)
-    (λ w. request (rowAt 3) refl)
-    (λ w. request (rowAt 4) refl)
-    (λ w. request (rowAt 5) refl)
-    (λ w. request (rowAt 6) refl)
-    (λ w. request (rowAt 7) refl)
+-- so an optional header is there exactly if its flag is set
+pub flagged-by-flag : (f k : ℕ) (r : TypeRow) → rowOf k ≡ Row r → FlagRule k f → (s : Section) → isAmong s options ≡ true
+    → flagged r f s ≡ hasFlag f (flagOf s)
+flagged-by-flag f k r e w s o = ⊎-elim (λ q. request q s o) (λ q. plain q (w .0 (request-in-words k r e .0 q)) s o) (tested (r .request))
   where
-    plain : (r : TypeRow) → r .request ≡ false → CtsFlags f → (s : Section) → flagged r f s ≡ hasFlag f (flagOf s)
-    plain r q w raw-address = unfold flagged hasFlag in rw q (sym (ne-eqb (bitOf f 0) 1 (λ x. omega (arith, w 0 (λ y. omega arith)))))
-    plain r q w cq-data = unfold flagged hasFlag in rw q (sym (ne-eqb (bitOf f 1) 1 (λ x. omega (arith, w 1 (λ y. omega arith)))))
-    plain r q w connid = unfold flagged in refl
+    plain : r .request ≡ false → CtsFlags f → (s : Section) → isAmong s options ≡ true → flagged r f s ≡ hasFlag f (flagOf s)
+    plain q w array o = absurd (false≢true o)
+    plain q w raw-address o = unfold flagged hasFlag in rw q (sym (ne-eqb (bitOf f 0) 1 (λ x. omega (arith, w 0 (λ y. omega arith)))))
+    plain q w cq-data o = unfold flagged hasFlag in rw q (sym (ne-eqb (bitOf f 1) 1 (λ x. omega (arith, w 1 (λ y. omega arith)))))
+    plain q w connid o = unfold flagged in refl
 
-    request : (r : TypeRow) → r .request ≡ true → (s : Section) → flagged r f s ≡ hasFlag f (flagOf s)
-    request r q raw-address = unfold flagged in rw q
-    request r q cq-data = unfold flagged in rw q
-    request r q connid = unfold flagged in refl
+    request : r .request ≡ true → (s : Section) → isAmong s options ≡ true → flagged r f s ≡ hasFlag f (flagOf s)
+    request q array o = absurd (false≢true o)
+    request q raw-address o = unfold flagged in rw q
+    request q cq-data o = unfold flagged in rw q
+    request q connid o = unfold flagged in refl

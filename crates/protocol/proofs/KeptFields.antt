@@ -32,9 +32,9 @@ abbrev pub zeroedFields : Bool → List Field → ℕ → List ℕ → List ℕ
 zeroedFields t [] at l = l
 zeroedFields t (g ∷ gs) at l = zeroedFields t gs (at + width g) (pick (isBlank t g) (storeAt l at (replicate (width g) 0)) l)
 
--- a header has the numbers that the fields gs have in bs, and zero for the blank ones
-abbrev pub NumbersKept : Bool → List Field → ℕ → List ℕ → Header → Type 0
-NumbersKept t gs at bs h = (f : Field) → has f gs ≡ true → numberOf h f ≡ pick (isBlank t f) 0 (numberAt gs at bs f)
+-- a header, with the count that is told, has the numbers that the fields gs have in bs, and zero for the blank ones
+abbrev pub NumbersKept : Bool → List Field → ℕ → List ℕ → ℕ → Header → Type 0
+NumbersKept t gs at bs told h = (f : Field) → has f gs ≡ true → numberOf told h f ≡ pick (isBlank t f) 0 (numberAt gs at bs f)
 
 module _ (t : Bool) (bs : List ℕ) (b : (i : ℕ) → getD bs i 0 < 256) where
   field-kept : (g : Field) (at n : ℕ) → at + width g ≤ length bs → n ≡ pick (isBlank t g) 0 (leAt (width g) bs at)
@@ -44,18 +44,18 @@ module _ (t : Bool) (bs : List ℕ) (b : (i : ℕ) → getD bs i 0 < 256) where
       (λ x. ap (leBytes (width g)) (e ∙ pick-false _ _ x) ∙ bytes-again (width g) bs at b h ∙ sym (pick-false _ _ x))
       (tested (isBlank t g))
 
-  fields-kept : (gs : List Field) (h : Header) (at : ℕ) → distinct gs ≡ true → at + widths gs ≤ length bs → NumbersKept t gs at bs h
-      → fieldBytes gs h ≡ kept t gs at bs
+  fields-kept : (gs : List Field) (told : ℕ) (h : Header) (at : ℕ) → distinct gs ≡ true → at + widths gs ≤ length bs → NumbersKept t gs at bs told h
+      → fieldBytes gs told h ≡ kept t gs at bs
   unfolding fieldBytes numberAt
-  fields-kept [] h at d k e = refl
-  fields-kept (g ∷ gs) h at d k e =
+  fields-kept [] told h at d k e = refl
+  fields-kept (g ∷ gs) told h at d k e =
       let self : sameField g g ≡ true = eq-eqb (ordinal g) (ordinal g) refl in
       let n : has g gs ≡ false = not-true (has g gs) (and-left (not (has g gs)) (distinct gs) d) in
-      let here : numberOf h g ≡ pick (isBlank t g) 0 (leAt (width g) bs at) = e g (rw self) ∙ ap (pick (isBlank t g) 0) (pick-true _ _ self) in
-      let rest : NumbersKept t gs (at + width g) bs h =
+      let here : numberOf told h g ≡ pick (isBlank t g) 0 (leAt (width g) bs at) = e g (rw self) ∙ ap (pick (isBlank t g) 0) (pick-true _ _ self) in
+      let rest : NumbersKept t gs (at + width g) bs told h =
       λ f m. e f (rw (m, or-true)) ∙ ap (pick (isBlank t f) 0) (pick-false _ _ (other-field gs g f n m)) in
-      ap₂ _++_ (field-kept g at (numberOf h g) (omega arith) here)
-      (fields-kept gs h (at + width g) (and-right (not (has g gs)) (distinct gs) d) (omega arith) rest)
+      ap₂ _++_ (field-kept g at (numberOf told h g) (omega arith) here)
+      (fields-kept gs told h (at + width g) (and-right (not (has g gs)) (distinct gs) d) (omega arith) rest)
 
 length-zeroed-field : (t : Bool) (g : Field) (l : List ℕ) (at : ℕ) → at + width g ≤ length l
     → length (pick (isBlank t g) (storeAt l at (replicate (width g) 0)) l) ≡ length l
@@ -102,11 +102,11 @@ module _ (t : Bool) (bs c : List ℕ) where
       ∙ ap (zeroedFields t gs (at + width g)) (sym (field-zeroed g at (widths gs) a p (omega arith)))
 
 -- fields that were read, written again between the bytes a before them and c behind
-pub fields-again : (t : Bool) (gs : List Field) (h : Header) (bs a c : List ℕ) (at : ℕ)
+pub fields-again : (t : Bool) (gs : List Field) (told : ℕ) (h : Header) (bs a c : List ℕ) (at : ℕ)
     → distinct gs ≡ true
     → ((i : ℕ) → getD bs i 0 < 256)
     → at + widths gs ≤ length bs
     → length a ≡ at
-    → NumbersKept t gs at bs h
-    → a ++ (fieldBytes gs h ++ c) ≡ zeroedFields t gs at (a ++ (part bs at (widths gs) ++ c))
-fields-again t gs h bs a c at d b k p e = rw (fields-kept t bs b gs h at d k e) (kept-zeroed t bs c gs at a p k)
+    → NumbersKept t gs at bs told h
+    → a ++ (fieldBytes gs told h ++ c) ≡ zeroedFields t gs at (a ++ (part bs at (widths gs) ++ c))
+fields-again t gs told h bs a c at d b k p e = rw (fields-kept t bs b gs told h at d k e) (kept-zeroed t bs c gs at a p k)

@@ -2,24 +2,24 @@
 use Prim.Native.Nat.{ℕ, _+_, _^_, _<_}
 use borrow.Author.Tests.{eq-eqb, eqb-true, ne-eqb}
 use lib.ListN.{length, getD, length-append}
-use mathlib.Core.Bool.{true, false, false≢true, or-true, true≢false}
+use mathlib.Core.Bool.{true, false, false≢true, or-true}
 use mathlib.Core.List.{List, [], _∷_, _++_, append-assoc, map}
 use mathlib.Core.Logic.{⊎-elim}
 use mathlib.Core.Path.{_≡_, refl, sym, ap, ap₂, _∙_}
 use native.Mathlib.Omega.{arith}
 use Rattle.laws.specs.Choose.{pick}
 use Rattle.protocol.specs.FieldNumbers.{fieldBytes, fieldsIn, numberAt, numberIn, numberOf, numberThere}
-use Rattle.protocol.specs.Layout.{Field, credit-request, fields, has, isOwn, msg-id, msg-length, multiuse, ordinal, padding, placeIn, recv-id, recv-length, sameField, seg-length, seg-offset, select, send-id, tag, width, widths}
+use Rattle.protocol.specs.Layout.{Field, count, credit-request, fields, has, isOwn, msg-id, msg-length, multiuse, ordinal, padding, placeIn, recv-id, recv-length, sameField, seg-length, seg-offset, select, send-id, tag, width, widths}
 use Rattle.protocol.specs.RoundTrip.{Numbers}
 use Rattle.protocol.specs.declared.types.Header.{Header}
 use Rattle.wire.specs.LittleEndian.{leBytes}
 use Rattle.laws.proofs.Choosing.{allTrue, and-left, and-right, pick-false, pick-true, tested}
 use Rattle.wire.proofs.Laws.{le-behind, length-le}
 
-pub length-fields : (gs : List Field) (h : Header) → length (fieldBytes gs h) ≡ widths gs
+pub length-fields : (gs : List Field) (told : ℕ) (h : Header) → length (fieldBytes gs told h) ≡ widths gs
 unfolding fieldBytes
-length-fields [] h = refl
-length-fields (g ∷ gs) h = rw (length-append, length-le, length-fields gs h)
+length-fields [] told h = refl
+length-fields (g ∷ gs) told h = rw (length-append, length-le, length-fields gs told h)
 
 -- two fields with one ordinal are the same
 named : ℕ → Field
@@ -38,6 +38,7 @@ named-ordinal credit-request = refl
 named-ordinal tag = refl
 named-ordinal multiuse = refl
 named-ordinal padding = refl
+named-ordinal count = refl
 
 pub same-field : (g f : Field) → sameField g f ≡ true → g ≡ f
 same-field g f e = sym (named-ordinal g) ∙ ap named (eqb-true _ _ e) ∙ named-ordinal f
@@ -89,38 +90,52 @@ number-in gs at bs credit-request o = refl
 number-in gs at bs tag o = refl
 number-in gs at bs multiuse o = absurd (false≢true o)
 number-in gs at bs padding o = absurd (false≢true o)
+number-in gs at bs count o = absurd (false≢true o)
 
-own-number : (h : Header) (f : Field) → isOwn f ≡ true → numberOf h f ≡ numberIn (h .fields) f
-own-number h f o = ⊎-elim (λ e. absurd (true≢false (sym o ∙ rw e))) (λ e. pick-false _ _ e) (tested (sameField multiuse f))
+own-number : (told : ℕ) (h : Header) (f : Field) → isOwn f ≡ true → numberOf told h f ≡ numberIn (h .fields) f
+unfolding pick
+own-number told h msg-id o = refl
+own-number told h recv-id o = refl
+own-number told h send-id o = refl
+own-number told h msg-length o = refl
+own-number told h seg-length o = refl
+own-number told h recv-length o = refl
+own-number told h seg-offset o = refl
+own-number told h credit-request o = refl
+own-number told h tag o = refl
+own-number told h multiuse o = absurd (false≢true o)
+own-number told h padding o = absurd (false≢true o)
+own-number told h count o = absurd (false≢true o)
 
 -- each number that is written fits its field
-number-fits : (h : Header) (f : Field) → Numbers h → numberOf h f < 256 ^ width f
-number-fits h msg-id x = unfold pick in x .fields msg-id
-number-fits h recv-id x = unfold pick in x .fields recv-id
-number-fits h send-id x = unfold pick in x .fields send-id
-number-fits h msg-length x = unfold pick in x .fields msg-length
-number-fits h seg-length x = unfold pick in x .fields seg-length
-number-fits h recv-length x = unfold pick in x .fields recv-length
-number-fits h seg-offset x = unfold pick in x .fields seg-offset
-number-fits h credit-request x = unfold pick in x .fields credit-request
-number-fits h tag x = unfold pick in x .fields tag
-number-fits h multiuse x = unfold pick in x .connid
-number-fits h padding x = unfold pick in x .fields padding
+number-fits : (told : ℕ) (h : Header) (f : Field) → told < 256 ^ 4 → Numbers h → numberOf told h f < 256 ^ width f
+number-fits told h msg-id y x = unfold pick in x .fields msg-id
+number-fits told h recv-id y x = unfold pick in x .fields recv-id
+number-fits told h send-id y x = unfold pick in x .fields send-id
+number-fits told h msg-length y x = unfold pick in x .fields msg-length
+number-fits told h seg-length y x = unfold pick in x .fields seg-length
+number-fits told h recv-length y x = unfold pick in x .fields recv-length
+number-fits told h seg-offset y x = unfold pick in x .fields seg-offset
+number-fits told h credit-request y x = unfold pick in x .fields credit-request
+number-fits told h tag y x = unfold pick in x .fields tag
+number-fits told h multiuse y x = unfold pick in x .connid
+number-fits told h padding y x = unfold pick in x .fields padding
+number-fits told h count y x = unfold pick in y
 
 -- ---- written fields are read
 
-pub number-read : (gs : List Field) (h : Header) (a c : List ℕ) (at : ℕ) (f : Field) → Numbers h → length a ≡ at → has f gs ≡ true
-    → numberAt gs at (a ++ (fieldBytes gs h ++ c)) f ≡ numberOf h f
+pub number-read : (gs : List Field) (told : ℕ) (h : Header) (a c : List ℕ) (at : ℕ) (f : Field) → told < 256 ^ 4 → Numbers h → length a ≡ at → has f gs ≡ true
+    → numberAt gs at (a ++ (fieldBytes gs told h ++ c)) f ≡ numberOf told h f
 unfolding numberAt fieldBytes
-number-read [] h a c at f x p m = absurd (false≢true m)
-number-read (g ∷ gs) h a c at f x p m =
-    ⊎-elim (λ e. pick-true _ _ e ∙ rw (same-field g f e, append-assoc) (le-behind (width f) (numberOf h f) a _ at (number-fits h f x) p))
+number-read [] told h a c at f y x p m = absurd (false≢true m)
+number-read (g ∷ gs) told h a c at f y x p m =
+    ⊎-elim (λ e. pick-true _ _ e ∙ rw (same-field g f e, append-assoc) (le-behind (width f) (numberOf told h f) a _ at (number-fits told h f y x) p))
     (λ e.
     let m : has f gs ≡ true = rw e at m in
-    let q : length (a ++ leBytes (width g) (numberOf h g)) ≡ at + width g = rw (length-append, length-le, p) in
+    let q : length (a ++ leBytes (width g) (numberOf told h g)) ≡ at + width g = rw (length-append, length-le, p) in
     pick-false _ _ e
-    ∙ rw (append-assoc, ← append-assoc a (leBytes (width g) (numberOf h g)) (fieldBytes gs h ++ c))
-    (number-read gs h (a ++ leBytes (width g) (numberOf h g)) c (at + width g) f x q m))
+    ∙ rw (append-assoc, ← append-assoc a (leBytes (width g) (numberOf told h g)) (fieldBytes gs told h ++ c))
+    (number-read gs told h (a ++ leBytes (width g) (numberOf told h g)) c (at + width g) f y x q m))
     (tested (sameField g f))
 
 map-own : (u v : Field → ℕ) (gs : List Field) → ((f : Field) → has f gs ≡ true → isOwn f ≡ true → u f ≡ v f)
@@ -133,9 +148,9 @@ map-own u v (g ∷ gs) h =
     ⊎-elim (λ e. rw e (ap₂ _∷_ (h g (rw self) e) rest)) (λ e. rw e rest) (tested (isOwn g))
 
 -- the own fields of a packet that was written
-pub fields-read : (gs : List Field) (h : Header) (a c : List ℕ) (at : ℕ) → Numbers h → length a ≡ at
-    → map (numberIn (fieldsIn gs at (a ++ (fieldBytes gs h ++ c)))) (select isOwn gs) ≡ map (numberIn (h .fields)) (select isOwn gs)
-fields-read gs h a c at x p = map-own _ _ gs (λ f m o. number-in gs at _ f o ∙ number-read gs h a c at f x p m ∙ own-number h f o)
+pub fields-read : (gs : List Field) (told : ℕ) (h : Header) (a c : List ℕ) (at : ℕ) → told < 256 ^ 4 → Numbers h → length a ≡ at
+    → map (numberIn (fieldsIn gs at (a ++ (fieldBytes gs told h ++ c)))) (select isOwn gs) ≡ map (numberIn (h .fields)) (select isOwn gs)
+fields-read gs told h a c at y x p = map-own _ _ gs (λ f m o. number-in gs at _ f o ∙ number-read gs told h a c at f y x p m ∙ own-number told h f o)
 
 -- ---- two ways to number fields
 

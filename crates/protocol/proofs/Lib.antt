@@ -1,5 +1,6 @@
 pub mod TableRule
 pub mod RowLaws
+pub mod ArrayLaws
 pub mod FlagLaws
 pub mod LayoutLaws
 pub mod KeptFields
@@ -23,6 +24,7 @@ pub mod WriteBack
 pub mod Sayings
 pub mod ValuesWritten
 pub mod RoundTrips
+pub mod RowTrips
 pub mod Served
 pub mod CtsRead
 pub mod BytesHold

@@ -14,7 +14,7 @@ use Rattle.protocol.specs.Options.{connidBytes, connidIn, connidOrZero, 
 use Rattle.protocol.specs.RoundTrip.{cqDataOrZero}
 use Rattle.protocol.specs.Rules.{Sound}
 use Rattle.protocol.specs.Sections.{rawSpan}
-use Rattle.protocol.specs.SectionsInTurn.{afterRaw, connidLength, cqDataLength, rawLength}
+use Rattle.protocol.specs.SectionsInTurn.{afterArray, afterRaw, connidLength, cqDataLength, rawLength}
 use Rattle.protocol.specs.Values.{bytesAt}
 use Rattle.protocol.specs.declared.table.TypeRow.{TypeRow}
 use Rattle.protocol.specs.declared.types.Connid.{Connid}
@@ -53,25 +53,26 @@ module _ (r : TypeRow) (h : Header) (s : Sound r) where
   connid-length = rw (length-connid, connid-flag r h s)
 
 -- a raw address that was written behind the bytes m
-module _ (r : TypeRow) (f : ℕ) (raw m c : List ℕ) (p : length m ≡ r .header) where
-  raw-size : length (rawAddressBytes true raw) < 256 ^ 4 → leAt 4 (m ++ (rawAddressBytes true raw ++ c)) (r .header) ≡ length raw
+module _ (r : TypeRow) (f : ℕ) (raw m c : List ℕ) (at : ℕ) (p : length m ≡ at) where
+  raw-size : length (rawAddressBytes true raw) < 256 ^ 4 → leAt 4 (m ++ (rawAddressBytes true raw ++ c)) at ≡ length raw
   unfolding rawAddressBytes pick
-  raw-size x = rw append-assoc (le-behind 4 (length raw) m (raw ++ c) (r .header) (omega (arith, length-raw true raw)) p)
+  raw-size x = rw append-assoc (le-behind 4 (length raw) m (raw ++ c) at (omega (arith, length-raw true raw)) p)
 
-  raw-part : part (m ++ (rawAddressBytes true raw ++ c)) (r .header + 4) (length raw) ≡ raw
+  raw-part : part (m ++ (rawAddressBytes true raw ++ c)) (at + 4) (length raw) ≡ raw
   unfolding rawAddressBytes pick
   raw-part =
-      let q : length (m ++ leBytes 4 (length raw)) ≡ r .header + 4 = rw (length-append, length-le, p) in
+      let q : length (m ++ leBytes 4 (length raw)) ≡ at + 4 = rw (length-append, length-le, p) in
       rw (append-assoc, ← append-assoc m (leBytes 4 (length raw)) (raw ++ c)) (part-middle (m ++ leBytes 4 (length raw)) raw c _ _ q refl)
 
   pub after-raw : (there : Bool) → flagged r f raw-address ≡ there → length (rawAddressBytes there raw) < 256 ^ 4
-      → afterRaw r f (m ++ (rawAddressBytes there raw ++ c)) ≡ r .header + length (rawAddressBytes there raw)
+      → afterArray r (m ++ (rawAddressBytes there raw ++ c)) ≡ at
+      → afterRaw r f (m ++ (rawAddressBytes there raw ++ c)) ≡ at + length (rawAddressBytes there raw)
   unfolding afterRaw pick
-  after-raw true e x = rw (e, raw-size x, length-raw true raw)
-  after-raw false e x = rw (e, length-raw false raw)
+  after-raw true e x q = rw (e, q, raw-size x, length-raw true raw)
+  after-raw false e x q = rw (e, q, length-raw false raw)
 
   pub raw-read : (there : Bool) → flagged r f raw-address ≡ there → length (rawAddressBytes there raw) < 256 ^ 4
-      → pick (flagged r f raw-address) (some (bytesAt (m ++ (rawAddressBytes there raw ++ c)) (rawSpan (flagged r f raw-address) (m ++ (rawAddressBytes there raw ++ c)) (r .header)))) none
+      → pick (flagged r f raw-address) (some (bytesAt (m ++ (rawAddressBytes there raw ++ c)) (rawSpan (flagged r f raw-address) (m ++ (rawAddressBytes there raw ++ c)) at))) none
       ≡ pick there (some raw) none
   unfolding rawSpan pick
   raw-read true e x = rw (e, raw-size x, raw-part)
@@ -119,14 +120,14 @@ has-connid false bs at = refl
 
 -- the bytes of an optional header that was read
 module _ (bs : List ℕ) (b : (i : ℕ) → getD bs i 0 < 256) where
-  pub raw-again : (r : TypeRow) (f : ℕ) → r .header + rawLength r f bs ≤ length bs
-      → rawAddressBytes (flagged r f raw-address) (bytesAt bs (rawSpan (flagged r f raw-address) bs (r .header))) ≡ part bs (r .header) (rawLength r f bs)
+  pub raw-again : (r : TypeRow) (f : ℕ) → afterArray r bs + rawLength r f bs ≤ length bs
+      → rawAddressBytes (flagged r f raw-address) (bytesAt bs (rawSpan (flagged r f raw-address) bs (afterArray r bs))) ≡ part bs (afterArray r bs) (rawLength r f bs)
   unfolding rawAddressBytes rawSpan pick part
   raw-again r f h =
       ⊎-elim (λ e.
-      let k : r .header + (4 + leAt 4 bs (r .header)) ≤ length bs = rw e at h in
-      let m = length-part bs (r .header + 4) (leAt 4 bs (r .header)) (omega arith) in
-      rw (e, part-add, m, bytes-again 4 bs (r .header) b (omega arith)))
+      let k : afterArray r bs + (4 + leAt 4 bs (afterArray r bs)) ≤ length bs = rw e at h in
+      let m = length-part bs (afterArray r bs + 4) (leAt 4 bs (afterArray r bs)) (omega arith) in
+      rw (e, part-add, m, bytes-again 4 bs (afterArray r bs) b (omega arith)))
       (λ e. rw e)
       (tested (flagged r f raw-address))
 

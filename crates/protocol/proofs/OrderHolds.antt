@@ -19,7 +19,7 @@ use Rattle.protocol.specs.Refusals.{aboveLimit, badLength, badType, badV
 use Rattle.protocol.specs.Says.{readSays}
 use Rattle.protocol.specs.Optional.{connid, cq-data, raw-address}
 use Rattle.protocol.specs.Sections.{extentOf}
-use Rattle.protocol.specs.SectionsInTurn.{afterRaw, connidLength, cqDataLength, sectionsFrom}
+use Rattle.protocol.specs.SectionsInTurn.{afterRaw, connidLength, cqDataLength, sectionsBehind, sectionsFrom}
 use Rattle.protocol.specs.Types.{admit, row, rowOf}
 use Rattle.protocol.specs.Values.{Values, valuesIn}
 use Rattle.protocol.specs.declared.sections.Extent.the-variants.{Cut}
@@ -36,7 +36,8 @@ use Rattle.protocol.proofs.FirstFailing.{given-if-none, judged, judged-
 use Rattle.protocol.proofs.FoundRow.{isUnknown, ofRow, pick-not, row-in, row-out}
 use Rattle.protocol.proofs.FlagWords.{flagged-by-flag, flags-in-words}
 use Rattle.protocol.proofs.StepLaws.{extent-in-steps}
-use Rattle.protocol.proofs.TableRule.{sound}
+use Rattle.protocol.proofs.TableRule.{no-array}
+use Rattle.protocol.proofs.RowLaws.{after-no-array}
 use Rattle.protocol.proofs.TypeWords.{connid-in-words, fields-in-words, header-in-words, lengths-in-words, unknown-flags, unknown-lengths}
 use Rattle.protocol.proofs.WordsHold.{types-are-the-tables}
 
@@ -45,7 +46,7 @@ pub row-head : (bs : List ℕ) (r : TypeRow) → rowOf (typeIn bs) ≡ Row r →
 unfolding afterRaw cqDataLength connidLength hasFlag
 row-head bs r e t =
     let there = flagged-by-flag (flagsIn bs) (typeIn bs) r e (flags-in-words (typeIn bs) r (flagsIn bs) e .0 t) in
-    rw (there raw-address, there cq-data, there connid, header-in-words (typeIn bs) r e, connid-in-words (typeIn bs) r e)
+    rw (after-no-array r bs (no-array (typeIn bs) r e), there raw-address refl, there cq-data refl, there connid refl, header-in-words (typeIn bs) r e, connid-in-words (typeIn bs) r e)
 
 -- each check stands in the list
 pub placed : (c : Check) → (i : ℕ) × (i < 7) × (checkAt i ≡ c)
@@ -85,9 +86,9 @@ module _ (all : Bool) (limit : ℕ) (bs : List ℕ) where
 
   sections-judged : (r : TypeRow) → rowOf k ≡ Row r → flagsFit r f ≡ true
       → readSections r f bs (extentOf r f bs) ≡ judgedAs (Row r) (headerCut ∷ wrongLengths ∷ [])
-  unfolding sectionsFrom readSections readLengths packetIn headerIn
+  unfolding sectionsBehind sectionsFrom afterRaw readSections readLengths packetIn headerIn
   sections-judged r e t =
-      ap (readSections r f bs) (extent-in-steps r f bs (sound k r e))
+      ap (readSections r f bs) (extent-in-steps r f bs)
       ∙ pick-ap (readSections r f bs) (ltb (length bs) (dataFrom r f bs)) Cut _
       ∙ ap₂ whole (row-head bs r e t) (fields-in-words bs k r e)
       ∙ ap (λ (x : Read). pick (ltb (length bs) (headIn bs)) (Read.Refused cutShort) x) (pick-not (lengthsFit _ _ _) _ _)

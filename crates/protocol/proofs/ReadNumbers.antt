@@ -6,7 +6,7 @@ use mathlib.Core.Bool.{Bool, true}
 use mathlib.Core.List.{List, [], _∷_}
 use mathlib.Core.Path.{_≡_}
 use Rattle.protocol.specs.FieldNumbers.{fieldsIn, numberAt, numberIn}
-use Rattle.protocol.specs.Layout.{Field, credit-request, layout, msg-id, msg-length, multiuse, padding, recv-id, recv-length, sameField, seg-length, seg-offset, send-id, tag, width}
+use Rattle.protocol.specs.Layout.{Field, count, credit-request, layout, msg-id, msg-length, multiuse, padding, recv-id, recv-length, sameField, seg-length, seg-offset, send-id, tag, width}
 use Rattle.protocol.specs.Options.{connidIn, connidOrZero, cqDataIn}
 use Rattle.protocol.specs.Reading.{headerIn, packetIn, readOf}
 use Rattle.protocol.specs.RoundTrip.{Numbers, cqDataOrZero}
@@ -31,6 +31,7 @@ none-small credit-request = lit< tt
 none-small tag = lit< tt
 none-small multiuse = lit< tt
 none-small padding = lit< tt
+none-small count = lit< tt
 
 module _ (bs : List ℕ) (b : (i : ℕ) → getD bs i 0 < 256) where
   number-small : (gs : List Field) (at : ℕ) (f : Field) → numberAt gs at bs f < 256 ^ width f
@@ -52,6 +53,7 @@ module _ (bs : List ℕ) (b : (i : ℕ) → getD bs i 0 < 256) where
   field-small gs at tag = number-small gs at tag
   field-small gs at multiuse = none-small multiuse
   field-small gs at padding = none-small padding
+  field-small gs at count = none-small count
 
   cq-data-small : (there : Bool) (at : ℕ) → cqDataOrZero (cqDataIn there bs at) < 256 ^ 8
   unfolding cqDataIn

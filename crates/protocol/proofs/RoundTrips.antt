@@ -1,5 +1,6 @@
 -- Reader and writer undo each other: the three statements of specs/RoundTrip.antt.
 use lib.ListN.{length}
+use mathlib.Core.List.{[]}
 use mathlib.Core.Path.{_≡_, sym, ap, _∙_}
 use native.Mathlib.Nat.{zero-add}
 use native.Mathlib.Omega.{arith}
@@ -24,16 +25,16 @@ unfolding part
 length-is-packets h raw body out n r row e =
     let (q, w, l) = as-written h raw body out n (written-gives _ n e) in
     let same : q ≡ r = cc (w .row) in
-    let b : writeOf h raw body out .out ≡ storeAt out 0 (packetBytes r h raw body) = ap (λ o. o .out) (write-as h raw body out q w) ∙ rw same in
-    let l : n ≡ length (packetBytes r h raw body) = rw same at l in
-    let rest = rw zero-add at (drop-store out 0 (packetBytes r h raw body) (omega arith)) in
-    (l, rw (b, l) (part-store out 0 (packetBytes r h raw body) (omega arith)), rw (b, l) rest)
+    let b : writeOf h raw body out .out ≡ storeAt out 0 (packetBytes r h [] raw body) = ap (λ o. o .out) (write-as h raw body out q w) ∙ rw same in
+    let l : n ≡ length (packetBytes r h [] raw body) = rw same at l in
+    let rest = rw zero-add at (drop-store out 0 (packetBytes r h [] raw body) (omega arith)) in
+    (l, rw (b, l) (part-store out 0 (packetBytes r h [] raw body) (omega arith)), rw (b, l) rest)
 
 pub reads-what-was-written : ReadsWhatWasWritten
 reads-what-was-written h raw body out limit n x l e =
     let (r, w, k) = as-written h raw body out n (written-gives _ n e) in
     let b = length-is-packets h raw body out n r (w .row) e .1 in
-    let bytes = packetBytes r h raw body in
+    let bytes = packetBytes r h [] raw body in
     let read = read-as limit bytes r (written-reads h raw body out r w x limit (omega arith)) in
     rw b (ap (readSays bytes) read ∙ ap gives (written-values h raw body out r w x))
 

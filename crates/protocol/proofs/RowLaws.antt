@@ -2,16 +2,18 @@
 use Prim.Native.Nat.{ℕ, _≤_}
 use borrow.Author.Tests.{eq-eqb, ne-eqb}
 use lib.Dec.{lit<}
-use mathlib.Core.Bool.{Bool}
+use mathlib.Core.Bool.{Bool, not}
 use mathlib.Core.List.{List}
 use mathlib.Core.Logic.{⊎-elim}
-use mathlib.Core.Path.{_≡_, ap, _∙_}
+use mathlib.Core.Path.{_≡_, sym, ap, _∙_}
 use native.Mathlib.Omega.{arith}
 use Rattle.laws.specs.Choose.{pick}
-use Rattle.protocol.specs.FieldNumbers.{numberAt, numberThere}
+use Rattle.protocol.specs.Arrays.{arrayLength}
+use Rattle.protocol.specs.FieldNumbers.{countIn, numberAt, numberThere}
 use Rattle.protocol.specs.Layout.{Field, layout, multiuse, placeOf, tag, width}
 use Rattle.protocol.specs.Rules.{NumberWidth, Sound}
 use Rattle.protocol.specs.Sections.{connidAt}
+use Rattle.protocol.specs.SectionsInTurn.{afterArray}
 use Rattle.protocol.specs.declared.table.TypeRow.{TypeRow}
 use Rattle.wire.specs.LittleEndian.{leAt}
 use Rattle.laws.proofs.Choosing.{pick-false, pick-small, pick-true}
@@ -30,6 +32,11 @@ connid-small r t s =
     let p = pick-small t (r .connid) in
     ⊎-elim (λ e. omega arith) (⊎-elim (λ e. omega arith) (λ e. omega arith)) (s .connid)
 
+-- where a type without an array has its raw address
+pub after-no-array : (r : TypeRow) (bs : List ℕ) → r .unit ≡ 0 → afterArray r bs ≡ r .header
+unfolding afterArray
+after-no-array r bs e = omega (arith, pick-false {A = ℕ} (arrayLength r (countIn r bs)) 0 (ap not (eq-eqb (r .unit) 0 e)))
+
 -- where the connid stands
 pub connid-after : (r : TypeRow) (at : ℕ) → placeOf r multiuse ≡ 0 → connidAt r at ≡ at
 unfolding connidAt
@@ -39,18 +46,16 @@ pub connid-within : (r : TypeRow) (at : ℕ) → (placeOf r multiuse ≡ 0 → �
 unfolding connidAt
 connid-within r at n = pick-false _ _ (ne-eqb (placeOf r multiuse) 0 n)
 
--- a field of the type is read where the row says
+-- a field is read where the row says
+pub number-here : (r : TypeRow) (bs : List ℕ) (f : Field) → Sound r → numberThere (placeOf r f) (width f) bs ≡ numberAt (layout r) 4 bs f
+number-here r bs f s = ap (λ p. numberThere p (width f) bs) (sym (s .placed f)) ∙ sym (number-there (layout r) 4 bs f (lit< tt))
+
+-- that of a field of the type there
 pub number-placed : (r : TypeRow) (bs : List ℕ) (f : Field) → Sound r → (placeOf r f ≡ 0 → ⊥) → numberAt (layout r) 4 bs f ≡ leAt (width f) bs (placeOf r f)
 unfolding numberThere
-number-placed r bs f s n =
-    number-there (layout r) 4 bs f (lit< tt)
-    ∙ ap (λ p. numberThere p (width f) bs) (s .placed f)
-    ∙ pick-false _ _ (ne-eqb (placeOf r f) 0 n)
+number-placed r bs f s n = sym (number-here r bs f s) ∙ pick-false _ _ (ne-eqb (placeOf r f) 0 n)
 
 -- and is 0 where the type has no such field
 pub number-none : (r : TypeRow) (bs : List ℕ) (f : Field) → Sound r → placeOf r f ≡ 0 → numberAt (layout r) 4 bs f ≡ 0
 unfolding numberThere
-number-none r bs f s e =
-    number-there (layout r) 4 bs f (lit< tt)
-    ∙ ap (λ p. numberThere p (width f) bs) (s .placed f)
-    ∙ pick-true _ _ (eq-eqb (placeOf r f) 0 e)
+number-none r bs f s e = sym (number-here r bs f s) ∙ pick-true _ _ (eq-eqb (placeOf r f) 0 e)

@@ -4,14 +4,14 @@ use borrow.Author.Tests.{leb-true, ltb-true, eqb-true, eq-eqb, not-true}
 use lib.Bits.{bitAnd}
 use lib.Dec.{leb, ltb, eqb}
 use lib.ListN.{getD}
-use mathlib.Core.Bool.{Bool, true, false, not, _&&_, _||_}
+use mathlib.Core.Bool.{Bool, true, false, not, _&&_, _||_, false≢true}
 use mathlib.Core.List.{List, [], _∷_, map}
 use mathlib.Core.Logic.{⊎-elim, ⊎-map}
 use mathlib.Core.Path.{_≡_, refl, sym, subst, _∙_}
 use native.Mathlib.Omega.{arith}
 use Rattle.laws.specs.Choose.{pick}
-use Rattle.protocol.specs.Layout.{Field, credit-request, distinct, fields, layout, lengthPlace, msg-id, msg-length, multiuse, ordinal, padding, placeIn, placeOf, recv-id, recv-length, seg-length, seg-offset, send-id, tag, width, widths}
-use Rattle.protocol.specs.Optional.{flagSum, flagsTaken, sections, sectionsOf}
+use Rattle.protocol.specs.Layout.{Field, count, credit-request, distinct, fields, layout, lengthPlace, msg-id, msg-length, multiuse, ordinal, padding, placeIn, placeOf, recv-id, recv-length, seg-length, seg-offset, send-id, tag, width, widths}
+use Rattle.protocol.specs.Optional.{flagSum, flagsTaken, options, sectionsOf}
 use Rattle.protocol.specs.Rules.{ConnidPlace, Sound}
 use Rattle.protocol.specs.Types.{row, rowIn, rowOf, rows}
 use Rattle.protocol.specs.declared.table.Found.the-variants.{Row}
@@ -101,6 +101,7 @@ every-field test e f = sym (at f) ∙ all-true (map test fields) e (ordinal f)
     at tag = refl
     at multiuse = refl
     at padding = refl
+    at count = refl
 
 -- the rule as tests
 
@@ -109,6 +110,15 @@ stands r f = eqb (placeIn (layout r) 4 f) (placeOf r f)
 
 abbrev ends : TypeRow → Field → Bool
 ends r f = leb (placeOf r f + width f) (r .header)
+
+abbrev sameTest : Bool → Bool → Bool
+sameTest a b = (a && b) || (not a && not b)
+
+same-test : (a b : Bool) → sameTest a b ≡ true → a ≡ b
+same-test true true e = refl
+same-test true false e = absurd (false≢true e)
+same-test false true e = absurd (false≢true e)
+same-test false false e = refl
 
 abbrev behind : ℕ → ℕ → Bool
 behind place connid = eqb place 0 && leb 4 connid
@@ -133,12 +143,19 @@ checks r =
     ∷ eqb (r .«length_at») (lengthPlace r)
     ∷ allTrue (map (ends r) fields)
     ∷ leb (r .header) 64
+    ∷ sameTest (eqb (placeOf r count) 0) (eqb (r .unit) 0)
+    ∷ leb (r .unit) 24
+    ∷ leb (r .less) 24
     ∷ (eqb (r .connid) 0 || (eqb (r .connid) 4 || eqb (r .connid) 8))
     ∷ (behind (placeOf r multiuse) (r .connid) || within (placeOf r multiuse) (r .connid))
     ∷ eqb (bitAnd (r .must) (r .may)) 0
     ∷ eqb (r .may) (flagsTaken r)
-    ∷ ltb (r .must + flagSum sections) (2 ^ 16)
+    ∷ ltb (r .must + flagSum options) (2 ^ 16)
     ∷ []
+
+-- no type of the table has a counted array
+pub no-array : (k : ℕ) (r : TypeRow) → rowOf k ≡ Row r → r .unit ≡ 0
+no-array k r e = eqb-true _ _ (row-passes (λ q. eqb (q .unit) 0) refl k r e)
 
 pub sound : (k : ℕ) (r : TypeRow) → rowOf k ≡ Row r → Sound r
 unfolding layout lengthPlace placeIn flagsTaken sectionsOf pick
@@ -150,11 +167,14 @@ sound k r e =
       lengthAt = eqb-true _ _ (holds 3);
       inside = λ f. leb-true _ _ (every-field (ends r) (holds 4) f);
       short = leb-true _ _ (holds 5);
-      connid = ⊎-map (eqb-true _ _) (λ t. ⊎-map (eqb-true _ _) (eqb-true _ _) (or-cases _ _ t)) (or-cases _ _ (holds 6));
-      connidPlace = connid-place (placeOf r multiuse) (r .connid) (holds 7);
-      apart = eqb-true _ _ (holds 8);
-      may = eqb-true _ _ (holds 9);
-      small = ltb-true _ _ (holds 10);
+      counted = same-test _ _ (holds 6);
+      narrow = leb-true _ _ (holds 7);
+      few = leb-true _ _ (holds 8);
+      connid = ⊎-map (eqb-true _ _) (λ t. ⊎-map (eqb-true _ _) (eqb-true _ _) (or-cases _ _ t)) (or-cases _ _ (holds 9));
+      connidPlace = connid-place (placeOf r multiuse) (r .connid) (holds 10);
+      apart = eqb-true _ _ (holds 11);
+      may = eqb-true _ _ (holds 12);
+      small = ltb-true _ _ (holds 13);
     }
   where
     holds : (i : ℕ) → getD (checks r) i true ≡ true

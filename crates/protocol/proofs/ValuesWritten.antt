@@ -8,9 +8,10 @@ use mathlib.Core.Option.{Option, some, none}
 use mathlib.Core.Path.{_≡_, refl, sym, ap, ap₂, _∙_}
 use native.Mathlib.Omega.{arith}
 use Rattle.laws.specs.Choose.{pick}
+use Rattle.protocol.specs.Arrays.{countOf}
 use Rattle.protocol.specs.FieldNumbers.{fieldBytes, numberIn, numberOf}
-use Rattle.protocol.specs.Optional.{Section, connid, cq-data, flagsOf, optionsFit, raw-address, sectionsOf}
-use Rattle.protocol.specs.Layout.{Field, credit-request, isOwn, layout, msg-id, msg-length, multiuse, ownFields, padding, recv-id, recv-length, seg-length, seg-offset, select, send-id, tag, width}
+use Rattle.protocol.specs.Optional.{Section, array, connid, cq-data, flagsOf, optionsFit, raw-address, sectionsOf}
+use Rattle.protocol.specs.Layout.{Field, count, credit-request, isOwn, layout, msg-id, msg-length, multiuse, ownFields, padding, recv-id, recv-length, seg-length, seg-offset, select, send-id, tag, width}
 use Rattle.protocol.specs.Lengths.{lengthsFit}
 use Rattle.protocol.specs.Options.{connidBytes, connidOrZero, cqDataBytes, rawAddressBytes, sectionBytes, sectionsBytes}
 use Rattle.protocol.specs.Types.{rowOf}
@@ -25,8 +26,8 @@ use Rattle.laws.proofs.Choosing.{clashing, tested}
 use Rattle.protocol.proofs.TypeWords.{lengths-same}
 
 -- headers with the same connid and the same numbers of own fields have the same bytes of fields
-module _ (h g : Header) (c : h .connid ≡ g .connid) where
-  number-same : (f : Field) → (isOwn f ≡ true → numberIn (h .fields) f ≡ numberIn (g .fields) f) → numberOf h f ≡ numberOf g f
+module _ (told : ℕ) (h g : Header) (c : h .connid ≡ g .connid) where
+  number-same : (f : Field) → (isOwn f ≡ true → numberIn (h .fields) f ≡ numberIn (g .fields) f) → numberOf told h f ≡ numberOf told g f
   unfolding pick
   number-same msg-id x = x refl
   number-same recv-id x = x refl
@@ -39,9 +40,10 @@ module _ (h g : Header) (c : h .connid ≡ g .connid) where
   number-same tag x = x refl
   number-same multiuse x = ap connidOrZero c
   number-same padding x = refl
+  number-same count x = refl
 
   fields-same : (gs : List Field) → map (numberIn (h .fields)) (select isOwn gs) ≡ map (numberIn (g .fields)) (select isOwn gs)
-      → fieldBytes gs h ≡ fieldBytes gs g
+      → fieldBytes gs told h ≡ fieldBytes gs told g
   unfolding fieldBytes pick
   fields-same [] e = refl
   fields-same (f ∷ gs) e =
@@ -101,25 +103,26 @@ module _ (h g : Header) (raw raw′ body body′ : List ℕ) (same : values h ra
         lengths-same (h .fields) (g .fields) (length body) (h .kind) r row own
         ∙ ap (λ (l : List ℕ). lengthsFit (r .shape) (g .fields) (length l)) body-same
 
-    section-same : (x : Section) → sectionBytes r h raw x ≡ sectionBytes r g raw′ x
+    section-same : (x : Section) → sectionBytes r h [] raw x ≡ sectionBytes r g [] raw′ x
+    section-same array = refl
     section-same raw-address = address-same .1
     section-same cq-data = ap cqDataBytes cq-same
     section-same connid = ap (connidBytes r) connid-same
 
-    sections-same : (xs : List Section) → sectionsBytes r h raw xs ≡ sectionsBytes r g raw′ xs
+    sections-same : (xs : List Section) → sectionsBytes r h [] raw xs ≡ sectionsBytes r g [] raw′ xs
     sections-same [] = refl
     sections-same (x ∷ xs) = ap₂ _++_ (section-same x) (sections-same xs)
 
-    bytes-same : packetBytes r h raw body ≡ packetBytes r g raw′ body′
+    bytes-same : packetBytes r h [] raw body ≡ packetBytes r g [] raw′ body′
     unfolding packetBytes mandatoryBytes ownFields
-    bytes-same = rw (flags-same, fields-same h g connid-same (layout r) own, sections-same (sectionsOf r), body-same)
+    bytes-same = rw (flags-same, fields-same (countOf r 0) h g connid-same (layout r) own, sections-same (sectionsOf r), body-same)
 
-    row-same : (out : List ℕ) → writeAs r h raw body out ≡ writeAs r g raw′ body′ out
+    row-same : (out : List ℕ) → writeAs r h [] raw body out ≡ writeAs r g [] raw′ body′ out
     unfolding writeAs
     row-same out = rw (options-same, fit-same, bytes-same)
 
   found-same : (o : Found) (out : List ℕ) → rowOf (h .kind) ≡ o → ownNumbers o (h .fields) ≡ ownNumbers o (g .fields)
-      → writeTyped o h raw body out ≡ writeTyped o g raw′ body′ out
+      → writeTyped o h [] raw body out ≡ writeTyped o g [] raw′ body′ out
   unfolding writeTyped ownNumbers
   found-same Unknown out row own = refl
   found-same (Row r) out row own = row-same r row own out
@@ -129,4 +132,4 @@ module _ (h g : Header) (raw raw′ body body′ : List ℕ) (same : values h ra
   same-written out =
       let o : rowOf (g .kind) ≡ rowOf (h .kind) = ap rowOf (sym kind-same) in
       found-same (rowOf (h .kind)) out refl (own-same ∙ ap (λ (o : Found). ownNumbers o (g .fields)) o)
-      ∙ ap (λ (k : ℕ). writeTyped (rowOf k) g raw′ body′ out) kind-same
+      ∙ ap (λ (k : ℕ). writeTyped (rowOf k) g [] raw′ body′ out) kind-same

@@ -3,7 +3,7 @@ use Prim.Native.Nat.{ℕ, _<_}
 use borrow.Author.Tests.{ltb-true, ltb-false, not-true, not-false}
 use lib.Dec.{ltb, lit<}
 use lib.ListN.{length}
-use mathlib.Core.Bool.{Bool, true, false, not, true≢false}
+use mathlib.Core.Bool.{Bool, true, false, not, and-true, true≢false}
 use mathlib.Core.List.{List, [], _∷_}
 use mathlib.Core.Logic.{_⊎_, _↔_, inl, inr, ⊎-elim}
 use mathlib.Core.Path.{_≡_, refl, sym, ap, _∙_, subst}
@@ -29,11 +29,12 @@ use Rattle.protocol.specs.declared.types.CqData.{CqData}
 use Rattle.protocol.specs.declared.types.Header.{Header}
 use Rattle.protocol.specs.declared.types.Written.{Written}
 use Rattle.laws.proofs.Choosing.{clashing, tested}
+use Rattle.protocol.proofs.ArrayLaws.{none-allowed, none-whole}
 use Rattle.protocol.proofs.FirstFailing.{given-if-none, judged, judged-ap, FirstIn, first-or-none, none-of, of-first, refused-by-first}
 use Rattle.protocol.proofs.FlagLaws.{connid-fits, every-option-fits, fits-connid}
 use Rattle.protocol.proofs.OptionLaws.{length-raw}
 use Rattle.protocol.proofs.FoundRow.{is-unknown, isUnknown, ofRow, pick-not, row-in, row-out}
-use Rattle.protocol.proofs.TableRule.{sound}
+use Rattle.protocol.proofs.TableRule.{no-array, sound}
 use Rattle.protocol.proofs.TypeWords.{connid-in-words, header-in-words, lengths-in-words, request-in-words, unknown-lengths, unknown-type}
 use Rattle.protocol.proofs.WordsHold.{types-are-the-tables}
 use Rattle.protocol.proofs.WritingLaws.{length-packet}
@@ -52,13 +53,13 @@ connid-takes k r Connid.Absent e = refl
 connid-takes k r (Connid.Present c) e = rw length-le (connid-in-words k r e)
 
 pub length-in-words : (h : Header) (raw body : List ℕ) (r : TypeRow) → rowOf (h .kind) ≡ Row r → optionsFit r h ≡ true
-    → length (packetBytes r h raw body) ≡ packetLength h (length raw) (length body)
+    → length (packetBytes r h [] raw body) ≡ packetLength h (length raw) (length body)
 length-in-words h raw body r e t =
     let a = header-in-words (h .kind) r e in
     let b = length-raw (h .«raw_address») raw in
     let c = cq-data-takes (h .«cq_data») in
     let d = connid-takes (h .kind) r (h .connid) e in
-    omega (arith, length-packet r h raw body (sound (h .kind) r e) t)
+    omega (arith, length-packet r h [] raw body (sound (h .kind) r e) t (none-allowed r))
 
 -- ---- an optional header that the type can't have
 
@@ -115,7 +116,7 @@ module _ (h : Header) (raw body out : List ℕ) where
 
   abbrev pub bytesAs : Found → List ℕ
   bytesAs Unknown = []
-  bytesAs (Row r) = packetBytes r h raw body
+  bytesAs (Row r) = packetBytes r h [] raw body
 
   abbrev pub written : Found → Outcome
   written o = record { answer = Written.Length n; out = storeAt out 0 (bytesAs o) }
@@ -127,24 +128,25 @@ module _ (h : Header) (raw body out : List ℕ) where
   judgedAs o = judged (failsAs o) refusing (written o)
 
   bytes-judged : (r : TypeRow) → rowOf k ≡ Row r → optionsFit r h ≡ true
-      → writeBytes (packetBytes r h raw body) out ≡ judgedAs (Row r) (overLongest ∷ shortBuffer ∷ [])
+      → writeBytes (packetBytes r h [] raw body) out ≡ judgedAs (Row r) (overLongest ∷ shortBuffer ∷ [])
   unfolding writeBytes
   bytes-judged r e t = ap sized (length-in-words h raw body r e t)
     where
       sized : ℕ → Outcome
       sized m =
           pick (ltb 8192 m) (refusing overLongest)
-          (pick (ltb (length out) m) (refusing shortBuffer) (record { answer = Written.Length m; out = storeAt out 0 (packetBytes r h raw body) }))
+          (pick (ltb (length out) m) (refusing shortBuffer) (record { answer = Written.Length m; out = storeAt out 0 (packetBytes r h [] raw body) }))
 
-  typed-judged : (o : Found) → rowOf k ≡ o → writeTyped o h raw body out ≡ judgedAs o writerChecks
+  typed-judged : (o : Found) → rowOf k ≡ o → writeTyped o h [] raw body out ≡ judgedAs o writerChecks
   unfolding writeTyped writeAs
   typed-judged Unknown e = unfold pick in refl
   typed-judged (Row r) e =
       unfold pick in
-      ⊎-elim (λ t. rw t (pick-not (lengthsFit (r .shape) (h .fields) (length body)) _ _
+      rw (none-allowed r, none-whole r (no-array k r e), and-true (optionsFit r h))
+      (⊎-elim (λ t. rw t (pick-not (lengthsFit (r .shape) (h .fields) (length body)) _ _
       ∙ ap (λ (x : Outcome). pick (not (lengthsFit (r .shape) (h .fields) (length body))) (refusing brokenLengths) x) (bytes-judged r e t)))
       (λ t. rw t)
-      (tested (optionsFit r h))
+      (tested (optionsFit r h)))
 
   pub write-judged : writeOf h raw body out ≡ judgedAs (rowOf k) writerChecks
   unfolding writeOf

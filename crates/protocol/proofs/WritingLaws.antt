@@ -9,6 +9,7 @@ use mathlib.Core.Logic.{⊎-elim}
 use mathlib.Core.Path.{_≡_, sym, ap}
 use native.Mathlib.Omega.{arith}
 use Rattle.laws.specs.Choose.{pick}
+use Rattle.protocol.specs.Arrays.{arrayAllowed}
 use Rattle.protocol.specs.Optional.{flagged, flagsOf, optionsFit, raw-address, sectionsOf}
 use Rattle.protocol.specs.Options.{connidBytes, cqDataBytes, rawAddressBytes}
 use Rattle.protocol.specs.Rules.{Sound}
@@ -19,6 +20,7 @@ use Rattle.protocol.specs.declared.table.TypeRow.{TypeRow}
 use Rattle.protocol.specs.declared.types.Header.{Header}
 use Rattle.protocol.specs.declared.types.Length.the-variants.{Above, Bytes}
 use Rattle.laws.proofs.Choosing.{pick-cases, pick-false, pick-true}
+use Rattle.protocol.proofs.ArrayLaws.{given-size}
 use Rattle.protocol.proofs.FlagLaws.{raw-address-flag}
 use Rattle.protocol.proofs.LayoutLaws.{length-fields}
 use Rattle.protocol.proofs.OptionLaws.{connid-length, cq-data-length, length-raw}
@@ -37,46 +39,52 @@ pub length-base : (kind flags : ℕ) → length (baseBytes kind flags) ≡ 4
 unfolding baseBytes
 length-base kind flags = rw length-le
 
-pub length-mandatory : (r : TypeRow) (h : Header) → Sound r → length (mandatoryBytes r h) ≡ r .header
+pub length-mandatory : (r : TypeRow) (h : Header) (n : ℕ) → Sound r → length (mandatoryBytes r h n) ≡ r .header
 unfolding mandatoryBytes
-length-mandatory r h s = rw (length-append, length-base, length-fields) (sym (s .header))
+length-mandatory r h n s = rw (length-append, length-base, length-fields) (sym (s .header))
 
-module _ (r : TypeRow) (h : Header) (raw body : List ℕ) (s : Sound r) (t : optionsFit r h ≡ true) where
-  pub length-packet : length (packetBytes r h raw body)
+module _ (r : TypeRow) (h : Header) (arr raw body : List ℕ) (s : Sound r) (t : optionsFit r h ≡ true) (u : arrayAllowed r (length arr) ≡ true) where
+  pub length-packet : length (packetBytes r h arr raw body)
       ≡ r .header
+      + length arr
       + length (rawAddressBytes (h .«raw_address») raw)
       + length (cqDataBytes (h .«cq_data»))
       + length (connidBytes r (h .connid))
       + length body
-  length-packet = rw (packet-in-steps r h raw body s t) (simp length-append (omega (arith, length-mandatory r h s)))
+  length-packet = rw (packet-in-steps r h arr raw body s t u) (simp length-append (omega (arith, length-mandatory r h (length arr) s)))
 
   -- the raw address of a packet that the limit allows has a size that fits
-  pub raw-fits : length (packetBytes r h raw body) ≤ 8192 → h .«raw_address» ≡ true → length raw < 2 ^ 32
+  pub raw-fits : length (packetBytes r h arr raw body) ≤ 8192 → h .«raw_address» ≡ true → length raw < 2 ^ 32
   raw-fits k e = omega (arith, length-packet, length-raw (h .«raw_address») raw, pick-true {A = ℕ} (4 + length raw) 0 e)
 
   -- what the writer computes is the packet's length
-  pub total-is : totalOf r (flagsOf r h) (length raw) (length body) ≡ limitedTo (length (packetBytes r h raw body))
+  pub total-is : totalOf r (flagsOf r h) (length arr) (length raw) (length body) ≡ limitedTo (length (packetBytes r h arr raw body))
   unfolding totalOf
   total-is =
-      let sum : r .header + sizes r (flagsOf r h) (length raw) (sectionsOf r) + length body ≡ length (packetBytes r h raw body) =
-      rw (sizes-in-steps, raw-address-flag r h s t, cq-data-length r h s t, connid-length r h s, length-packet, length-raw) (omega arith) in
+      let sum : r .header + sizes r (flagsOf r h) (length arr) (length raw) (sectionsOf r) + length body ≡ length (packetBytes r h arr raw body) =
+      rw (sizes-in-steps, given-size r (length arr) u, raw-address-flag r h s t, cq-data-length r h s t, connid-length r h s, length-packet, length-raw) (omega arith) in
       ap limitedTo sum
-
--- and it is a sum of the headers without the raw address, the raw address, where it is there, and the data
-module _ (r : TypeRow) (f raw size : ℕ) where
-  pub total-with : flagged r f raw-address ≡ true → totalOf r f raw size ≡ limitedTo (headLength r f + 4 + raw + size)
-  unfolding totalOf headLength
-  total-with e = ap limitedTo (omega (arith, sizes-in-steps r f raw, pick-true {A = ℕ} (4 + raw) 0 e))
-
-  pub total-without : flagged r f raw-address ≡ false → totalOf r f raw size ≡ limitedTo (headLength r f + size)
-  unfolding totalOf headLength
-  total-without e = ap limitedTo (omega (arith, sizes-in-steps r f raw, pick-false {A = ℕ} (4 + raw) 0 e))
 
 -- what the limit answers
 
 pub above-limit : (n : ℕ) → 8192 < n → limitedTo n ≡ Above
 unfolding limitedTo pick
 above-limit n h = rw (lt-ltb 8192 n h)
+
+-- and it is a sum of the headers without the raw address, the array and the raw address, where they are there, and the data
+module _ (r : TypeRow) (f arr raw size : ℕ) (u : arrayAllowed r arr ≡ true) where
+  pub total-with : flagged r f raw-address ≡ true → totalOf r f arr raw size ≡ limitedTo (headLength r f + arr + 4 + raw + size)
+  unfolding totalOf headLength
+  total-with e = ap limitedTo (omega (arith, sizes-in-steps r f arr raw, given-size r arr u, pick-true {A = ℕ} (4 + raw) 0 e))
+
+  -- which an array or data above the limit make longer than it
+  pub total-above : 8192 < arr + size → totalOf r f arr raw size ≡ Above
+  unfolding totalOf
+  total-above l = above-limit _ (omega (arith, sizes-in-steps r f arr raw, given-size r arr u))
+
+  pub total-without : flagged r f raw-address ≡ false → totalOf r f arr raw size ≡ limitedTo (headLength r f + arr + size)
+  unfolding totalOf headLength
+  total-without e = ap limitedTo (omega (arith, sizes-in-steps r f arr raw, given-size r arr u, pick-false {A = ℕ} (4 + raw) 0 e))
 
 pub limited-above : (n : ℕ) → limitedTo n ≡ Above → 8192 < n
 unfolding limitedTo

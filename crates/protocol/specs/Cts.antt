@@ -30,4 +30,4 @@ ctsHeader sendId recvId recvLength =
 
 -- its bytes, as the packet writer writes them
 unfoldable pub ctsBytes : ℕ → ℕ → ℕ → List ℕ
-ctsBytes sendId recvId recvLength = packetBytes ctsRow (ctsHeader sendId recvId recvLength) [] []
+ctsBytes sendId recvId recvLength = packetBytes ctsRow (ctsHeader sendId recvId recvLength) [] [] []

@@ -8,12 +8,12 @@ use Rattle.wire.specs.LittleEndian.{leBytes, leAt}
 use Rattle.protocol.specs.declared.table.TypeRow.{TypeRow}
 use Rattle.protocol.specs.declared.types.Fields.{Fields}
 use Rattle.protocol.specs.declared.types.Header.{Header}
-use Rattle.protocol.specs.Layout.{Field, credit-request, msg-id, msg-length, multiuse, padding, placeOf, recv-id, recv-length, sameField, seg-length, seg-offset, send-id, tag, width}
+use Rattle.protocol.specs.Layout.{Field, count, credit-request, msg-id, msg-length, multiuse, padding, placeOf, recv-id, recv-length, sameField, seg-length, seg-offset, send-id, tag, width}
 use Rattle.protocol.specs.Options.{connidOrZero}
 
 -- ---- in a header
 
--- of the type's own fields; padding and multiuse have none there
+-- of the type's own fields; padding, multiuse and count have none there
 abbrev pub numberIn : Fields → Field → ℕ
 numberIn v msg-id = v .«msg_id»
 numberIn v recv-id = v .«recv_id»
@@ -26,15 +26,16 @@ numberIn v credit-request = v .«credit_request»
 numberIn v tag = v .tag
 numberIn v multiuse = 0
 numberIn v padding = 0
+numberIn v count = 0
 
--- as they are written: "a flagged multiuse is the connid", without its flag it is zero, and so is padding
-abbrev pub numberOf : Header → Field → ℕ
-numberOf h f = pick (sameField multiuse f) (connidOrZero (h .connid)) (numberIn (h .fields) f)
+-- as they are written with the count n: "a flagged multiuse is the connid", without its flag it is zero, and so is padding
+abbrev pub numberOf : ℕ → Header → Field → ℕ
+numberOf n h f = pick (sameField count f) n (pick (sameField multiuse f) (connidOrZero (h .connid)) (numberIn (h .fields) f))
 
 -- the bytes of the fields gs of a header
-unfoldable pub fieldBytes : List Field → Header → List ℕ
-fieldBytes [] h = []
-fieldBytes (g ∷ gs) h = leBytes (width g) (numberOf h g) ++ fieldBytes gs h
+unfoldable pub fieldBytes : List Field → ℕ → Header → List ℕ
+fieldBytes [] n h = []
+fieldBytes (g ∷ gs) n h = leBytes (width g) (numberOf n h g) ++ fieldBytes gs n h
 
 -- ---- in bytes
 
@@ -64,11 +65,15 @@ fieldsIn gs at bs =
 unfoldable pub numberThere : ℕ → ℕ → List ℕ → ℕ
 numberThere place n bs = pick (eqb place 0) 0 (leAt n bs place)
 
+-- the count of an array in the bytes bs of a packet
+unfoldable pub countIn : TypeRow → List ℕ → ℕ
+countIn r bs = numberThere (placeOf r count) (width count) bs
+
 -- the bytes with the number x, of n bytes, there
 unfoldable pub putThere : ℕ → ℕ → ℕ → List ℕ → List ℕ
 putThere place n x bs = pick (eqb place 0) bs (storeAt bs place (leBytes n x))
 
 -- the bytes with the fields fs of a header, put one by one where the row says
-abbrev pub putFields : TypeRow → Header → List Field → List ℕ → List ℕ
-putFields r h [] bs = bs
-putFields r h (f ∷ fs) bs = putFields r h fs (putThere (placeOf r f) (width f) (numberOf h f) bs)
+abbrev pub putFields : TypeRow → ℕ → Header → List Field → List ℕ → List ℕ
+putFields r n h [] bs = bs
+putFields r n h (f ∷ fs) bs = putFields r n h fs (putThere (placeOf r f) (width f) (numberOf n h f) bs)

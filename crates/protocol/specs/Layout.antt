@@ -7,7 +7,7 @@ use Rattle.laws.specs.Choose.{pick}
 use Rattle.protocol.specs.declared.table.TypeRow.{TypeRow}
 
 pub data Field : Type 0 where
-  msg-id recv-id send-id msg-length seg-length recv-length seg-offset credit-request tag multiuse padding : Field
+  msg-id recv-id send-id msg-length seg-length recv-length seg-offset credit-request tag multiuse padding count : Field
 
 abbrev pub fields : List Field
 fields =
@@ -22,6 +22,7 @@ fields =
     ∷ tag
     ∷ multiuse
     ∷ padding
+    ∷ count
     ∷ []
 
 -- a field's number among them, which is its digit's in a row's places
@@ -37,6 +38,7 @@ ordinal credit-request = 7
 ordinal tag = 8
 ordinal multiuse = 9
 ordinal padding = 10
+ordinal count = 11
 
 abbrev pub sameField : Field → Field → Bool
 sameField g f = eqb (ordinal g) (ordinal f)
@@ -54,6 +56,7 @@ width credit-request = 4
 width tag = 8
 width multiuse = 4
 width padding = 4
+width count = 4
 
 -- ---- places
 
@@ -88,9 +91,9 @@ words = 1 ∷ 2 ∷ 3 ∷ 4 ∷ 5 ∷ 6 ∷ 7 ∷ 8 ∷ 9 ∷ 10 ∷ 11 ∷ 12 �
 unfoldable pub layout : TypeRow → List Field
 layout r = foldr (λ w gs. select (λ f. eqb (placeOf r f) (4 * w)) fields ++ gs) [] words
 
--- "padding and multiuse are none"
+-- "padding and multiuse are none"; nor is a count, which follows from its array
 abbrev pub isOwn : Field → Bool
-isOwn f = not (sameField multiuse f || sameField padding f)
+isOwn f = not (sameField multiuse f || (sameField padding f || sameField count f))
 
 -- the fields that a type has of its own
 unfoldable pub ownFields : TypeRow → List Field

@@ -2,6 +2,7 @@ pub mod Types
 pub mod Flags
 pub mod Layout
 pub mod FieldNumbers
+pub mod Arrays
 pub mod Optional
 pub mod Lengths
 pub mod Options

@@ -10,7 +10,7 @@ use Rattle.protocol.specs.declared.table.TypeRow.{TypeRow}
 use Rattle.protocol.specs.declared.types.CqData.{CqData}
 use Rattle.protocol.specs.declared.types.Connid.{Connid}
 use Rattle.protocol.specs.declared.types.Header.{Header}
-use Rattle.protocol.specs.Optional.{Section, cq-data, connid, raw-address}
+use Rattle.protocol.specs.Optional.{Section, array, cq-data, connid, raw-address}
 
 -- as bytes
 
@@ -32,15 +32,16 @@ connidOrZero Connid.Absent = 0
 connidOrZero (Connid.Present c) = c
 
 -- of a section
-abbrev pub sectionBytes : TypeRow → Header → List ℕ → Section → List ℕ
-sectionBytes r h raw raw-address = rawAddressBytes (h .«raw_address») raw
-sectionBytes r h raw cq-data = cqDataBytes (h .«cq_data»)
-sectionBytes r h raw connid = connidBytes r (h .connid)
+abbrev pub sectionBytes : TypeRow → Header → List ℕ → List ℕ → Section → List ℕ
+sectionBytes r h arr raw array = arr
+sectionBytes r h arr raw raw-address = rawAddressBytes (h .«raw_address») raw
+sectionBytes r h arr raw cq-data = cqDataBytes (h .«cq_data»)
+sectionBytes r h arr raw connid = connidBytes r (h .connid)
 
 -- of some sections, one behind the other
-abbrev pub sectionsBytes : TypeRow → Header → List ℕ → List Section → List ℕ
-sectionsBytes r h raw [] = []
-sectionsBytes r h raw (s ∷ ss) = sectionBytes r h raw s ++ sectionsBytes r h raw ss
+abbrev pub sectionsBytes : TypeRow → Header → List ℕ → List ℕ → List Section → List ℕ
+sectionsBytes r h arr raw [] = []
+sectionsBytes r h arr raw (s ∷ ss) = sectionBytes r h arr raw s ++ sectionsBytes r h arr raw ss
 
 -- as read at a place, where they are there
 

@@ -1,10 +1,11 @@
 -- Reader and writer undo each other (01: "Reading a written packet gives the values written. Writing the values read gives the same
--- bytes, except that padding, and multiuse without its flag, become zero"). Proved in proofs/RoundTrips.antt.
+-- bytes, except that padding, and multiuse without its flag, become zero"). Proved in proofs/RoundTrips.antt and proofs/RowTrips.antt.
 use Prim.Native.Nat.{ℕ, _^_, _<_, _≤_}
 use lib.Dec.{eqb}
 use lib.ListN.{length, getD, take, drop, replicate}
 use mathlib.Core.Bool.{Bool, true}
-use mathlib.Core.List.{List, [], _∷_}
+use mathlib.Core.List.{List, [], _∷_, map}
+use mathlib.Core.Option.{some, none}
 use mathlib.Core.Path.{_≡_}
 use Rattle.laws.specs.Choose.{pick}
 use Rattle.laws.specs.Parts.{storeAt}
@@ -12,17 +13,19 @@ use Rattle.protocol.specs.ByType.{bitOf, column}
 use Rattle.protocol.specs.Checks.{gives}
 use Rattle.protocol.specs.InWords.{flagsIn, typeIn}
 use Rattle.protocol.specs.FieldNumbers.{numberIn}
-use Rattle.protocol.specs.Layout.{Field, width}
+use Rattle.protocol.specs.Layout.{Field, ownFields, width}
 use Rattle.protocol.specs.Options.{connidOrZero}
-use Rattle.protocol.specs.Reading.{readOf}
+use Rattle.protocol.specs.Reading.{readFlags, readLengths, readOf}
+use Rattle.protocol.specs.Rules.{Sound}
 use Rattle.protocol.specs.Says.{readSays, writtenSays}
 use Rattle.protocol.specs.Types.{rowOf}
-use Rattle.protocol.specs.Values.{values}
-use Rattle.protocol.specs.Writing.{writeOf, packetBytes}
+use Rattle.protocol.specs.Values.{bytesAt, values}
+use Rattle.protocol.specs.Writing.{packetBytes, writeAs, writeOf}
 use Rattle.protocol.specs.declared.table.Found.the-variants.{Row}
 use Rattle.protocol.specs.declared.table.TypeRow.{TypeRow}
 use Rattle.protocol.specs.declared.types.CqData.{CqData}
 use Rattle.protocol.specs.declared.types.Header.{Header}
+use Rattle.protocol.specs.declared.types.Packet.{Packet}
 
 abbrev pub cqDataOrZero : CqData → ℕ
 cqDataOrZero CqData.Absent = 0
@@ -69,6 +72,36 @@ LengthIsPackets =
     (h : Header) (raw body out : List ℕ) (n : ℕ) (r : TypeRow)
     → rowOf (h .kind) ≡ Row r
     → writtenSays (writeOf h raw body out .answer) ≡ gives n
-    → (n ≡ length (packetBytes r h raw body))
-    × (take n (writeOf h raw body out .out) ≡ packetBytes r h raw body)
+    → (n ≡ length (packetBytes r h [] raw body))
+    × (take n (writeOf h raw body out .out) ≡ packetBytes r h [] raw body)
     × (drop n (writeOf h raw body out .out) ≡ drop n out)
+
+-- ---- the same of every row that keeps the table's rule, with a counted array too
+
+-- a packet of the row r that is read from bs tells what was written
+pub record RowTells (r : TypeRow) (h : Header) (arr raw body bs : List ℕ) (p : Packet) : Type 0 where
+  pub own : map (numberIn (p .header .fields)) (ownFields r) ≡ map (numberIn (h .fields)) (ownFields r)
+  pub array : bytesAt bs (p .array) ≡ arr
+  pub rawAddress : pick (p .header .«raw_address») (some (bytesAt bs (p .«raw_address»))) none ≡ pick (h .«raw_address») (some raw) none
+  pub cqData : p .header .«cq_data» ≡ h .«cq_data»
+  pub connid : p .header .connid ≡ h .connid
+  pub rest : bytesAt bs (p .«data») ≡ body
+
+-- a packet that is written as the row says is read as it says, up to the rule on lengths, and tells what was written
+abbrev pub RowReadsWhatWasWritten : Type 0
+RowReadsWhatWasWritten =
+    (r : TypeRow) (h : Header) (arr raw body out : List ℕ) (n : ℕ)
+    → Sound r
+    → Numbers h
+    → writtenSays (writeAs r h arr raw body out .answer) ≡ gives n
+    → let bs = take n (writeAs r h arr raw body out .out) in
+    (p : Packet) × (readFlags r bs ≡ readLengths r p) × RowTells r h arr raw body bs p
+
+-- the length answered is the packet's; the packet stands at the buffer's start, and the bytes past it stay
+abbrev pub RowLengthIsPackets : Type 0
+RowLengthIsPackets =
+    (r : TypeRow) (h : Header) (arr raw body out : List ℕ) (n : ℕ)
+    → writtenSays (writeAs r h arr raw body out .answer) ≡ gives n
+    → (n ≡ length (packetBytes r h arr raw body))
+    × (take n (writeAs r h arr raw body out .out) ≡ packetBytes r h arr raw body)
+    × (drop n (writeAs r h arr raw body out .out) ≡ drop n out)

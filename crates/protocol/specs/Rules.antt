@@ -4,11 +4,12 @@ use mathlib.Core.Path.{_≡_}
 use mathlib.Core.Bool.{true}
 use mathlib.Core.Logic.{_⊎_}
 use lib.Bits.{bitAnd}
+use lib.Dec.{eqb}
 use Rattle.protocol.specs.declared.table.TypeRow.{TypeRow}
 use Rattle.protocol.specs.declared.sections.Sections.{Sections}
-use Rattle.protocol.specs.Optional.{cq-data, flagSum, flagged, flagsTaken, sections}
+use Rattle.protocol.specs.Optional.{cq-data, flagSum, flagged, flagsTaken, options}
 use Rattle.protocol.specs.Optional as Optional
-use Rattle.protocol.specs.Layout.{Field, distinct, layout, lengthPlace, multiuse, placeIn, placeOf, width, widths}
+use Rattle.protocol.specs.Layout.{Field, count, distinct, layout, lengthPlace, multiuse, placeIn, placeOf, width, widths}
 
 -- the widths at which a connid behind the other optional headers is written
 abbrev pub NumberWidth : ℕ → Type 0
@@ -28,7 +29,11 @@ pub record Sound (r : TypeRow) : Type 0 where
   pub lengthAt : r .«length_at» ≡ lengthPlace r
   -- even a field that the type has not, at 0, would lie inside the header
   pub inside : (f : Field) → placeOf r f + width f ≤ r .header
+  -- a count is a field of the types that have an array, and of no other
+  pub counted : eqb (placeOf r count) 0 ≡ eqb (r .unit) 0
   -- sums of lengths do not overflow
+  pub narrow : r .unit ≤ 24
+  pub few : r .less ≤ 24
   pub short : r .header ≤ 64
   pub connid : NumberWidth (r .connid)
   pub connidPlace : ConnidPlace (placeOf r multiuse) (r .connid)
@@ -36,7 +41,7 @@ pub record Sound (r : TypeRow) : Type 0 where
   pub apart : bitAnd (r .must) (r .may) ≡ 0
   pub may : r .may ≡ flagsTaken r
   -- the flags of all optional headers can be added in 16 bits
-  pub small : r .must + flagSum sections < 2 ^ 16
+  pub small : r .must + flagSum options < 2 ^ 16
 
 -- the sections s of a packet of n bytes lie inside it
 pub record Inside (r : TypeRow) (f : ℕ) (s : Sections) (n : ℕ) : Type 0 where

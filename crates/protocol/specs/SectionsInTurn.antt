@@ -2,6 +2,7 @@
 use Prim.Native.Nat.{ℕ, _+_}
 use mathlib.Core.List.{List}
 use lib.Dec.{ltb}
+use lib.ListN.{length}
 use Rattle.laws.specs.Choose.{pick}
 use Rattle.wire.specs.LittleEndian.{leAt}
 use Rattle.protocol.specs.declared.table.TypeRow.{TypeRow}
@@ -9,15 +10,21 @@ use Rattle.protocol.specs.declared.types.Span.{Span}
 use Rattle.protocol.specs.declared.sections.Sections.{Sections}
 use Rattle.protocol.specs.declared.sections.Extent.{Extent}
 use Rattle.protocol.specs.declared.sections.Extent.the-variants.{Whole, Cut}
+use Rattle.protocol.specs.Arrays.{arrayLength, hasArray}
+use Rattle.protocol.specs.FieldNumbers.{countIn}
 use Rattle.protocol.specs.Optional.{connid, cq-data, flagged, raw-address}
-use Rattle.protocol.specs.Sections.{connidAt}
+use Rattle.protocol.specs.Sections.{connidAt, rawSpan}
 
--- the bytes that the raw address takes, with its size, which follows the mandatory header
+-- the array follows the mandatory header
+unfoldable pub afterArray : TypeRow → List ℕ → ℕ
+afterArray r bs = r .header + pick (hasArray r) (arrayLength r (countIn r bs)) 0
+
+-- the bytes that the raw address takes, with its size, which follows the array
 abbrev pub rawLength : TypeRow → ℕ → List ℕ → ℕ
-rawLength r f bs = pick (flagged r f raw-address) (4 + leAt 4 bs (r .header)) 0
+rawLength r f bs = pick (flagged r f raw-address) (4 + leAt 4 bs (afterArray r bs)) 0
 
 unfoldable pub afterRaw : TypeRow → ℕ → List ℕ → ℕ
-afterRaw r f bs = r .header + rawLength r f bs
+afterRaw r f bs = afterArray r bs + rawLength r f bs
 
 unfoldable pub cqDataLength : TypeRow → ℕ → ℕ
 cqDataLength r f = pick (flagged r f cq-data) 8 0
@@ -25,10 +32,11 @@ cqDataLength r f = pick (flagged r f cq-data) 8 0
 unfoldable pub connidLength : TypeRow → ℕ → ℕ
 connidLength r f = pick (flagged r f connid) (r .connid) 0
 
--- the sections of a packet whose raw address lies at `raw` and ends before `at`
-abbrev pub sectionsAt : TypeRow → ℕ → Span → ℕ → Sections
-sectionsAt r f raw at =
+-- the sections of a packet whose array lies at `arr`, and its raw address at `raw` and ends before `at`
+abbrev pub sectionsAt : TypeRow → ℕ → Span → Span → ℕ → Sections
+sectionsAt r f arr raw at =
     record {
+      array = arr;
       raw = raw;
       «cq_at» = at;
       «connid_at» = connidAt r (at + cqDataLength r f);
@@ -36,8 +44,13 @@ sectionsAt r f raw at =
     }
 
 -- the same of a packet of n bytes
-unfoldable pub sectionsFrom : TypeRow → ℕ → Span → ℕ → ℕ → Extent
-sectionsFrom r f raw at n = pick (ltb n (at + cqDataLength r f + connidLength r f)) Cut (Whole (sectionsAt r f raw at))
+unfoldable pub sectionsFrom : TypeRow → ℕ → Span → Span → ℕ → ℕ → Extent
+sectionsFrom r f arr raw at n = pick (ltb n (at + cqDataLength r f + connidLength r f)) Cut (Whole (sectionsAt r f arr raw at))
+
+-- the same behind an array that lies at `arr` and ends before `at`
+unfoldable pub sectionsBehind : TypeRow → ℕ → List ℕ → Span → ℕ → Extent
+sectionsBehind r f bs arr at =
+    sectionsFrom r f arr (rawSpan (flagged r f raw-address) bs at) (at + pick (flagged r f raw-address) (4 + leAt 4 bs at) 0) (length bs)
 
 -- the headers without the raw address
 unfoldable pub headLength : TypeRow → ℕ → ℕ

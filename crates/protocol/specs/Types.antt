@@ -12,7 +12,7 @@ use Rattle.protocol.specs.declared.table.Found.{Found}
 use Rattle.protocol.specs.declared.table.Found.the-variants.{Row, Unknown}
 
 -- type, shape; bytes of the mandatory header, where the length stands in it, where all its fields stand, bytes of the connid header; tagged,
--- served, a request; flags it must have, flags it may have
+-- served, a request; flags it must have, flags it may have. No type has a counted array
 abbrev pub row : ℕ → Shape → ℕ → ℕ → ℕ → ℕ → Bool → Bool → Bool → ℕ → ℕ → TypeRow
 row k s h l p c t e q must may =
     record {
@@ -27,6 +27,8 @@ row k s h l p c t e q must may =
       request = q;
       must = must;
       may = may;
+      unit = 0;
+      less = 0;
     }
 
 abbrev pub ctsRow : TypeRow

@@ -1,6 +1,7 @@
 -- Writing a packet: its bytes, and the checks in 01's order (9, 10, 11, 6, 21). Refused, the buffer stays; written, bytes past the packet stay.
 use Prim.Native.Nat.{ℕ}
-use mathlib.Core.List.{List, _∷_, _++_}
+use mathlib.Core.Bool.{_&&_}
+use mathlib.Core.List.{List, [], _∷_, _++_}
 use lib.Dec.{ltb}
 use lib.ListN.{length}
 use Rattle.laws.specs.Choose.{pick}
@@ -13,6 +14,7 @@ use Rattle.protocol.specs.declared.types.Header.{Header}
 use Rattle.protocol.specs.declared.types.Refusal.{Refusal}
 use Rattle.protocol.specs.declared.types.Written.{Written}
 use Rattle.protocol.specs.Types.{rowOf}
+use Rattle.protocol.specs.Arrays.{arrayAllowed, arrayWhole, countOf}
 use Rattle.protocol.specs.FieldNumbers.{fieldBytes}
 use Rattle.protocol.specs.Layout.{layout}
 use Rattle.protocol.specs.Lengths.{lengthsFit}
@@ -24,13 +26,13 @@ use Rattle.protocol.specs.Refusals.{aboveLimit, badType, badFlags, badLe
 unfoldable pub baseBytes : ℕ → ℕ → List ℕ
 baseBytes kind flags = kind ∷ 4 ∷ leBytes 2 flags
 
--- the mandatory header
-unfoldable pub mandatoryBytes : TypeRow → Header → List ℕ
-mandatoryBytes r h = baseBytes (r .kind) (flagsOf r h) ++ fieldBytes (layout r) h
+-- the mandatory header of a packet with an array of n bytes
+unfoldable pub mandatoryBytes : TypeRow → Header → ℕ → List ℕ
+mandatoryBytes r h n = baseBytes (r .kind) (flagsOf r h) ++ fieldBytes (layout r) (countOf r n) h
 
--- the bytes of a packet: the mandatory header, the optional headers that its type may have, the data
-unfoldable pub packetBytes : TypeRow → Header → List ℕ → List ℕ → List ℕ
-packetBytes r h raw body = mandatoryBytes r h ++ sectionsBytes r h raw (sectionsOf r) ++ body
+-- the bytes of a packet: the mandatory header, the array and the optional headers that its type may have, the data
+unfoldable pub packetBytes : TypeRow → Header → List ℕ → List ℕ → List ℕ → List ℕ
+packetBytes r h arr raw body = mandatoryBytes r h (length arr) ++ sectionsBytes r h arr raw (sectionsOf r) ++ body
 
 -- what a call of the writer leaves: its answer, and the lent buffer
 pub record Outcome : Type 0 where
@@ -47,17 +49,19 @@ writeBytes bytes out =
     (pick (ltb (length out) (length bytes)) (refused noRoom out)
     (record { answer = Written.Length (length bytes); out = storeAt out 0 bytes }))
 
--- refusals 10 (an optional header that its type can't have) and 11
-unfoldable pub writeAs : TypeRow → Header → List ℕ → List ℕ → List ℕ → Outcome
-writeAs r h raw body out =
-    pick (optionsFit r h)
-    (pick (lengthsFit (r .shape) (h .fields) (length body)) (writeBytes (packetBytes r h raw body) out) (refused badLength out))
+-- refusals 10 (an optional header, or an array, that its type can't have) and 11
+unfoldable pub writeAs : TypeRow → Header → List ℕ → List ℕ → List ℕ → List ℕ → Outcome
+writeAs r h arr raw body out =
+    pick (optionsFit r h && arrayAllowed r (length arr))
+    (pick (arrayWhole r (length arr) && lengthsFit (r .shape) (h .fields) (length body)) (writeBytes (packetBytes r h arr raw body) out)
+    (refused badLength out))
     (refused badFlags out)
 
 -- refusal 9
-unfoldable pub writeTyped : Found → Header → List ℕ → List ℕ → List ℕ → Outcome
-writeTyped Unknown h raw body out = refused badType out
-writeTyped (Row r) h raw body out = writeAs r h raw body out
+unfoldable pub writeTyped : Found → Header → List ℕ → List ℕ → List ℕ → List ℕ → Outcome
+writeTyped Unknown h arr raw body out = refused badType out
+writeTyped (Row r) h arr raw body out = writeAs r h arr raw body out
 
+-- no type of the table has an array, so none is given
 unfoldable pub writeOf : Header → List ℕ → List ℕ → List ℕ → Outcome
-writeOf h raw body out = writeTyped (rowOf (h .kind)) h raw body out
+writeOf h raw body out = writeTyped (rowOf (h .kind)) h [] raw body out

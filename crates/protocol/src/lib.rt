@@ -10,6 +10,7 @@ mod types;
 pub use flags::CONNID;
 pub use flags::CQ_DATA;
 pub use flags::RAW_ADDRESS;
+pub use places::COUNT;
 pub use places::CREDIT_REQUEST;
 pub use places::MSG_ID;
 pub use places::MSG_LENGTH;

@@ -23,3 +23,6 @@ pub const TAG: u64 = 0x1_0000_0000;
 pub const MULTIUSE: u64 = 0x10_0000_0000;
 
 pub const PADDING: u64 = 0x100_0000_0000;
+
+// how many members a counted array has, and `less` of its row more
+pub const COUNT: u64 = 0x1000_0000_0000;

@@ -30,6 +30,10 @@ pub struct TypeRow {
     pub request: bool,
     // where its length stands, of the message, the segment or the grant; 0: the type has none
     pub length_at: u8,
+    // a counted array behind the fixed fields: bytes of a member, 0: the type has none; and how many
+    // members fewer than its count says there are
+    pub unit: u8,
+    pub less: u8,
 }
 
 pub enum Found {

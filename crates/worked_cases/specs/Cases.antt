@@ -15,13 +15,14 @@ use Rattle.laws.specs.Parts.{part, storeAt}
 use Rattle.wire.specs.LittleEndian.{leOf, leAt}
 use Rattle.protocol.specs.Cts.{ctsBytes}
 use Rattle.protocol.specs.Flags.{hasFlag, flagsFit}
-use Rattle.protocol.specs.FieldNumbers.{fieldBytes, numberAt, fieldsIn}
+use Rattle.protocol.specs.Arrays.{arrayLength, countOf}
+use Rattle.protocol.specs.FieldNumbers.{fieldBytes, numberAt, fieldsIn, countIn, numberThere}
 use Rattle.protocol.specs.Layout.{layout}
 use Rattle.protocol.specs.Lengths.{lengthsFit}
 use Rattle.protocol.specs.Optional.{flagged, flagsOf, sectionsOf}
 use Rattle.protocol.specs.Options.{rawAddressBytes, cqDataBytes, connidBytes, connidOrZero, cqDataIn, connidIn}
 use Rattle.protocol.specs.Reading.{headerIn, packetIn, readLengths, readSections, readFlags, readTyped, readOf}
-use Rattle.protocol.specs.Sections.{rawSpan, beginOf, connidAt, dataAt, sectionsIn, extentOf}
+use Rattle.protocol.specs.Sections.{arraySpan, rawSpan, beginOf, connidAt, dataAt, sectionsIn, extentOf}
 use Rattle.protocol.specs.Types.{rowIn, rowOf, admit}
 use Rattle.protocol.specs.Writing.{baseBytes, mandatoryBytes, packetBytes}
 use Rattle.bitmap.specs.Map.{bit, bitAt, setBit, clearBit, marked, cleared, touched, countSet, firstClear}
@@ -156,7 +157,7 @@ abbrev yieldOf : Seen → Yield
 yieldOf s = record { answer = s .says; reply = s .reply; bytes = s .bytes }
 
 unfoldable pub run : List Act → Case
-unfolding pick part storeAt leBytes leOf leAt ctsBytes hasFlag flagsFit flagged flagsOf sectionsOf layout fieldBytes numberAt fieldsIn lengthsFit rawAddressBytes cqDataBytes connidBytes connidOrZero cqDataIn connidIn headerIn packetIn readLengths readSections readFlags readTyped readOf rawSpan beginOf connidAt dataAt sectionsIn extentOf rowIn rowOf admit baseBytes mandatoryBytes packetBytes bit bitAt setBit clearBit marked cleared touched countSet firstClear someInTheWay countPosted countOlder renumbered placed placedIn postEffect readEffect packetEffect cancelAt cancelEffect reportAt reportEffect peerStep progressOf grantOf settledAs accept begun truncatedAt carry incomingOf judgeMore judgeAgain judgeData judgeFit judgeNew judgeFound judge openHere findOpen sameOutside fits older olderHere oldest vacancy ahead sameMedium sameMessage freshPeer overlap inTheWay phaseFits clash allFit noneClash pairsApart peerFits numbersFit lentFits allPeersFit engineFits putBack peerTurn callTurn setUp freshWorld turnOf worldAfter observe callsOf
+unfolding pick part storeAt leBytes leOf leAt ctsBytes hasFlag flagsFit flagged flagsOf sectionsOf layout fieldBytes numberAt fieldsIn lengthsFit rawAddressBytes cqDataBytes connidBytes connidOrZero cqDataIn connidIn headerIn packetIn readLengths readSections readFlags readTyped readOf arrayLength countOf countIn numberThere arraySpan rawSpan beginOf connidAt dataAt sectionsIn extentOf rowIn rowOf admit baseBytes mandatoryBytes packetBytes bit bitAt setBit clearBit marked cleared touched countSet firstClear someInTheWay countPosted countOlder renumbered placed placedIn postEffect readEffect packetEffect cancelAt cancelEffect reportAt reportEffect peerStep progressOf grantOf settledAs accept begun truncatedAt carry incomingOf judgeMore judgeAgain judgeData judgeFit judgeNew judgeFound judge openHere findOpen sameOutside fits older olderHere oldest vacancy ahead sameMedium sameMessage freshPeer overlap inTheWay phaseFits clash allFit noneClash pairsApart peerFits numbersFit lentFits allPeersFit engineFits putBack peerTurn callTurn setUp freshWorld turnOf worldAfter observe callsOf
 run calls =
     let start : World = freshWorld 2 256 96 (replicate 512 7) (replicate 8 1) in
     let all : List Request = map asPeer calls in

@@ -7,49 +7,54 @@ use mathlib.Core.Bool.{true}
 use mathlib.Core.Path.{_≡_, sym, _∙_}
 use native.Mathlib.Omega.{arith}
 use Rattle.laws.specs.Choose.{pick}
+use Rattle.protocol.specs.Arrays.{arrayAllowed}
 use Rattle.protocol.specs.Optional.{optionsFit}
 use Rattle.protocol.specs.Totals.{limitedTo}
 use Rattle.protocol.specs.Writing.{packetBytes, writeAs, writeBytes}
+use Rattle.laws.proofs.Choosing.{and-left, and-right}
 use Rattle.protocol.proofs.WritingLaws.{limited-above, limited-bytes, total-is}
 use Rattle.packet.proofs.writer.typed.Statement.{statement}
 use Rattle.packet.proofs.writer.typed.Tie as tie
 
--- past the tests of optional headers and lengths, the bytes are written
+-- past the tests of optional headers, array and lengths, the bytes are written
 passed : (c : tie.Else2) → let a = c .before .before .before .before .before .before .before .before .args in
-    writeAs (a .row) (a .header) (a .raw .now) (a .«data» .now) (a .out .now)
-    ≡ writeBytes (packetBytes (a .row) (a .header) (a .raw .now) (a .«data» .now)) (a .out .now)
+    writeAs (a .row) (a .header) (a .array .now) (a .raw .now) (a .«data» .now) (a .out .now)
+    ≡ writeBytes (packetBytes (a .row) (a .header) (a .array .now) (a .raw .now) (a .«data» .now)) (a .out .now)
 unfolding writeAs pick
 passed c =
     let f2 = c .before in
-    let f1 = f2 .before .before .before in
-    let e1 = not-false (f1 .options-fit .result) (f2 .before .before .if1 .left) in
-    let e2 = not-false (f2 .fit .result) (c .if2 .left) in
-    rw (← f1 .options-fit .ensures, e1, ← f2 .fit .ensures, e2)
+    let f1 = f2 .before .before in
+    let e1 = not-false (f1 .may-have .result) (f2 .before .if1 .left) in
+    let e2 = not-false (f2 .lengths-fit .result) (c .if2 .left) in
+    rw (← f1 .may-have .ensures, e1, ← f2 .lengths-fit .ensures, e2)
 
--- the type may have the optional headers
+-- the type may have the optional headers and the array
 fitting : (c : tie.Else2) → let a = c .before .before .before .before .before .before .before .before .args in
-    optionsFit (a .row) (a .header) ≡ true
+    (optionsFit (a .row) (a .header) ≡ true) × (arrayAllowed (a .row) (length (a .array .now)) ≡ true)
 fitting c =
-    let f = c .before .before .before .before in
-    sym (f .options-fit .ensures) ∙ not-false (f .options-fit .result) (c .before .before .before .if1 .left)
+    let f = c .before .before .before in
+    let a = f .before .before .before .before .before .args in
+    let e = sym (f .may-have .ensures) ∙ not-false (f .may-have .result) (c .before .before .if1 .left) in
+    (and-left _ (arrayAllowed (a .row) (length (a .array .now))) e, and-right (optionsFit (a .row) (a .header)) _ e)
 
 -- `total` answers the packet's length, if the limit allows it
 answered : (c : tie.After-total) → let a = c .before .before .before .before .before .before .before .before .before .before .args in
-    limitedTo (length (packetBytes (a .row) (a .header) (a .raw .now) (a .«data» .now))) ≡ c .total .result
+    limitedTo (length (packetBytes (a .row) (a .header) (a .array .now) (a .raw .now) (a .«data» .now))) ≡ c .total .result
 answered c =
     let w = c .before in
     let s = w .before .before .before .before .before .before .before .before .before in
     let a = s .args in
-    sym (total-is (a .row) (a .header) (a .raw .now) (a .«data» .now) (s .pre) (fitting (w .before))) ∙ sym (rw (w .written .ensures) at (c .total .ensures))
+    let (t, u) = fitting (w .before) in
+    sym (total-is (a .row) (a .header) (a .array .now) (a .raw .now) (a .«data» .now) (s .pre) t u) ∙ sym (rw (w .written .ensures) at (c .total .ensures))
 
 measured : (c : tie.After-known-told) →
     let a = c .before .before .before .before .before .before .before .before .before .before .before .before .before .args in
-    let bytes = packetBytes (a .row) (a .header) (a .raw .now) (a .«data» .now) in
+    let bytes = packetBytes (a .row) (a .header) (a .array .now) (a .raw .now) (a .«data» .now) in
     (length bytes ≡ c .before .n .given .0 .0) × (length bytes ≤ 8192)
 measured c = limited-bytes _ _ (answered (c .before .before .before) ∙ c .before .n .given .1)
 
-options-fit-requires : tie.Need-options-fit-requires
-options-fit-requires c κs = search needs
+may-have-requires : tie.Need-may-have-requires
+may-have-requires c κs = search needs
 
 refused-requires : tie.Need-refused-requires
 refused-requires c κs = search needs
@@ -58,11 +63,11 @@ returns : tie.Need-returns
 unfolding writeAs pick
 returns c =
     let f = c .before .before in
-    let e = not-true (f .options-fit .result) (c .before .if1 .taken) in
-    rw (← f .options-fit .ensures, e, c .refused .ensures)
+    let e = not-true (f .may-have .result) (c .before .if1 .taken) in
+    rw (← f .may-have .ensures, e, c .refused .ensures)
 
-fit-requires : tie.Need-fit-requires
-fit-requires c κs = search needs
+lengths-fit-requires : tie.Need-lengths-fit-requires
+lengths-fit-requires c κs = search needs
 
 refused-requires-2 : tie.Need-refused-requires-2
 refused-requires-2 c κs = search needs
@@ -71,16 +76,16 @@ returns-2 : tie.Need-returns-2
 unfolding writeAs pick
 returns-2 c =
     let f2 = c .before .before in
-    let f1 = f2 .before .before .before in
-    let e1 = not-false (f1 .options-fit .result) (f2 .before .before .if1 .left) in
-    let e2 = not-true (f2 .fit .result) (c .before .if2 .taken) in
-    rw (← f1 .options-fit .ensures, e1, ← f2 .fit .ensures, e2, c .refused2 .ensures)
+    let f1 = f2 .before .before in
+    let e1 = not-false (f1 .may-have .result) (f2 .before .if1 .left) in
+    let e2 = not-true (f2 .lengths-fit .result) (c .before .if2 .taken) in
+    rw (← f1 .may-have .ensures, e1, ← f2 .lengths-fit .ensures, e2, c .refused2 .ensures)
 
 written-requires : tie.Need-written-requires
 written-requires c κs = search needs
 
 total-requires : tie.Need-total-requires
-total-requires c κs = search needs
+total-requires c κs = (c .before .before .before .before .before .before .before .before .before .pre, fitting (c .before) .1)
 
 enum-told : tie.Need-enum-told
 enum-told c = search needs
@@ -107,7 +112,8 @@ put-requires c κs =
     let t = c .before .before in
     let w = t .before .before .before .before in
     let m = measured t in
-    (w .before .before .before .before .before .before .before .before .before .pre, (w .written .ensures, (fitting (w .before), (m .1, omega arith))))
+    let (o, u) = fitting (w .before) in
+    (w .before .before .before .before .before .before .before .before .before .pre, (w .written .ensures, (o, (u, (m .1, omega arith)))))
 
 returns-4 : tie.Need-returns-4
 unfolding writeBytes pick
@@ -132,10 +138,10 @@ pub typed-spec : {M : Type 1} → statement M
 typed-spec =
     tie.close
     (tie.spec
-    options-fit-requires
+    may-have-requires
     refused-requires
     returns
-    fit-requires
+    lengths-fit-requires
     refused-requires-2
     returns-2
     written-requires

@@ -18,8 +18,11 @@ refused-requires c κs = search needs
 enum-known-row : tie.Need-enum-known-row
 enum-known-row c = search needs
 
+slice-aggregate-typed : tie.Need-slice-aggregate-typed
+slice-aggregate-typed c = search needs
+
 typed-requires : tie.Need-typed-requires
-typed-requires c κs = sound _ _ (sym (c .before .before .before .before .find .ensures) ∙ c .before .before .row .given .1)
+typed-requires c κs = sound _ _ (sym (c .before .before .before .before .before .find .ensures) ∙ c .before .before .before .row .given .1)
 
 returns : tie.Need-returns
 unfolding writeOf writeTyped
@@ -32,7 +35,7 @@ same-length c = search needs
 returns-2 : tie.Need-returns-2
 unfolding writeOf writeTyped
 returns-2 c =
-    let r = c .before .before .before .before .before in
+    let r = c .before .before .before .before .before .before in
     rw (← r .before .before .find .ensures, r .row .given .1, c .before .before .typed .ensures)
 
 pub write-spec : {M : Type 1} → statement M
@@ -43,6 +46,7 @@ write-spec =
     enum-told
     refused-requires
     enum-known-row
+    slice-aggregate-typed
     typed-requires
     returns
     same-length

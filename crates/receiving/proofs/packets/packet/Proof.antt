@@ -1,6 +1,8 @@
 -- `receiving::packets::packet` meets its contract: a packet that was read has its data in its bytes, and keeps to what its parts ask.
+use Prim.Native.Nat.{_^_, _<_}
 use borrow.Author.Needs.{needs}
 use borrow.Author.Tests.{lt-ltb, le-ltb}
+use lib.ListN.{length}
 use mathlib.Core.Path.{sym, _∙_}
 use native.Mathlib.Omega.{arith}
 use Rattle.laws.specs.Choose.{pick}
@@ -30,11 +32,16 @@ refused-requires-2 c κs = search needs
 enum-known-packet : tie.Need-enum-known-packet
 enum-known-packet c = search needs
 
+-- a slice is shorter than the address space
+short : (c : tie.After-shared-slice-known) → length (c .before .args .bytes .now) < 2 ^ 63
+short c = omega arith
+
 add-end : tie.Need-add-end
 add-end c =
-    let a = c .before .before .before .before .before .before .before .before .before .before .before .args in
+    let b = c .before .before .before .before .before .before .before .before .before .before in
+    let a = b .before .args in
     let e = sym (c .before .before .before .before .before .read-served .ensures) ∙ c .before .before .before .packet .given .1 in
-    omega (arith, data-inside (a .limit) (a .bytes .now) _ e)
+    omega (arith, data-inside (a .limit) (a .bytes .now) _ e, short b)
 
 incoming-of-requires : tie.Need-incoming-of-requires
 incoming-of-requires c κs = search needs
