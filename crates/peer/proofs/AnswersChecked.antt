@@ -21,16 +21,14 @@ use Rattle.peer.specs.Checks.{AnswersAreChecked, Check, Fails, checksOf,
 use Rattle.peer.specs.Claims.{AreBytes}
 use Rattle.peer.specs.Coverage.{Segment}
 use Rattle.peer.specs.Effects.{opened}
-use Rattle.peer.specs.Expected.{Ruling, expectAgain, expectCancel, expectData, expectFit, expectFound, expectMore, expectNew, expectPacket, expectPost, expectRead, expectReport, expectTaken, expected}
+use Rattle.peer.specs.Expected.{Ruling, expectCancel, expectPacket, expectPost, expectRead, expectReport, expected, accepting}
 use Rattle.peer.specs.InWords.{FoundIsTheLowestOpen, NothingFoundIsNoneOpen, RtmIs64To69, UnfitIsNoneWaiting}
 use Rattle.peer.specs.Incomings.{incomingOf, isRtm}
-use Rattle.peer.specs.Matching.{ahead}
 use Rattle.peer.specs.PacketBytes.{Rtm, idIn, typeIn}
-use Rattle.peer.specs.Plain.{Plain, Role, entryAt, firstPosted, idle, openIn, receiving, roles, segmentOf, waiting}
+use Rattle.peer.specs.Plain.{Plain, Role, entryAt, idle, openIn, receiving, roles, segmentOf, waiting, Target, begunAt, moreAt}
 use Rattle.peer.specs.Says.{refused, said, say}
 use Rattle.peer.specs.View.{OneEach, OpenIn, View, viewIn}
 use Rattle.peer.specs.declared.types.Answer.{Answer}
-use Rattle.peer.specs.declared.types.Fit.{Fit}
 use Rattle.peer.specs.declared.types.Found.{Found}
 use Rattle.peer.specs.declared.types.Inbound.{Inbound}
 use Rattle.peer.specs.declared.types.Incoming.{Incoming}
@@ -39,8 +37,8 @@ use Rattle.laws.proofs.Choosing.{branch, clashing}
 use Rattle.protocol.proofs.OrderHolds.{read-if-none-fails, refused-by-first-to-fail}
 use Rattle.peer.proofs.AnswerLaws.{expect-takes, takes-unrefused}
 use Rattle.peer.proofs.BytesHold.{Says, read-says}
-use Rattle.peer.proofs.EntrySearch.{foremost}
 use Rattle.peer.proofs.FirstLaws.{gone-at, gone-past, gone-refused}
+use Rattle.peer.proofs.HistoryFacts.{Belongs, Ruled, accepted, again, begins, beyond, behind, cutOff, differing, goesOn, granted, notLong, notOpen, repeating, ruled, shut, tooSoon, unmatched}
 use Rattle.peer.proofs.PacketChecked.{Sole, data-beyond, data-more, data-repeats, data-short, data-shut, new-early, new-fits, new-late, new-unfit, open-differs, open-more, open-repeats}
 use Rattle.peer.proofs.PostChecked.{GoneFor, Unrefused, cancel-free, cancel-used, post-gone, report-open, report-shut, slot-beyond}
 use Rattle.peer.proofs.Roles.{role-of-entry}
@@ -133,61 +131,35 @@ module _ (area limit : ℕ) (l : Plain) where
     unfolding NothingFoundIsNoneOpen
     none e i o (r, x) = nothing-found-is-none-open (roles (l .entries)) (h .id) .0 e i o (role-of-entry (l .entries) i ∙ r, x ∙ sym (says .id))
 
-    -- the answer to one segment more
-    abbrev more : ℕ → Inbound → Answer
-    more i o = expectTaken limit i o (segmentOf h body ∷ entryAt (l .entries) i .segments)
+    taken-unrefused : (t : Target) (o : Inbound) → Unrefused (accepting limit o t .answer)
+    taken-unrefused t o = takes-unrefused (accepting limit o t .answer) (expect-takes limit (t .index) o (t .entry .segments))
 
-    more-unrefused : (i : ℕ) (o : Inbound) → Unrefused (more i o)
-    more-unrefused i o = takes-unrefused (more i o) (expect-takes limit i o (segmentOf h body ∷ entryAt (l .entries) i .segments))
-
-    -- "RTMs: if open, 14, 16"
-    again : (i : ℕ) (o : Inbound) → Rtm bs → Sole v (idIn bs) i o → J (expectAgain limit l h body i o)
-    unfolding expectAgain expectMore
-    again i o w s =
-        branch J _ _ _
-        (λ x. branch J _ _ _ (λ y. open-repeats area limit v bs h says (Answer.Refused repeated) w i o s x y refl)
-        (λ y. open-more area limit v bs h says (more i o) w i o s x y (more-unrefused i o)))
-        (λ x. open-differs area limit v bs h says (Answer.Refused differs) w i o s x refl)
-
-    -- "CTSDATA: 15, 17, 16"
-    data-judged : (i : ℕ) (o : Inbound) → typeIn bs ≡ 4 → Sole v (idIn bs) i o → J (expectData limit l h body i o)
-    unfolding expectData expectMore
-    data-judged i o t s =
-        branch J _ _ _
-        (λ x. branch J _ _ _ (λ b. data-beyond area limit v bs h says (Answer.Refused beyondGrant) t i o s x (ltb-true _ _ b) refl)
-        (λ b. branch J _ _ _ (λ y. data-repeats area limit v bs h says (Answer.Refused repeated) t i o s x (ltb-false _ _ b) y refl)
-        (λ y. data-more area limit v bs h says (more i o) t i o s x (ltb-false _ _ b) y (more-unrefused i o))))
-        (λ x. data-short area limit v bs h says (Answer.Refused late) t i o s x refl)
-
-    -- "if not open, 15, 12, 13"
-    new : Rtm bs → ((i : ℕ) (o : Inbound) → OpenIn v (idIn bs) i o → ⊥) → J (expectNew limit l h body)
-    unfolding expectNew expectFit UnfitIsNoneWaiting
-    new w n =
-        branch J _ _ _ (λ x. new-late area limit v bs h says (Answer.Refused late) w n small octets (ltb-true _ _ x) refl)
-        (λ x.
-        let b : ahead (h .id) (l .next) < 2 ^ 31 = omega (arith, ltb-false 2147483647 (ahead (h .id) (l .next)) x) in
-        branch J _ _ _ (λ y. new-early area limit v bs h says (Answer.Refused early) w n small octets b (ltb-true _ _ y) refl)
-        (λ y. fits-at b (omega (arith, ltb-false 0 (ahead (h .id) (l .next)) y)) (firstPosted h 0 Fit.Unfit (l .entries)) refl))
+    judged : {x : Ruling} → Ruled limit l h body x → J x
+    unfolding UnfitIsNoneWaiting
+    judged (shut _ (differing i o f r d)) = open-differs area limit v bs h says (Answer.Refused differs) (rtm-of says r) i o (sole i o f) d refl
+    judged (shut _ (repeating i o f (again r s) t)) = open-repeats area limit v bs h says (Answer.Refused repeated) (rtm-of says r) i o (sole i o f) s t refl
+    judged (shut _ (repeating i o f (granted d long g) t)) =
+        data-repeats area limit v bs h says (Answer.Refused repeated) (data-of says d) i o (sole i o f) long g t refl
+    judged (shut _ (beyond i o f d long g)) = data-beyond area limit v bs h says (Answer.Refused beyondGrant) (data-of says d) i o (sole i o f) long g refl
+    judged (shut _ (notLong i o f d short)) = data-short area limit v bs h says (Answer.Refused late) (data-of says d) i o (sole i o f) short refl
+    judged (shut _ (notOpen n d)) = data-shut area limit v bs h says (Answer.Refused late) (data-of says d) (none n) refl
+    judged (shut _ (behind n r g)) = new-late area limit v bs h says (Answer.Refused late) (rtm-of says r) (none n) small octets g refl
+    judged (shut _ (tooSoon n r g m)) = new-early area limit v bs h says (Answer.Refused early) (rtm-of says r) (none n) small octets g m refl
+    judged (shut _ (unmatched n r z u)) =
+        new-unfit area limit v bs h says (Answer.Refused noReceive) (rtm-of says r) (none n) small octets (omega arith) z
+        (λ j s y f. unfit-is-none-waiting h (l .entries) .0 u j s y f) refl
+    judged (cutOff i r serial m above) =
+        new-fits area limit v bs h says (Answer.Truncated i (h .id) (h .length)) (rtm-of says (m .rtm)) (none (m .unopened)) small octets (omega (arith, m .next))
+        (m .next) i r (m .chosen .waits) (m .chosen .fit) (λ u. let z : _≡_ {A = ℕ} 0 1 = cc in omega arith)
+    judged (accepted t o (goesOn i _ g) f) = go (g .belongs)
       where
-        fits-at : ahead (h .id) (l .next) < 2 ^ 31 → ahead (h .id) (l .next) ≡ 0 → (f : Fit) → firstPosted h 0 Fit.Unfit (l .entries) ≡ f
-            → J (expectFit limit h body f)
-        fits-at b z Fit.Unfit x =
-            new-unfit area limit v bs h says (Answer.Refused noReceive) w n small octets b z (λ j r y f. unfit-is-none-waiting h (l .entries) .0 x j r y f) refl
-        fits-at b z (Fit.To i r serial) x =
-            let m = foremost h (l .entries) i r serial x in
-            branch J _ _ _
-            (λ y. new-fits area limit v bs h says (Answer.Truncated i (h .id) (h .length)) w n small octets b z i r (m .waits) (m .fit) (λ u. let z : _≡_ {A = ℕ} 0 1 = cc in omega arith))
-            (λ y. new-fits area limit v bs h says (expectTaken limit i (opened r h) (segmentOf h body ∷ [])) w n small octets b z i r (m .waits) (m .fit)
-            (takes-unrefused (expectTaken limit i (opened r h) (segmentOf h body ∷ [])) (expect-takes limit i (opened r h) (segmentOf h body ∷ []))))
-
-    judged : J (expectFound limit l h body (openIn (h .id) 0 (roles (l .entries))))
-    unfolding expectFound
-    judged = found (openIn (h .id) 0 (roles (l .entries))) refl
-      where
-        found : (f : Found) → openIn (h .id) 0 (roles (l .entries)) ≡ f → J (expectFound limit l h body f)
-        found (Found.At i o) x = branch J _ _ _ (λ y. again i o (rtm-of says y) (sole i o x)) (λ y. data-judged i o (data-of says y) (sole i o x))
-        found Found.Nothing x =
-            branch J _ _ _ (λ y. new (rtm-of says y) (none x)) (λ y. data-shut area limit v bs h says (Answer.Refused late) (data-of says y) (none x) refl)
+        go : Belongs h o → J (accepting limit o (moreAt l i (segmentOf h body)))
+        go (again r s) = open-more area limit v bs h says (accepting limit o (moreAt l i (segmentOf h body)) .answer) (rtm-of says r) i o (sole i o (g .found)) s (g .new) (taken-unrefused (moreAt l i (segmentOf h body)) o)
+        go (granted d long x) =
+            data-more area limit v bs h says (accepting limit o (moreAt l i (segmentOf h body)) .answer) (data-of says d) i o (sole i o (g .found)) long x (g .new) (taken-unrefused (moreAt l i (segmentOf h body)) o)
+    judged (accepted t o (begins i r serial m) f) =
+        new-fits area limit v bs h says (accepting limit (opened r h) (begunAt h i r serial (segmentOf h body)) .answer) (rtm-of says (m .rtm)) (none (m .unopened)) small octets (omega (arith, m .next)) (m .next) i r (m .chosen .waits)
+        (m .chosen .fit) (taken-unrefused (begunAt h i r serial (segmentOf h body)) (opened r h))
 
   packet-checked : OneEach (viewIn l) → l .next < 2 ^ 32 → (bs : List ℕ) (room : ℕ) → ((i : ℕ) → getD bs i 0 < 256)
       → G (checksOf (packet bs room)) (expected area limit l (packet bs room))
@@ -204,7 +176,7 @@ module _ (area limit : ℕ) (l : Plain) where
           (ap (λ (m : ℕ). say refused (m ∷ [])) (sym n))
       read (Read.Packet q) e =
           gone-past (Fails area limit v) numberOf (unread bs) readerChecks (judgedChecks bs) (said (expectRead limit l bs (Read.Packet q) .answer))
-          (read-if-none-fails false limit bs .0 (valuesIn q bs, ap (readSays bs) e)) (judged one small bs octets q e)
+          (read-if-none-fails false limit bs .0 (valuesIn q bs, ap (readSays bs) e)) (judged one small bs octets q e (ruled limit l (incomingOf q) (bytesAt bs (q .«data»))))
 
   pub answer-checked : (c : Call) → OneEach (viewIn l) → length (l .entries) ≡ 8 → l .next < 2 ^ 32 → AreBytes c → G (checksOf c) (expected area limit l c)
   answer-checked (post r) one eight small b = unfold expected in post-checked eight r

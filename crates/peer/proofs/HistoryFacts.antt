@@ -24,7 +24,7 @@ use Rattle.peer.specs.Effects.{grantOf, opened}
 use Rattle.peer.specs.Expected.{Ruling, accepting, anyOverlap, enter, expectAgain, expectCancel, expectData, expectFit, expectFound, expectMore, expectNew, expectPacket, expectPlace, expectPost, expectRead, expectReport, expectTaken, expected, lowestIdle, refusing, targetOfCall}
 use Rattle.peer.specs.InWords.{FoundIsTheLowestOpen}
 use Rattle.peer.specs.Incomings.{incomingOf, isLong, isRtm}
-use Rattle.peer.specs.Matching.{ahead}
+use Rattle.peer.specs.Matching.{ahead, sameMessage}
 use Rattle.peer.specs.Origins.{Origin, noteOrigin}
 use Rattle.peer.specs.Plain.{Entry, Plain, Role, Target, begunAt, enterAt, entryAt, firstPosted, freshPlain, grantedEntry, idle, moreAt, noEntry, nowhere, openIn, posted, put, receiving, roles, segmentOf, settle, waiting}
 use Rattle.peer.specs.State.{slotCount}
@@ -59,14 +59,32 @@ bytesOf b = bytesAt (b .text) (b .read .«data»)
 
 -- ---- where a segment goes
 
+-- the message o that is open under the packet's id, in entry i, or none is
+abbrev pub Open : Plain → Incoming → ℕ → Inbound → Type 0
+Open l h i o = openIn (h .id) 0 (roles (l .entries)) ≡ Found.At i o
+
+abbrev pub Unopened : Plain → Incoming → Type 0
+Unopened l h = openIn (h .id) 0 (roles (l .entries)) ≡ Found.Nothing
+
+-- a segment of the open message o: one more RTM of it, or CTSDATA that was granted
+pub data Belongs (h : Incoming) (o : Inbound) : Type 0 where
+  again : isRtm (h .shape) ≡ true → sameMessage (o .message) h ≡ true → Belongs h o
+  granted : isRtm (h .shape) ≡ false → isLong (o .message .shape) ≡ true → h .offset + h .size ≤ o .message .granted → Belongs h o
+
 -- to the message o that is open in entry i, of which it brings bytes that are not in yet
 pub record Goes (l : Plain) (h : Incoming) (i : ℕ) (o : Inbound) : Type 0 where
+  pub found : Open l h i o
   pub role : entryAt (l .entries) i .role ≡ receiving o
+  pub belongs : Belongs h o
   pub new : someOf (covers (entryAt (l .entries) i .segments)) (h .offset) (h .size) ≡ false
-  pub inGrant : isLong (o .message .shape) ≡ true → h .offset + h .size ≤ o .message .granted
+
+pub in-grant : {h : Incoming} {o : Inbound} → Belongs h o → isLong (o .message .shape) ≡ true → h .offset + h .size ≤ o .message .granted
+in-grant {h} {o} (again r s) long = absurd (medium-only (o .message) h s long)
+in-grant (granted d l g) long = g
 
 -- to the receive r that waits in entry i
 pub record Matches (l : Plain) (h : Incoming) (i : ℕ) (r : Receive) (serial : ℕ) : Type 0 where
+  pub unopened : Unopened l h
   pub rtm : isRtm (h .shape) ≡ true
   pub next : ahead (h .id) (l .next) ≡ 0
   pub chosen : Foremost h (l .entries) i r serial
@@ -162,26 +180,85 @@ refused-walked limit l (report i) k = (tt, asBefore nowhere _ refl (λ gs. refl)
 
 -- ---- the tests of a packet, one after the other
 
+-- why it is refused
+pub data Reason (l : Plain) (h : Incoming) : Refusal → Type 0 where
+  differing : (i : ℕ) (o : Inbound) → Open l h i o → isRtm (h .shape) ≡ true → sameMessage (o .message) h ≡ false → Reason l h differs
+  repeating : (i : ℕ) (o : Inbound) → Open l h i o → Belongs h o → someOf (covers (entryAt (l .entries) i .segments)) (h .offset) (h .size) ≡ true
+      → Reason l h repeated
+  beyond : (i : ℕ) (o : Inbound) → Open l h i o → isRtm (h .shape) ≡ false → isLong (o .message .shape) ≡ true
+      → o .message .granted < h .offset + h .size → Reason l h beyondGrant
+  notLong : (i : ℕ) (o : Inbound) → Open l h i o → isRtm (h .shape) ≡ false → isLong (o .message .shape) ≡ false → Reason l h late
+  notOpen : Unopened l h → isRtm (h .shape) ≡ false → Reason l h late
+  behind : Unopened l h → isRtm (h .shape) ≡ true → 2147483648 ≤ ahead (h .id) (l .next) → Reason l h late
+  tooSoon : Unopened l h → isRtm (h .shape) ≡ true → ahead (h .id) (l .next) < 2147483648 → 1 ≤ ahead (h .id) (l .next) → Reason l h early
+  unmatched : Unopened l h → isRtm (h .shape) ≡ true → ahead (h .id) (l .next) ≡ 0 → firstPosted h 0 Fit.Unfit (l .entries) ≡ Fit.Unfit
+      → Reason l h noReceive
+
+-- what a packet comes to
+pub data Ruled (limit : ℕ) (l : Plain) (h : Incoming) (body : List ℕ) : Ruling → Type 0 where
+  shut : (k : Refusal) → Reason l h k → Ruled limit l h body (refusing k)
+  cutOff : (i : ℕ) (r : Receive) (serial : ℕ) → Matches l h i r serial → r .capacity < h .length
+      → Ruled limit l h body (record { target = begunAt h i r serial (segmentOf h body); answer = Answer.Truncated i (h .id) (h .length) })
+  accepted : (t : Target) (o : Inbound) → Aims l h body t o → Fitting (t .matched) o → Ruled limit l h body (accepting limit o t)
+
+module _ (limit : ℕ) (l : Plain) (h : Incoming) (body : List ℕ) where
+  abbrev R : Ruling → Type 0
+  R = Ruled limit l h body
+
+  more : (i : ℕ) (o : Inbound) → Open l h i o → Belongs h o → R (expectMore limit l h body i o)
+  unfolding expectMore FoundIsTheLowestOpen
+  more i o e b =
+      let role : entryAt (l .entries) i .role ≡ receiving o =
+      sym (role-of-entry (l .entries) i) ∙ found-is-the-lowest-open (roles (l .entries)) (h .id) i o .0 e .0 .0 in
+      branch R (someOf (covers (entryAt (l .entries) i .segments)) (h .offset) (h .size)) _ _ (λ x. shut repeated (repeating i o e b x))
+      (λ x. accepted _ o (goesOn i o (record { found = e; role = role; belongs = b; new = x })) (λ y. absurd (false≢true y)))
+
+  further : (i : ℕ) (o : Inbound) → Open l h i o → isRtm (h .shape) ≡ true → R (expectAgain limit l h body i o)
+  unfolding expectAgain
+  further i o e r = branch R _ _ _ (λ x. more i o e (again r x)) (λ x. shut differs (differing i o e r x))
+
+  ctsData : (i : ℕ) (o : Inbound) → Open l h i o → isRtm (h .shape) ≡ false → R (expectData limit l h body i o)
+  unfolding expectData
+  ctsData i o e d =
+      branch R _ _ _
+      (λ long. branch R (ltb (o .message .granted) (h .offset + h .size)) _ _ (λ x. shut beyondGrant (beyond i o e d long (ltb-true _ _ x)))
+      (λ x. more i o e (granted d long (ltb-false _ _ x))))
+      (λ x. shut late (notLong i o e d x))
+
+  fitted : (f : Fit) → firstPosted h 0 Fit.Unfit (l .entries) ≡ f → Unopened l h → isRtm (h .shape) ≡ true → ahead (h .id) (l .next) ≡ 0
+      → R (expectFit limit h body f)
+  unfolding expectFit
+  fitted Fit.Unfit e n rtm next = shut noReceive (unmatched n rtm next e)
+  fitted (Fit.To i r serial) e n rtm next =
+      let m : Matches l h i r serial = record { unopened = n; rtm = rtm; next = next; chosen = foremost h (l .entries) i r serial e } in
+      branch R (ltb (r .capacity) (h .length)) _ _ (λ x. cutOff i r serial m (ltb-true _ _ x))
+      (λ x. accepted _ _ (begins i r serial m) (λ y. ltb-false (r .capacity) (h .length) x))
+
+  fresh : Unopened l h → isRtm (h .shape) ≡ true → R (expectNew limit l h body)
+  unfolding expectNew
+  fresh n rtm =
+      branch R (ltb 2147483647 (ahead (h .id) (l .next))) _ _ (λ x. shut late (behind n rtm (ltb-true _ _ x))) (λ x.
+      branch R (ltb 0 (ahead (h .id) (l .next))) _ _
+      (λ y. shut early (tooSoon n rtm (omega (arith, ltb-false 2147483647 (ahead (h .id) (l .next)) x)) (ltb-true _ _ y)))
+      (λ y. fitted _ refl n rtm (omega (arith, ltb-false 0 (ahead (h .id) (l .next)) y))))
+
+  ruled-found : (f : Found) → openIn (h .id) 0 (roles (l .entries)) ≡ f → R (expectFound limit l h body f)
+  unfolding expectFound
+  ruled-found (Found.At i o) e = branch R _ _ _ (λ x. further i o e x) (λ x. ctsData i o e x)
+  ruled-found Found.Nothing e = branch R _ _ _ (λ x. fresh e x) (λ x. shut late (notOpen e x))
+
+  pub ruled : Ruled limit l h body (expectFound limit l h body (openIn (h .id) 0 (roles (l .entries))))
+  ruled = ruled-found (openIn (h .id) 0 (roles (l .entries))) refl
+
+-- a packet that is read
 module _ (limit : ℕ) (l : Plain) (bs : List ℕ) (room : ℕ) (q : Packet) (reads : readOf false limit bs ≡ Read.Packet q) where
   abbrev b : Brings limit (packet bs room)
   b = record { text = bs; room = room; read = q; call = refl; reads = reads }
 
-  abbrev h : Incoming
-  h = incomingOf q
-
-  abbrev body : List ℕ
-  body = bytesAt bs (q .«data»)
-
-  O : Ruling → Type 0
-  O x = Walked limit l (packet bs room) (x .target) (x .answer)
-
-  shut : (k : Refusal) → O (refusing k)
-  unfolding O
-  shut k = refused-walked limit l (packet bs room) k
-
-  accepted : (t : Target) (o : Inbound) → Aims l h body t o → Fitting (t .matched) o → O (accepting limit o t)
-  unfolding O expectTaken
-  accepted t o a f =
+  taken-walked : (t : Target) (o : Inbound) → Aims l (headOf b) (bytesOf b) t o → Fitting (t .matched) o
+      → Walked limit l (packet bs room) t (expectTaken limit (t .index) o (t .entry .segments))
+  unfolding expectTaken
+  taken-walked t o a f =
       let w : Taken limit l (packet bs room) t = record { brings = b; message = o; aims = a } in
       branch (Walked limit l (packet bs room) t) _ _ _
       (λ x. (record { taken = w; covered = x; slotIs = refl; idIs = refl; lengthIs = refl; cqIs = refl; fits = f }, withEnd t _ w refl))
@@ -198,56 +275,18 @@ module _ (limit : ℕ) (l : Plain) (bs : List ℕ) (room : ℕ) (q : Packet) (re
       (g, withGrant t _ g))
       (λ y. (p, withSegment t p)))
 
-  more : (i : ℕ) (o : Inbound) → entryAt (l .entries) i .role ≡ receiving o
-      → (isLong (o .message .shape) ≡ true → h .offset + h .size ≤ o .message .granted) → O (expectMore limit l h body i o)
-  unfolding expectMore
-  more i o e g =
-      branch O (someOf (covers (entryAt (l .entries) i .segments)) (h .offset) (h .size)) _ _ (λ x. shut repeated)
-      (λ x. accepted _ o (goesOn i o (record { role = e; new = x; inGrant = g })) (λ y. absurd (false≢true y)))
-
-  again : (i : ℕ) (o : Inbound) → entryAt (l .entries) i .role ≡ receiving o → O (expectAgain limit l h body i o)
-  unfolding expectAgain
-  again i o e = branch O _ _ _ (λ x. more i o e (λ long. absurd (medium-only (o .message) h x long))) (λ x. shut differs)
-
-  granted : (i : ℕ) (o : Inbound) → entryAt (l .entries) i .role ≡ receiving o → O (expectData limit l h body i o)
-  unfolding expectData
-  granted i o e =
-      branch O _ _ _
-      (λ long. branch O (ltb (o .message .granted) (h .offset + h .size)) _ _ (λ x. shut beyondGrant) (λ x. more i o e (λ y. ltb-false _ _ x)))
-      (λ x. shut late)
-
-  fitted : (f : Fit) → firstPosted h 0 Fit.Unfit (l .entries) ≡ f → isRtm (h .shape) ≡ true → ahead (h .id) (l .next) ≡ 0 → O (expectFit limit h body f)
-  unfolding expectFit
-  fitted Fit.Unfit e rtm next = shut noReceive
-  fitted (Fit.To i r serial) e rtm next =
-      let m : Matches l h i r serial = record { rtm = rtm; next = next; chosen = foremost h (l .entries) i r serial e } in
-      let w : Taken limit l (packet bs room) (begunAt h i r serial (segmentOf h body)) = record { brings = b; message = opened r h; aims = begins i r serial m } in
-      branch O (ltb (r .capacity) (h .length)) _ _
-      (λ x. unfold O in (
-        record { taken = w; matched = refl; slotIs = refl; idIs = refl; lengthIs = refl; above = ltb-true (r .capacity) (h .length) x },
-        withEnd _ _ w refl,
-      ))
-      (λ x. accepted _ _ (begins i r serial m) (λ y. ltb-false (r .capacity) (h .length) x))
-
-  fresh : isRtm (h .shape) ≡ true → O (expectNew limit l h body)
-  unfolding expectNew
-  fresh rtm =
-      branch O (ltb 2147483647 (ahead (h .id) (l .next))) _ _ (λ x. shut late) (λ x.
-      branch O (ltb 0 (ahead (h .id) (l .next))) _ _ (λ y. shut early) (λ y.
-      fitted _ refl rtm (omega (arith, ltb-false 0 (ahead (h .id) (l .next)) y))))
-
-  found : (f : Found) → openIn (h .id) 0 (roles (l .entries)) ≡ f → O (expectFound limit l h body f)
-  unfolding expectFound
-  found (Found.At i o) e =
-      let r : entryAt (l .entries) i .role ≡ receiving o =
-      sym (role-of-entry (l .entries) i) ∙ (unfold FoundIsTheLowestOpen in found-is-the-lowest-open (roles (l .entries)) (h .id) i o .0 e .0 .0) in
-      branch O _ _ _ (λ x. again i o r) (λ x. granted i o r)
-  found Found.Nothing e = branch O _ _ _ (λ x. fresh x) (λ x. shut late)
+  ruled-walked : {x : Ruling} → Ruled limit l (headOf b) (bytesOf b) x → Walked limit l (packet bs room) (x .target) (x .answer)
+  ruled-walked (shut k r) = refused-walked limit l (packet bs room) k
+  ruled-walked (cutOff i r serial m above) =
+      let w : Taken limit l (packet bs room) (begunAt (headOf b) i r serial (segmentOf (headOf b) (bytesOf b))) =
+      record { brings = b; message = opened r (headOf b); aims = begins i r serial m } in
+      (record { taken = w; matched = refl; slotIs = refl; idIs = refl; lengthIs = refl; above = above }, withEnd _ _ w refl)
+  ruled-walked (accepted t o a f) = taken-walked t o a f
 
 -- ---- every call
 
 walked : (area limit : ℕ) (l : Plain) (c : Call) → Walked limit l c (targetOfCall limit l c) (expected area limit l c)
-unfolding targetOfCall expected expectPost expectPacket expectRead O
+unfolding targetOfCall expected expectPost expectPacket expectRead
 walked area limit l (post r) =
     branch P (ltb area (r .start + r .capacity)) _ _ (λ x. refused-walked limit l (post r) badLength) (λ x.
     branch P (anyOverlap r (roles (l .entries))) _ _ (λ y. refused-walked limit l (post r) overlaps) (λ y. go (lowestIdle 0 (roles (l .entries)))))
@@ -264,7 +303,7 @@ walked area limit l (packet bs room) =
   where
     go : (x : Read) → readOf false limit bs ≡ x → Walked limit l (packet bs room) (expectRead limit l bs x .target) (expectRead limit l bs x .answer)
     go (Read.Refused k) e = refused-walked limit l (packet bs room) k
-    go (Read.Packet q) e = found limit l bs room q e (openIn (incomingOf q .id) 0 (roles (l .entries))) refl
+    go (Read.Packet q) e = ruled-walked limit l bs room q e (ruled limit l (incomingOf q) (bytesAt bs (q .«data»)))
 walked area limit l (cancel i) =
     branch (Walked limit l (cancel i) nowhere) (leb slotCount i) _ _ (λ x. refused-walked limit l (cancel i) badSlot) (λ x. go (entryAt (l .entries) i .role))
   where

@@ -23,7 +23,7 @@ use Rattle.peer.specs.declared.types.Receive.{Receive}
 use Rattle.laws.proofs.Choosing.{or-cases}
 use Rattle.peer.proofs.AnswerLaws.{claim-from}
 use Rattle.peer.proofs.CoverageLaws.{all-at, inside-end}
-use Rattle.peer.proofs.HistoryFacts.{Aims, Every, Lasting, Outcome, Taken, begins, bytesOf, every-entry, goesOn, headOf, outcome, same-message, taken-role}
+use Rattle.peer.proofs.HistoryFacts.{Aims, Every, Lasting, Outcome, Taken, begins, bytesOf, every-entry, goesOn, headOf, in-grant, outcome, same-message, taken-role}
 use Rattle.peer.proofs.PacketsRead.{read-formed}
 
 -- of an open message: all that may come is its RTM's data and the grants; what came lies below; each grant but one that reaches the length is
@@ -69,7 +69,7 @@ paid-first limit h bytes r serial f rtm =
 
 pays-taken : (limit : ℕ) (l : Plain) (h : Incoming) (bytes : List ℕ) (t : Target) (o : Inbound) → Formed h (length bytes) → Every (Pays limit) l
     → Aims l h bytes t o → Paid limit (t .entry) o
-pays-taken limit l h bytes _ _ form f (goesOn i o g) = paid-on limit (entryAt (l .entries) i) o h bytes (form .size) (g .inGrant) (f i o (g .role))
+pays-taken limit l h bytes _ _ form f (goesOn i o g) = paid-on limit (entryAt (l .entries) i) o h bytes (form .size) (in-grant (g .belongs)) (f i o (g .role))
 pays-taken limit l h bytes _ _ form f (begins i r serial m) = paid-first limit h bytes r serial form (m .rtm)
 
 -- ---- a grant more

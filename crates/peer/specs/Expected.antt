@@ -73,9 +73,11 @@ pub record Ruling : Type 0 where
   pub target : Target
   pub answer : Answer
 
+-- refused: its segment goes nowhere
 abbrev pub refusing : Refusal → Ruling
 refusing k = record { target = nowhere; answer = Answer.Refused k }
 
+-- accepted into the message o, whose entry is then that of t
 abbrev pub accepting : ℕ → Inbound → Target → Ruling
 accepting limit o t = record { target = t; answer = expectTaken limit (t .index) o (t .entry .segments) }
 
@@ -121,6 +123,7 @@ expectRead limit l bs (Read.Refused k) = refusing k
 expectRead limit l bs (Read.Packet q) =
     expectFound limit l (incomingOf q) (bytesAt bs (q .«data»)) (openIn (incomingOf q .id) 0 (roles (l .entries)))
 
+-- 5 before all: "reply buffer below 24 bytes"
 unfoldable pub expectPacket : ℕ → Plain → List ℕ → ℕ → Ruling
 expectPacket limit l bs room = pick (ltb room 24) (refusing shortReply) (expectRead limit l bs (readOf false limit bs))
 
