@@ -3,7 +3,7 @@ use Prim.Native.Nat.{ℕ, _^_, _<_, _≤_}
 use borrow.Author.Tests.{lt-ltb}
 use lib.Dec.{eqb, ltb}
 use lib.ListN.{getD}
-use mathlib.Core.Bool.{Bool, true}
+use mathlib.Core.Bool.{Bool, true, _&&_}
 use mathlib.Core.List.{List, [], _∷_}
 use mathlib.Core.Logic.{⊎-elim}
 use mathlib.Core.Path.{_≡_, refl, sym, ap, _∙_}
@@ -11,7 +11,8 @@ use native.Mathlib.Nat.{mod-eq-of-lt}
 use native.Mathlib.Omega.{arith}
 use Rattle.laws.specs.Choose.{pick}
 use Rattle.laws.proofs.Choosing.{and-intro, and-left, and-right, pick-false, pick-true, tested}
-use Rattle.protocol.specs.Layout.{Field, credit-request, msg-id, msg-length, multiuse, padding, recv-id, recv-length, seg-length, seg-offset, send-id, tag, width}
+use Rattle.protocol.specs.Layout.{Field, count, credit-request, msg-id, msg-length, multiuse, padding, recv-id, recv-length, seg-length, seg-offset, send-id, tag, width}
+use Rattle.protocol.specs.Arrays.{arrayAllowed}
 use Rattle.protocol.specs.Optional.{optionsFit}
 use Rattle.protocol.specs.Types.{rowOf}
 use Rattle.protocol.specs.Writing as packets
@@ -39,6 +40,7 @@ module _ (v : List ℕ) (words : (i : ℕ) → getD v i 0 < 2 ^ 64) (narrow : al
   fits tag = lt-ltb (getD v 9 0) (2 ^ 64) (words 9)
   fits multiuse = refl
   fits padding = refl
+  fits count = refl
 
   fields-fit : (fs : List Field) → fieldsFit v fs ≡ true
   unfolding fieldsFit
@@ -62,7 +64,7 @@ module _ (v : List ℕ) (words : (i : ℕ) → getD v i 0 < 2 ^ 64) (narrow : al
   written-at-once raw body out size small = go (rowOf (typeWord v)) refl
     where
       of-row : Found → Outcome
-      of-row o = packets.writeTyped o (headerIn v) raw body out
+      of-row o = packets.writeTyped o (headerIn v) [] raw body out
 
       as-row : (o : Found) → rowOf (typeWord v) ≡ o → writeOf (headerIn v) raw body out ≡ of-row o
       as-row o e = ap (λ (n : ℕ). of-row (rowOf n)) (mod-eq-of-lt (omega arith)) ∙ ap of-row e
@@ -71,4 +73,4 @@ module _ (v : List ℕ) (words : (i : ℕ) → getD v i 0 < 2 ^ 64) (narrow : al
       go Unknown e = ap (putOf size) (sym (as-row Unknown e))
       go (Row r) e =
           rw (numbers-fit r)
-          (⊎-elim (λ t. rw t) (λ t. rw t (ap (putOf size) (sym (as-row (Row r) e ∙ pick-false _ _ t)))) (tested (optionsFit r (headerIn v))))
+          (⊎-elim (λ t. rw t) (λ t. rw t (ap (putOf size) (sym (as-row (Row r) e ∙ pick-false _ _ (ap (λ (b : Bool). b && arrayAllowed r 0) t))))) (tested (optionsFit r (headerIn v))))

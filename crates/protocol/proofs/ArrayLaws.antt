@@ -7,7 +7,7 @@ use mathlib.Core.Bool.{Bool, true, false, not, _||_, or-true}
 use mathlib.Core.List.{List, [], _∷_}
 use mathlib.Core.Logic.{⊎-elim}
 use mathlib.Core.Path.{_≡_, refl, sym, ap, _∙_}
-use native.Mathlib.Nat.{add-sub-cancel, div-add-mod', div-le-self, mul-div-cancel, mul-le-mul, mul-mod-left}
+use native.Mathlib.Nat.{add-sub-cancel, div-add-mod', div-le-self, mul-div-cancel, mul-le-mul}
 use native.Mathlib.Omega.{arith}
 use Rattle.laws.specs.Choose.{pick}
 use Rattle.protocol.specs.Arrays.{arrayAllowed, arrayLength, arrayWhole, countOf, hasArray}
