@@ -1,20 +1,21 @@
 -- What a packet that is read tells stands in its bytes where 01 puts it: the last statements of specs/InWords.antt.
 use Prim.Native.Nat.{ℕ, _+_, _≤_}
-use borrow.Author.Tests.{eq-eqb, ne-eqb}
+use borrow.Author.Tests.{eq-eqb, eqb-true, ne-eqb}
 use lib.Dec.{eqb}
 use lib.ListN.{length, drop}
-use mathlib.Core.Bool.{Bool, true}
-use mathlib.Core.List.{List, []}
-use mathlib.Core.Logic.{inr}
+use mathlib.Core.Bool.{Bool, true, false}
+use mathlib.Core.List.{List, [], _∷_}
+use mathlib.Core.Logic.{inr, ⊎-elim}
 use mathlib.Core.Option.{some, none}
-use mathlib.Core.Path.{_≡_, refl, sym, ap, ap₂, _∙_}
+use mathlib.Core.Path.{_≡_, refl, sym, ap, ap₂, subst, _∙_}
 use native.Mathlib.Decide.{ℕ-discrete}
 use native.Mathlib.Omega.{arith}
 use Rattle.laws.specs.Choose.{pick}
 use Rattle.laws.specs.Parts.{part}
-use Rattle.protocol.specs.ByType.{FlagRule, bitOf, fieldsTold, headerLength, ownTold}
+use Rattle.protocol.specs.ByType.{FlagRule, bitOf, column, fieldsTold, headerLength, ownTold}
 use Rattle.protocol.specs.Flags.{hasFlag}
 use Rattle.protocol.specs.InWords.{ReadSaysItsBytes, ReadTellsItsBytes, Told, connidPlace, cqEnd, flagged, flagsIn, headIn, rawEnd, typeIn, valuesTold}
+use Rattle.protocol.specs.Layout.{multiuse, placeOf}
 use Rattle.protocol.specs.Options.{connidIn, cqDataIn}
 use Rattle.protocol.specs.Reading.{headerIn, packetIn}
 use Rattle.protocol.specs.Optional.{Section, connid, cq-data, flagOf, isAmong, options, raw-address}
@@ -31,7 +32,7 @@ use Rattle.protocol.specs.declared.types.CqData.{CqData}
 use Rattle.protocol.specs.declared.types.Fields.{Fields}
 use Rattle.protocol.specs.declared.types.Packet.{Packet}
 use Rattle.wire.specs.LittleEndian.{leAt}
-use Rattle.laws.proofs.Choosing.{pick-false, pick-true}
+use Rattle.laws.proofs.Choosing.{pick-false, pick-true, tested}
 use Rattle.laws.proofs.Storing.{length-part, part-rest}
 use Rattle.protocol.proofs.Accepted.{ReadAs, as-read, dataFrom, packetOf}
 use Rattle.protocol.proofs.FlagWords.{flagged-by-flag, flags-in-words}
@@ -39,7 +40,7 @@ use Rattle.protocol.proofs.OrderHolds.{row-head}
 use Rattle.protocol.proofs.RowLaws.{after-no-array}
 use Rattle.protocol.proofs.Sayings.{read-gives}
 use Rattle.protocol.proofs.Served.{any-read}
-use Rattle.protocol.proofs.TableRule.{by-row, no-array, row-kind}
+use Rattle.protocol.proofs.TableRule.{no-array, row-kind, rows-say}
 use Rattle.protocol.proofs.TypeWords.{fields-in-words, header-in-words, own-in-words, shape-in-words, tagged-in-words}
 
 -- a flag that is set, and one that is not
@@ -49,20 +50,39 @@ set f i a b e = pick-true a b (eq-eqb (bitOf f i) 1 e)
 clear : (f i : ℕ) {A : Type 0} (a b : A) → bitOf f i ≡ 0 → pick (eqb (bitOf f i) 1) a b ≡ b
 clear f i a b e = pick-false a b (ne-eqb (bitOf f i) 1 (λ x. omega arith))
 
--- the connid's place by the row, and by the type number: CTSDATA has no raw address and no CQ data before it
+-- CTSDATA has no raw address and no CQ data before its connid
+ctsdata-end : (f : ℕ) (bs : List ℕ) → FlagRule 4 f → cqEnd 4 f bs ≡ 24
+unfolding pick
+ctsdata-end f bs w =
+    let a : flagged f 0 (4 + leAt 4 bs 24) ≡ 0 = clear f 0 _ 0 (w .0 (inr refl) 0 (λ x. omega arith)) in
+    let b : flagged f 1 8 ≡ 0 = clear f 1 _ 0 (w .0 (inr refl) 1 (λ x. omega arith)) in
+    omega arith
+
+-- the connid's place by the row, and by the type number
 connid-placed : (f : ℕ) (bs : List ℕ) (k : ℕ) (r : TypeRow) → rowOf k ≡ Row r → FlagRule k f → connidAt r (cqEnd k f bs) ≡ connidPlace k f bs
 unfolding connidAt pick
-connid-placed f bs =
-    by-row (λ k r. FlagRule k f → connidAt r (cqEnd k f bs) ≡ connidPlace k f bs) (λ w. refl) ctsdata (λ w. refl) (λ w. refl) (λ w. refl)
-    (λ w. refl)
-    (λ w. refl)
-    (λ w. refl)
+connid-placed f bs k r e w = rw multiuse-at (⊎-elim cts (λ x. ⊎-elim (ctsdata x) (other x) (tested (eqb 4 k))) (tested (eqb 3 k)))
   where
-    ctsdata : FlagRule 4 f → cqEnd 4 f bs ≡ 24
-    ctsdata w =
-        let a : flagged f 0 (4 + leAt 4 bs 24) ≡ 0 = clear f 0 _ 0 (w .0 (inr refl) 0 (λ x. omega arith)) in
-        let b : flagged f 1 8 ≡ 0 = clear f 1 _ 0 (w .0 (inr refl) 1 (λ x. omega arith)) in
-        omega arith
+    -- of the types, CTS alone has a multiuse
+    multiuse-at : placeOf r multiuse ≡ column 0 ((3, 4) ∷ []) k
+    multiuse-at = rows-say (λ k r. placeOf r multiuse) (column 0 ((3, 4) ∷ [])) refl k r e
+
+    Placed : Type 0
+    Placed = pick (eqb (column 0 ((3, 4) ∷ []) k) 0) (cqEnd k f bs) (column 0 ((3, 4) ∷ []) k) ≡ connidPlace k f bs
+
+    cts : eqb 3 k ≡ true → Placed
+    cts x = rw x
+
+    other : eqb 3 k ≡ false → eqb 4 k ≡ false → Placed
+    other x y = ap (λ (m : ℕ). pick (eqb m 0) (cqEnd k f bs) m) (pick-false _ _ x) ∙ sym (pick-false _ _ x ∙ pick-false _ _ y)
+
+    ctsdata : eqb 3 k ≡ false → eqb 4 k ≡ true → Placed
+    ctsdata x y =
+        let c : k ≡ 4 = sym (eqb-true 4 k y) in
+        ap (λ (m : ℕ). pick (eqb m 0) (cqEnd k f bs) m) (pick-false _ _ x)
+        ∙ ap (λ (m : ℕ). cqEnd m f bs) c
+        ∙ ctsdata-end f bs (subst (λ (m : ℕ). FlagRule m f) c w)
+        ∙ sym (pick-false _ _ x ∙ pick-true _ _ y)
 
 module _ (limit : ℕ) (bs : List ℕ) (p : Packet) (r : TypeRow) (a : ReadAs limit bs r) (q : p ≡ packetOf r (flagsIn bs) bs) where
   abbrev k : ℕ

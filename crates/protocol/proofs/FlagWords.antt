@@ -2,23 +2,26 @@
 use Prim.Native.Nat.{ℕ, suc, _-_, _^_, _≤_, _<_, min}
 use borrow.Author.Tests.{leb-true, eqb-true, eq-eqb, ne-eqb}
 use lib.Bits.{bitAnd}
-use lib.Dec.{leb, eqb, lit<, lit≤}
+use lib.Dec.{leb, eqb, lit<}
 use mathlib.Core.Bool.{true, false, _||_, false≢true, true≢false}
-use mathlib.Core.Logic.{_⊎_, _↔_, inl, inr, ⊎-elim}
+use mathlib.Core.Logic.{_⊎_, _↔_, inl, inr, ⊎-elim, ⊎-map}
 use mathlib.Core.Path.{_≡_, refl, sym, ap, _∙_}
 use native.Mathlib.Decide.{decLt, ℕ-discrete}
 use native.Mathlib.Omega.{arith}
+use Rattle.laws.specs.Choose.{pick}
 use Rattle.protocol.specs.ByType.{CtsFlags, CtsOrData, FlagRule, Rtm, RtmFlags, Tagged, bitOf}
 use Rattle.protocol.specs.Flags.{flagsFit, hasFlag}
 use Rattle.protocol.specs.Optional.{Section, array, connid, cq-data, flagOf, flagged, isAmong, options, raw-address}
+use Rattle.protocol.specs.InWords.{TypesAreTheTables}
 use Rattle.protocol.specs.Rules.{Sound}
-use Rattle.protocol.specs.Types.{rowOf}
+use Rattle.protocol.specs.Types.{admit, rowOf}
 use Rattle.protocol.specs.declared.table.Found.the-variants.{Row}
 use Rattle.protocol.specs.declared.table.TypeRow.{TypeRow}
-use Rattle.laws.proofs.Choosing.{or-cases, tested}
+use Rattle.laws.proofs.Choosing.{clashing, or-cases, or-left, or-right, pick-false, pick-true, tested}
 use Rattle.protocol.proofs.BitWords.{allBelow, bitOf-past, bitOf-without, each-below, same-bits}
-use Rattle.protocol.proofs.TableRule.{by-row, sound}
+use Rattle.protocol.proofs.TableRule.{rows-say, sound}
 use Rattle.protocol.proofs.TypeWords.{request-in-words}
+use Rattle.protocol.proofs.WordsHold.{types-are-the-tables}
 
 -- "must have .., may have .., and no other": each flag that the type may not have is set exactly if it must have it
 abbrev ByBits : ℕ → ℕ → ℕ → Type 0
@@ -132,24 +135,41 @@ is-tagged k (inr (inr e)) = rw e
 not-tagged : (k : ℕ) → (eqb k 65 || (eqb k 67 || eqb k 69)) ≡ false → Tagged k → ⊥
 not-tagged k e t = true≢false (sym (is-tagged k t) ∙ e)
 
--- the rule of each row
-rule-by-bits : (f k : ℕ) (r : TypeRow) → rowOf k ≡ Row r → ByBits (r .must) (r .may) f ↔ FlagRule k f
-rule-by-bits f =
-    by-row (λ k r. ByBits (r .must) (r .may) f ↔ FlagRule k f)
-    (through (cts-words f) (cts-rule 3 f (inl refl)))
-    (through (cts-words f) (cts-rule 4 f (inr refl)))
-    (plain 64 (lit≤ tt, lit≤ tt) refl)
-    (tagged 65 (lit≤ tt, lit≤ tt) (inl refl))
-    (plain 66 (lit≤ tt, lit≤ tt) refl)
-    (tagged 67 (lit≤ tt, lit≤ tt) (inr (inl refl)))
-    (plain 68 (lit≤ tt, lit≤ tt) refl)
-    (tagged 69 (lit≤ tt, lit≤ tt) (inr (inr refl)))
-  where
-    plain : (k : ℕ) → Rtm k → (eqb k 65 || (eqb k 67 || eqb k 69)) ≡ false → ByBits 0x4 0x8003 f ↔ FlagRule k f
-    plain k l e = through (plain-words k f (not-tagged k e)) (rtm-rule k f l)
+-- the rule of each row, by what 01 says of its type
+module _ (f k : ℕ) (r : TypeRow) (e : rowOf k ≡ Row r) where
+  must-told : r .must ≡ pick (eqb k 3 || eqb k 4) 0x0 (pick (eqb k 65 || (eqb k 67 || eqb k 69)) 0xc 0x4)
+  unfolding pick
+  must-told = rows-say (λ k r. r .must) (λ k. pick (eqb k 3 || eqb k 4) 0x0 (pick (eqb k 65 || (eqb k 67 || eqb k 69)) 0xc 0x4)) refl k r e
 
-    tagged : (k : ℕ) → Rtm k → Tagged k → ByBits 0xc 0x8003 f ↔ FlagRule k f
-    tagged k l t = through (tagged-words k f t) (rtm-rule k f l)
+  may-told : r .may ≡ pick (eqb k 3 || eqb k 4) 0x8000 0x8003
+  unfolding pick
+  may-told = rows-say (λ k r. r .may) (λ k. pick (eqb k 3 || eqb k 4) 0x8000 0x8003) refl k r e
+
+  by-flags : (must may : ℕ) → r .must ≡ must → r .may ≡ may → ByBits must may f ↔ FlagRule k f → ByBits (r .must) (r .may) f ↔ FlagRule k f
+  by-flags must may a b w = rw (a, b) w
+
+  rtm : (eqb k 3 || eqb k 4) ≡ false → Rtm k
+  unfolding TypesAreTheTables admit pick
+  rtm x =
+      let n = or-left (eqb k 3) (eqb k 4) x in
+      let m = or-right (eqb k 3) (eqb k 4) x in
+      ⊎-elim (λ y. clashing _ (eq-eqb k 3 (y .0)) n) (⊎-elim (λ y. clashing _ (eq-eqb k 4 y) m) (λ l. l))
+      (types-are-the-tables true k .0 (r, ap (admit true) e))
+
+  rule-by-bits : ByBits (r .must) (r .may) f ↔ FlagRule k f
+  rule-by-bits =
+      ⊎-elim (λ x.
+      by-flags 0x0 0x8000 (must-told ∙ pick-true _ _ x) (may-told ∙ pick-true _ _ x)
+      (through (cts-words f) (cts-rule k f (⊎-map (eqb-true k 3) (eqb-true k 4) (or-cases (eqb k 3) (eqb k 4) x)))))
+      (λ x.
+      let may = may-told ∙ pick-false _ _ x in
+      ⊎-elim (λ y.
+      let t : Tagged k = ⊎-map (eqb-true k 65) (λ z. ⊎-map (eqb-true k 67) (eqb-true k 69) (or-cases _ _ z)) (or-cases _ _ y) in
+      by-flags 0xc 0x8003 (must-told ∙ pick-false _ _ x ∙ pick-true _ _ y) may (through (tagged-words k f t) (rtm-rule k f (rtm x))))
+      (λ y.
+      by-flags 0x4 0x8003 (must-told ∙ pick-false _ _ x ∙ pick-false _ _ y) may (through (plain-words k f (not-tagged k y)) (rtm-rule k f (rtm x))))
+      (tested (eqb k 65 || (eqb k 67 || eqb k 69))))
+      (tested (eqb k 3 || eqb k 4))
 
 pub flags-in-words : (k : ℕ) (r : TypeRow) (f : ℕ) → rowOf k ≡ Row r → (flagsFit r f ≡ true) ↔ FlagRule k f
 flags-in-words k r f e = through (bit-by-bit r f (sound k r e)) (rule-by-bits f k r e)

@@ -13,9 +13,8 @@ use Rattle.laws.specs.Choose.{pick}
 use Rattle.protocol.specs.Layout.{Field, count, credit-request, distinct, fields, layout, lengthPlace, msg-id, msg-length, multiuse, ordinal, padding, placeIn, placeOf, recv-id, recv-length, seg-length, seg-offset, send-id, tag, width, widths}
 use Rattle.protocol.specs.Optional.{flagSum, flagsTaken, options, sectionsOf}
 use Rattle.protocol.specs.Rules.{ConnidPlace, Sound}
-use Rattle.protocol.specs.Types.{row, rowIn, rowOf, rows}
+use Rattle.protocol.specs.Types.{rowIn, rowOf, rows}
 use Rattle.protocol.specs.declared.table.Found.the-variants.{Row}
-use Rattle.protocol.specs.declared.table.Shape.the-variants.{Cts}
 use Rattle.protocol.specs.declared.table.TypeRow.{TypeRow}
 use Rattle.laws.proofs.Choosing.{all-true, allTrue, and-left, and-right, clashing, or-cases, pick-cases}
 
@@ -67,23 +66,6 @@ pub rows-say : {A : Type 0} (says : ℕ → TypeRow → A) (told : ℕ → A)
     → (k : ℕ) (r : TypeRow) → rowOf k ≡ Row r → says k r ≡ told k
 unfolding rowOf
 rows-say says told same k r e = each-in (λ k r. says k r ≡ told k) rows (each-same says told rows same) k r e
-
--- the rows in their order
-abbrev pub rowAt : ℕ → TypeRow
-rowAt i = getD rows i (row 0 Cts 0 0 0 0 false false false 0 0)
-
-pub by-row : (P : ℕ → TypeRow → Type 0)
-    → P 3 (rowAt 0)
-    → P 4 (rowAt 1)
-    → P 64 (rowAt 2)
-    → P 65 (rowAt 3)
-    → P 66 (rowAt 4)
-    → P 67 (rowAt 5)
-    → P 68 (rowAt 6)
-    → P 69 (rowAt 7)
-    → (k : ℕ) (r : TypeRow) → rowOf k ≡ Row r → P k r
-unfolding rowOf
-by-row P a b c d e f g h k r x = each-in P rows (a, (b, (c, (d, (e, (f, (g, (h, tt)))))))) k r x
 
 -- a test that every field passes
 every-field : (test : Field → Bool) → allTrue (map test fields) ≡ true → (f : Field) → test f ≡ true

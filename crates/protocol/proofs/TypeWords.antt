@@ -1,12 +1,12 @@
 -- What a row of the table says of its type is what 01's columns say of the type number: header lengths, the place of the length, fields by their
 -- bytes, and the rule on lengths, as specs/ByType.antt writes them out.
 use Prim.Native.Nat.{ℕ, _+_, _≤_}
-use borrow.Author.Tests.{eq-eqb, eqb-true, not-false}
+use borrow.Author.Tests.{eqb-true, not-false}
 use lib.Dec.{eqb}
-use mathlib.Core.Bool.{true, false, not, _||_}
+use mathlib.Core.Bool.{Bool, true, false, not, _||_}
 use mathlib.Core.List.{List, [], _∷_, map}
 use mathlib.Core.Logic.{_⊎_, _↔_, inl, inr, ⊎-elim, ⊎-map}
-use mathlib.Core.Path.{_≡_, refl, sym, ap, _∙_}
+use mathlib.Core.Path.{_≡_, refl, sym, ap, _∙_, subst}
 use native.Mathlib.Omega.{arith}
 use Rattle.laws.specs.Choose.{pick}
 use Rattle.protocol.specs.ByType.{CtsOrData, FlagRule, Known, LengthRule, connidHeader, fieldsTold, headerLength, lengthAt, ownTold, shapeTold, taggedTold}
@@ -20,10 +20,10 @@ use Rattle.protocol.specs.declared.table.Shape.{Shape}
 use Rattle.protocol.specs.declared.table.Shape.the-variants.{Cts, CtsData, Eager, LongCts, Medium}
 use Rattle.protocol.specs.declared.table.TypeRow.{TypeRow}
 use Rattle.protocol.specs.declared.types.Fields.{Fields}
-use Rattle.laws.proofs.Choosing.{allTrue, clashing, or-cases}
+use Rattle.laws.proofs.Choosing.{allTrue, or-cases}
 use Rattle.laws.proofs.Comparing.{both-tests, eq-words, le-words}
 use Rattle.protocol.proofs.LayoutLaws.{map-among}
-use Rattle.protocol.proofs.TableRule.{by-row, row-passes, rows-say}
+use Rattle.protocol.proofs.TableRule.{row-kind, row-passes, rows-say}
 use Rattle.protocol.proofs.WordsHold.{types-are-the-tables}
 
 pub header-in-words : (k : ℕ) (r : TypeRow) → rowOf k ≡ Row r → r .header ≡ headerLength k
@@ -107,58 +107,41 @@ shape-rule Eager v n = (λ e. tt, λ u. refl)
 shape-rule Medium v n = both-tests (le-words 1 n) (le-words (v .«seg_offset» + n) (v .«msg_length»))
 shape-rule LongCts v n = both-tests (le-words 1 n) (le-words n (v .«msg_length»))
 
--- two type numbers that differ, by a test that computes
-other : {C : Type 0} (k a : ℕ) → eqb k a ≡ false → k ≡ a → C
-other k a t e = clashing (eqb k a) (eq-eqb k a e) t
+-- the types of a shape that has a rule
+abbrev numbered : Shape → ℕ → Bool
+numbered Cts k = eqb k 3
+numbered CtsData k = eqb k 4
+numbered Eager k = true
+numbered Medium k = eqb k 66 || eqb k 67
+numbered LongCts k = eqb k 68 || eqb k 69
 
-neither : {C : Type 0} (k a b : ℕ) → eqb k a ≡ false → eqb k b ≡ false → (k ≡ a) ⊎ (k ≡ b) → C
-neither k a b s t = ⊎-elim (other k a s) (other k b t)
+either : (k a b : ℕ) → (eqb k a || eqb k b) ≡ true → (k ≡ a) ⊎ (k ≡ b)
+either k a b t = ⊎-map (eqb-true k a) (eqb-true k b) (or-cases (eqb k a) (eqb k b) t)
 
 -- the rule by the type's number
 module _ (v : Fields) (n : ℕ) where
-  cts-lengths : ShapeRule Cts v n ↔ LengthRule 3 v n
-  cts-lengths = (
-    λ x. record { cts = λ e. x; ctsdata = other 3 4 refl; medium = neither 3 66 67 refl refl; long = neither 3 68 69 refl refl },
-    λ w. w .cts refl,
-  )
-
-  ctsdata-lengths : ShapeRule CtsData v n ↔ LengthRule 4 v n
-  ctsdata-lengths = (
-    λ x. record { cts = other 4 3 refl; ctsdata = λ e. x; medium = neither 4 66 67 refl refl; long = neither 4 68 69 refl refl },
-    λ w. w .ctsdata refl,
-  )
-
-  -- the types that are none of some
-  abbrev Not : ℕ → ℕ → ℕ → Type 0
-  Not k a b = (eqb k a ≡ false) × (eqb k b ≡ false)
-
-  eager-lengths : (k : ℕ) → Not k 3 4 → Not k 66 67 → Not k 68 69 → ShapeRule Eager v n ↔ LengthRule k v n
-  eager-lengths k a b c = (
-    λ x. record { cts = other k 3 (a .0); ctsdata = other k 4 (a .1); medium = neither k 66 67 (b .0) (b .1); long = neither k 68 69 (c .0) (c .1) },
-    λ w. tt,
-  )
-
-  medium-lengths : (k : ℕ) → Not k 3 4 → (k ≡ 66) ⊎ (k ≡ 67) → Not k 68 69 → ShapeRule Medium v n ↔ LengthRule k v n
-  medium-lengths k a b c = (
-    λ x. record { cts = other k 3 (a .0); ctsdata = other k 4 (a .1); medium = λ e. x; long = neither k 68 69 (c .0) (c .1) },
-    λ w. w .medium b,
-  )
-
-  long-lengths : (k : ℕ) → Not k 3 4 → Not k 66 67 → (k ≡ 68) ⊎ (k ≡ 69) → ShapeRule LongCts v n ↔ LengthRule k v n
-  long-lengths k a b c = (
-    λ x. record { cts = other k 3 (a .0); ctsdata = other k 4 (a .1); medium = neither k 66 67 (b .0) (b .1); long = λ e. x },
-    λ w. w .long c,
-  )
+  shaped : (k : ℕ) (s : Shape) → numbered s k ≡ true → LengthRule k v n → ShapeRule s v n
+  shaped k Cts t w = w .cts (eqb-true k 3 t)
+  shaped k CtsData t w = w .ctsdata (eqb-true k 4 t)
+  shaped k Eager t w = tt
+  shaped k Medium t w = w .medium (either k 66 67 t)
+  shaped k LongCts t w = w .long (either k 68 69 t)
 
   type-lengths : (k : ℕ) (r : TypeRow) → rowOf k ≡ Row r → ShapeRule (r .shape) v n ↔ LengthRule k v n
-  type-lengths =
-      by-row (λ k r. ShapeRule (r .shape) v n ↔ LengthRule k v n) cts-lengths ctsdata-lengths
-      (eager-lengths 64 (refl, refl) (refl, refl) (refl, refl))
-      (eager-lengths 65 (refl, refl) (refl, refl) (refl, refl))
-      (medium-lengths 66 (refl, refl) (inl refl) (refl, refl))
-      (medium-lengths 67 (refl, refl) (inr refl) (refl, refl))
-      (long-lengths 68 (refl, refl) (refl, refl) (inl refl))
-      (long-lengths 69 (refl, refl) (refl, refl) (inr refl))
+  unfolding pick
+  type-lengths k r e = (
+    λ x. record {
+      cts = λ y. told 3 x y;
+      ctsdata = λ y. told 4 x y;
+      medium = ⊎-elim (told 66 x) (told 67 x);
+      long = ⊎-elim (told 68 x) (told 69 x);
+    },
+    shaped k (r .shape) (ap (numbered (r .shape)) (sym (row-kind k r e)) ∙ row-passes (λ q. numbered (q .shape) (q .kind)) refl k r e),
+  )
+    where
+      -- what the shape of type a says, where k is that type
+      told : (a : ℕ) → ShapeRule (r .shape) v n → k ≡ a → ShapeRule (shapeTold a) v n
+      told a x y = subst (λ (s : Shape). ShapeRule s v n) (shape-in-words k r e ∙ ap shapeTold y) x
 
   pub lengths-in-words : (k : ℕ) (r : TypeRow) → rowOf k ≡ Row r → (lengthsFit (r .shape) v n ≡ true) ↔ LengthRule k v n
   lengths-in-words k r e =

@@ -1,7 +1,7 @@
 -- A packet that was read is written again: each section's bytes are the packet's own, and the blank ones zero.
 use Prim.Native.Nat.{ℕ, _+_, _-_, _≤_, _<_}
-use borrow.Author.Tests.{eq-eqb, ne-eqb}
-use lib.Dec.{lit<}
+use borrow.Author.Tests.{eq-eqb, eqb-true, ne-eqb}
+use lib.Dec.{eqb, lit<}
 use lib.ListN.{length, getD, drop, replicate, length-replicate, take-append-drop}
 use mathlib.Core.Bool.{Bool, true, false, not}
 use mathlib.Core.List.{List, [], _∷_, _++_, append-assoc}
@@ -40,9 +40,10 @@ use Rattle.protocol.proofs.FlagLaws.{flags-again, options-again}
 use Rattle.protocol.proofs.KeptFields.{NumbersKept, fields-again, isBlank, length-zeroed-fields, zeroedFields}
 use Rattle.protocol.proofs.LayoutLaws.{has-place}
 use Rattle.protocol.proofs.OptionLaws.{cq-data-again, has-connid, has-cq-data, raw-again}
-use Rattle.protocol.proofs.RowLaws.{connid-after, connid-within, number-here, number-placed}
+use Rattle.protocol.proofs.RowLaws.{after-no-array, connid-after, connid-within, number-here, number-placed}
 use Rattle.protocol.proofs.StepLaws.{packet-in-steps}
-use Rattle.protocol.proofs.TableRule.{by-row, no-array, row-kind, rowAt, sound}
+use Rattle.protocol.proofs.TableRule.{no-array, row-kind, rows-say, sound}
+use Rattle.protocol.proofs.TypeWords.{connid-in-words, header-in-words, request-in-words}
 use Rattle.wire.proofs.Laws.{bytes-again, bytes-again-wide, bytes-none}
 
 -- the padding of a connid behind the other headers
@@ -202,35 +203,45 @@ module _ (bs : List ℕ) (b : (i : ℕ) → getD bs i 0 < 256) (r : TypeRow) (ru
 
 -- by the type's number: CTSDATA has no raw address and no CQ data before its connid
 module _ (f : ℕ) (bs : List ℕ) where
-  padding-at : flagged (rowAt 1) f connid ≡ true → dataFrom (rowAt 1) f bs - 4 ≡ 28
-  unfolding afterRaw afterArray cqDataLength connidLength flagged pick
-  padding-at t = rw t
+  padding-at : (r : TypeRow) → rowOf 4 ≡ Row r → flagged r f connid ≡ true → dataFrom r f bs - 4 ≡ 28
+  unfolding afterRaw cqDataLength connidLength flagged pick
+  padding-at r e t =
+      let q : r .request ≡ false = request-in-words 4 r e .1 (inr refl) in
+      let h : r .header ≡ 24 = header-in-words 4 r e in
+      let c : r .connid ≡ 8 = connid-in-words 4 r e in
+      let a = after-no-array r bs (no-array 4 r e) in
+      rw (a, t, h, c, q)
+
+  -- it alone has padding behind its connid
+  padding-size : (k : ℕ) (r : TypeRow) → rowOf k ≡ Row r → r .connid - 4 ≡ column 0 ((4, 4) ∷ []) k
+  unfolding pick
+  padding-size = rows-say (λ k r. r .connid - 4) (column 0 ((4, 4) ∷ [])) refl
 
   padding-zeroed : (x k : ℕ) (r : TypeRow) → rowOf k ≡ Row r → flagged r f connid ≡ true
       → padded (Connid.Present x) r (packetOf r f bs) bs ≡ column bs ((4, storeAt bs 28 (replicate 4 0)) ∷ []) k
-  unfolding blankOf packetIn pick
-  padding-zeroed x =
-      by-row (λ k r. flagged r f connid ≡ true
-      → padded (Connid.Present x) r (packetOf r f bs) bs ≡ column bs ((4, storeAt bs 28 (replicate 4 0)) ∷ []) k)
-      (λ t. store-nothing bs _)
-      (λ t. ap (λ (m : ℕ). storeAt bs m (replicate 4 0)) (padding-at t))
-      (λ t. store-nothing bs _)
-      (λ t. store-nothing bs _)
-      (λ t. store-nothing bs _)
-      (λ t. store-nothing bs _)
-      (λ t. store-nothing bs _)
-      (λ t. store-nothing bs _)
+  unfolding blankOf packetIn
+  padding-zeroed x k r e t = ⊎-elim there none (tested (eqb 4 k))
+    where
+      there : eqb 4 k ≡ true → padded (Connid.Present x) r (packetOf r f bs) bs ≡ column bs ((4, storeAt bs 28 (replicate 4 0)) ∷ []) k
+      there y =
+          let n : r .connid - 4 ≡ 4 = padding-size k r e ∙ pick-true _ _ y in
+          let at = padding-at r (ap rowOf (eqb-true 4 k y) ∙ e) t in
+          rw (n, at) (sym (pick-true _ _ y))
+
+      none : eqb 4 k ≡ false → padded (Connid.Present x) r (packetOf r f bs) bs ≡ column bs ((4, storeAt bs 28 (replicate 4 0)) ∷ []) k
+      none y =
+          let n : r .connid - 4 ≡ 0 = padding-size k r e ∙ pick-false _ _ y in
+          rw n (store-nothing bs _ ∙ sym (pick-false _ _ y))
 
   -- of the fields, CTS's multiuse alone is blank
   none-zeroed : (l : List ℕ) (k : ℕ) (r : TypeRow) → rowOf k ≡ Row r → zeroedFields true (layout r) 4 l ≡ l
   unfolding layout pick
-  none-zeroed l = by-row (λ k r. zeroedFields true (layout r) 4 l ≡ l) refl refl refl refl refl refl refl refl
+  none-zeroed l = rows-say (λ k r. zeroedFields true (layout r) 4 l) (λ k. l) refl
 
   multiuse-zeroed : (l : List ℕ) (k : ℕ) (r : TypeRow) → rowOf k ≡ Row r
       → zeroedFields false (layout r) 4 l ≡ column l ((3, storeAt l 4 (replicate 4 0)) ∷ []) k
   unfolding layout pick
-  multiuse-zeroed l =
-      by-row (λ k r. zeroedFields false (layout r) 4 l ≡ column l ((3, storeAt l 4 (replicate 4 0)) ∷ []) k) refl refl refl refl refl refl refl refl
+  multiuse-zeroed l = rows-say (λ k r. zeroedFields false (layout r) 4 l) (column l ((3, storeAt l 4 (replicate 4 0)) ∷ [])) refl
 
   module _ (k : ℕ) (r : TypeRow) (e : rowOf k ≡ Row r) where
     zeroed-flagged : flagged r f connid ≡ true → zeroed f r (packetOf r f bs) bs ≡ blankedAs k f bs
