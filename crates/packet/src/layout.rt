@@ -135,15 +135,28 @@ fn write_lengths(row: TypeRow, header: Header, out: &mut [u8])
     put_u64(out, row.places, SEG_OFFSET, fields.seg_offset);
 }
 
-// The other fields: multiuse with the connid, if there is one, padding with zero, and the count.
-fn write_others(row: TypeRow, header: Header, count: u32, out: &mut [u8])
+// Credit request and tag.
+fn write_others(row: TypeRow, header: Header, out: &mut [u8])
     requires { ⌜ Sound row ⌝ }
     requires { ⌜ row .header ≤ length (now out) ⌝ }
-    ensures { λ _. ⌜ now (out .exit) ≡ putFields row count header (credit-request ∷ tag ∷ multiuse ∷ padding ∷ Field.count ∷ []) (now (out .entry)) ⌝ }
+    ensures { λ _. ⌜ now (out .exit) ≡ putFields row 0 header (credit-request ∷ tag ∷ []) (now (out .entry)) ⌝ }
 {
     let fields = header.fields;
     put_u32(out, row.places, CREDIT_REQUEST, fields.credit_request);
     put_u64(out, row.places, TAG, fields.tag);
+}
+
+// The fields that are no values: multiuse with the connid, if there is one, padding with zero, and the
+// count. They have the highest digits of the places, and few types have one: these are done with
+// one test.
+fn write_valueless(row: TypeRow, header: Header, count: u32, out: &mut [u8])
+    requires { ⌜ Sound row ⌝ }
+    requires { ⌜ row .header ≤ length (now out) ⌝ }
+    ensures { λ _. ⌜ now (out .exit) ≡ putFields row count header (multiuse ∷ padding ∷ Field.count ∷ []) (now (out .entry)) ⌝ }
+{
+    if row.places < MULTIUSE {
+        return;
+    }
     let connid = header.connid;
     put_u32(out, row.places, MULTIUSE, options::connid_or_zero(connid));
     put_u32(out, row.places, PADDING, 0);
@@ -158,5 +171,6 @@ pub(crate) fn write(row: TypeRow, header: Header, count: u32, out: &mut [u8])
 {
     write_ids(row, header, out);
     write_lengths(row, header, out);
-    write_others(row, header, count, out);
+    write_others(row, header, out);
+    write_valueless(row, header, count, out);
 }

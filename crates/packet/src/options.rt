@@ -84,7 +84,7 @@ pub(crate) fn write_connid(out: &mut [u8], at: usize, row: TypeRow, connid: Conn
 {
     match connid {
         Connid::Absent => at,
-        Connid::Present(value) => write_number(out, at, row.connid, value),
+        Connid::Present(value) => write_number(out, at, row.connid as usize, value),
     }
 }
 

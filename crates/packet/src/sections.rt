@@ -25,7 +25,7 @@ pub(crate) fn connid_length(row: TypeRow, flags: u16) -> usize
     ensures { λ r. ⌜ r ≡ connidLength row flags ⌝ }
 {
     if flags::has(flags, CONNID) {
-        row.connid
+        row.connid as usize
     } else {
         0
     }
@@ -81,7 +81,7 @@ pub(crate) fn find(row: TypeRow, flags: u16, bytes: &[u8]) -> Extent
     requires { ⌜ Sound row ⌝ }
     ensures { λ r. ⌜ r ≡ extentOf row flags (now (bytes .entry)) ⌝ }
 {
-    let at = row.header;
+    let at = row.header as usize;
     if bytes.len() < at {
         return Extent::Cut;
     }

@@ -43,7 +43,7 @@ fn head_length(row: TypeRow, flags: u16) -> usize
     requires { ⌜ Sound row ⌝ }
     ensures { λ r. ⌜ r ≡ headLength row flags ⌝ }
 {
-    row.header + sections::cq_data_length(row, flags) + sections::connid_length(row, flags)
+    row.header as usize + sections::cq_data_length(row, flags) + sections::connid_length(row, flags)
 }
 
 // The length of a packet with these flags and so many bytes of array and raw address, where they
@@ -120,7 +120,7 @@ fn put(
     ensures { λ _. ⌜ now (out .exit) ≡ storeAt (now (out .entry)) 0 (packetBytes row header (now (array .entry)) (now (raw .entry)) (now («data» .entry))) ⌝ }
 {
     put_mandatory(out, row, header, flags, array.len());
-    let after_header = row.header;
+    let after_header = row.header as usize;
     let after_array = wire::write_bytes(out, after_header, array);
     let after_raw = options::write_raw_address(out, after_array, header.raw_address, raw);
     let cq_data = header.cq_data;

@@ -1,5 +1,5 @@
 -- The fields of a header that are put one by one, in any order, each at its place, are stored as one run of bytes behind the base header.
-use Prim.Native.Nat.{ℕ, _+_, _≤_, _<_}
+use Prim.Native.Nat.{ℕ, _+_, _^_, _≤_, _<_}
 use borrow.Author.Tests.{eq-eqb, ne-eqb, not-true}
 use lib.Dec.{lit<}
 use lib.ListN.{length, length-append}
@@ -7,11 +7,12 @@ use mathlib.Core.Bool.{Bool, true, false, not, _||_, true≢false}
 use mathlib.Core.List.{List, [], _∷_, _++_}
 use mathlib.Core.Logic.{⊎-elim}
 use mathlib.Core.Path.{_≡_, refl, sym, ap, ap₂, _∙_}
+use native.Mathlib.Nat.{div-eq-of-lt}
 use native.Mathlib.Omega.{arith}
 use Rattle.laws.specs.Choose.{pick}
 use Rattle.laws.specs.Parts.{part, storeAt}
 use Rattle.protocol.specs.FieldNumbers.{fieldBytes, numberOf, putFields, putThere}
-use Rattle.protocol.specs.Layout.{Field, count, credit-request, distinct, fields, has, layout, msg-id, msg-length, multiuse, ordinal, padding, placeIn, recv-id, recv-length, sameField, seg-length, seg-offset, send-id, tag, width, widths}
+use Rattle.protocol.specs.Layout.{Field, count, credit-request, distinct, fields, has, layout, msg-id, msg-length, multiuse, ordinal, padding, placeIn, placeOf, recv-id, recv-length, sameField, seg-length, seg-offset, send-id, tag, width, widths}
 use Rattle.protocol.specs.Rules.{Sound}
 use Rattle.protocol.specs.declared.table.TypeRow.{TypeRow}
 use Rattle.protocol.specs.declared.types.Header.{Header}
@@ -129,3 +130,8 @@ module _ (told : ℕ) (h : Header) (o : List ℕ) where
       ap (putFields r told h fields) (sym start)
       ∙ puts-placed r s k fields []
       ∙ ap (storeAt o 4) (all-put (done fields []) (layout r) 4 every-done)
+
+-- a field whose digit, and all digits above, are 0 is put nowhere
+pub not-put : (r : TypeRow) (f : Field) (x : ℕ) (bs : List ℕ) → r .places < 16 ^ ordinal f → putThere (placeOf r f) (width f) x bs ≡ bs
+unfolding putThere
+not-put r f x bs h = let none : placeOf r f ≡ 0 = rw (div-eq-of-lt h) in rw none (pick-true bs _ refl)

@@ -20,20 +20,20 @@ pub struct TypeRow {
     pub must: u16,
     pub may: u16,
     // bytes of the mandatory header
-    pub header: usize,
-    // where its fields stand: 4 bits a field, in words of 4 bytes; 0: the type has no such field
-    pub places: u64,
+    pub header: u8,
     // bytes that the connid takes after the other optional headers, with its padding
-    pub connid: usize,
-    // whether raw address (flag 0x1) and CQ data (flag 0x2) may follow; last, since a byte before the
-    // flags leaves a gap behind them, over which the reader would load: 5 ns a packet
-    pub request: bool,
+    pub connid: u8,
     // where its length stands, of the message, the segment or the grant; 0: the type has none
     pub length_at: u8,
+    // whether raw address (flag 0x1) and CQ data (flag 0x2) may follow
+    pub request: bool,
     // a counted array behind the fixed fields: bytes of a member, 0: the type has none; and how many
     // members fewer than its count says there are
     pub unit: u8,
     pub less: u8,
+    // where its fields stand: 4 bits a field, in words of 4 bytes; 0: the type has no such field.
+    // Last, and small numbers as bytes: a row is 24 bytes, which reader and writer copy
+    pub places: u64,
 }
 
 pub enum Found {

@@ -14,20 +14,24 @@ write-lengths-requires c κs = search needs
 write-others-requires : tie.Need-write-others-requires
 write-others-requires c κs = search needs
 
+write-valueless-requires : tie.Need-write-valueless-requires
+write-valueless-requires c κs = search needs
+
 same-length : tie.Need-same-length
 same-length c = search needs
 
 returns : tie.Need-returns
 unfolding pick
 returns c =
-    let w3 = c .before .before in
+    let w4 = c .before .before in
+    let w3 = w4 .before .before .before .before in
     let w2 = w3 .before .before .before .before in
     let w1 = w2 .before .before .before .before in
     let s = w1 .before .before .before in
-    rw (w3 .write-others .ensures, w2 .write-lengths .ensures, w1 .write-ids .ensures)
+    rw (w4 .write-valueless .ensures, w3 .write-others .ensures, w2 .write-lengths .ensures, w1 .write-ids .ensures)
     (fields-put (s .args .count) (s .args .header) (s .args .out .now) (s .args .row) (s .pre .0) (s .pre .1))
 
 pub write-spec : {M : Type 1} → statement M
 write-spec =
     tie.close
-    (tie.spec write-ids-requires write-lengths-requires write-others-requires same-length returns)
+    (tie.spec write-ids-requires write-lengths-requires write-others-requires write-valueless-requires same-length returns)

@@ -14,11 +14,14 @@ enum-told c = search needs
 enum-known-connid : tie.Need-enum-known-connid
 enum-known-connid c = search needs
 
+cast-write-number : tie.Need-cast-write-number
+cast-write-number c = search needs
+
 write-number-requires : tie.Need-write-number-requires
 unfolding connidBytes
 write-number-requires c κs =
-    let p = c .before .before .before .before .before .pre in
-    (p .0 .connid, rw (c .before .before .connid .given .1, length-le) at (p .1))
+    let p = c .before .before .before .before .before .before .pre in
+    (p .0 .connid, rw (c .before .before .before .connid .given .1, length-le) at (p .1))
 
 returns : tie.Need-returns
 unfolding connidBytes
@@ -29,9 +32,9 @@ same-length c = search needs
 
 returns-2 : tie.Need-returns-2
 unfolding connidBytes
-returns-2 c = rw (c .before .before .before .before .before .connid .given .1, length-le) (c .before .before .write-number .ensures)
+returns-2 c = rw (c .before .before .before .before .before .before .connid .given .1, length-le) (c .before .before .write-number .ensures)
 
 pub write-connid-spec : {M : Type 1} → statement M
 write-connid-spec =
     tie.close
-    (tie.spec enum-told enum-known-connid write-number-requires returns same-length returns-2)
+    (tie.spec enum-told enum-known-connid cast-write-number write-number-requires returns same-length returns-2)

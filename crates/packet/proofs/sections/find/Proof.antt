@@ -18,23 +18,26 @@ use Rattle.packet.proofs.sections.find.Tie as tie
 array-short : (c : tie.After-length) → c .length .result < 2 ^ 40
 array-short c =
     let n = c .before in
-    let s = n .before .before .before .before .before in
+    let s = n .before .before .before .before .before .before in
     let l : n .count .result < 2 ^ 32 = omega arith in
     rw (c .length .ensures) (array-small (s .args .row) (n .count .result) (s .pre) l)
+
+cast-at : tie.Need-cast-at
+cast-at c = search needs
 
 returns : tie.Need-returns
 unfolding sectionsBehind afterArray
 returns c =
-    let a = c .before .before .args in
+    let a = c .before .before .before .args in
     sym (extent-in-steps (a .row) (a .flags) (a .bytes .now) ∙ cut-before _ _ _ _ _ _ (omega arith))
 
 behind-requires : tie.Need-behind-requires
-behind-requires c κs = let s = c .before .before .before .before in (s .pre, omega (arith, header-bounds (s .args .row) (s .pre)))
+behind-requires c κs = let s = c .before .before .before .before .before in (s .pre, omega (arith, header-bounds (s .args .row) (s .pre)))
 
 returns-2 : tie.Need-returns-2
 unfolding arraySpan pick
 returns-2 c =
-    let a = c .before .before .before .before .before .args in
+    let a = c .before .before .before .before .before .before .args in
     rw (c .behind .ensures, extent-in-steps (a .row) (a .flags) (a .bytes .now), after-no-array (a .row) (a .bytes .now) (c .before .if2 .taken), eq-eqb _ _ (c .before .if2 .taken))
 
 count-requires : tie.Need-count-requires
@@ -44,20 +47,20 @@ length-requires : tie.Need-length-requires
 length-requires c κs = search needs
 
 add-behind : tie.Need-add-behind
-add-behind c = let s = c .before .before .before .before .before .before in omega (arith, header-bounds (s .args .row) (s .pre), array-short c)
+add-behind c = let s = c .before .before .before .before .before .before .before in omega (arith, header-bounds (s .args .row) (s .pre), array-short c)
 
 behind-requires-2 : tie.Need-behind-requires-2
 behind-requires-2 c κs =
-    let s = c .before .before .before .before .before .before in
+    let s = c .before .before .before .before .before .before .before in
     (s .pre, omega (arith, header-bounds (s .args .row) (s .pre), array-short c))
 
 returns-3 : tie.Need-returns-3
 unfolding afterArray arraySpan pick
 returns-3 c =
     let n = c .before .before in
-    let a = n .before .before .before .before .before .args in
+    let a = n .before .before .before .before .before .before .args in
     let e = ne-eqb _ _ (n .before .if2 .left) in
     rw (c .behind2 .ensures, c .before .length .ensures, n .count .ensures, extent-in-steps (a .row) (a .flags) (a .bytes .now), e)
 
 pub find-spec : {M : Type 1} → statement M
-find-spec = tie.close (tie.spec returns behind-requires returns-2 count-requires length-requires add-behind behind-requires-2 returns-3)
+find-spec = tie.close (tie.spec cast-at returns behind-requires returns-2 count-requires length-requires add-behind behind-requires-2 returns-3)

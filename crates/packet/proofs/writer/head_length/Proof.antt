@@ -6,6 +6,9 @@ use Rattle.protocol.proofs.WritingLaws.{head-small}
 use Rattle.packet.proofs.writer.head_length.Statement.{statement}
 use Rattle.packet.proofs.writer.head_length.Tie as tie
 
+cast-result : tie.Need-cast-result
+cast-result c = search needs
+
 cq-data-length-requires : tie.Need-cq-data-length-requires
 cq-data-length-requires c κs = search needs
 
@@ -26,9 +29,9 @@ add-result-2 c =
 
 returns : tie.Need-returns
 unfolding headLength
-returns c = rw (c .connid-length .ensures, c .before .before .cq-data-length .ensures)
+returns c = rw (c .connid-length .ensures, c .before .cq-data-length .ensures)
 
 pub head-length-spec : {M : Type 1} → statement M
 head-length-spec =
     tie.close
-    (tie.spec cq-data-length-requires add-result connid-length-requires add-result-2 returns)
+    (tie.spec cast-result cq-data-length-requires add-result connid-length-requires add-result-2 returns)

@@ -38,26 +38,29 @@ put-mandatory-requires c κs =
     let s = c .before .before .before .before .before in
     (s .pre .0, (omega (arith, room s), (s .pre .1 .0, short s)))
 
+cast-after-header : tie.Need-cast-after-header
+cast-after-header c = search needs
+
 write-bytes-requires : tie.Need-write-bytes-requires
-write-bytes-requires c κs = omega (arith, room (c .before .before .before .before .before .before .before .before .before))
+write-bytes-requires c κs = omega (arith, room (c .before .before .before .before .before .before .before .before .before .before))
 
 write-raw-address-requires : tie.Need-write-raw-address-requires
 write-raw-address-requires c κs =
-    let s = c .before .before .before .before .before .before .before .before .before .before .before .before .before in
+    let s = c .before .before .before .before .before .before .before .before .before .before .before .before .before .before in
     let a = s .args in
     let p = s .pre .1 .1 in
     (omega (arith, room s), raw-fits (a .row) (a .header) (a .array .now) (a .raw .now) (a .«data» .now) (s .pre .0) (p .0) (p .1 .0) (p .1 .1 .0))
 
 write-cq-data-requires : tie.Need-write-cq-data-requires
 write-cq-data-requires c κs =
-    omega (arith, room (c .before .before .before .before .before .before .before .before .before .before .before .before .before .before .before .before .before))
+    omega (arith, room (c .before .before .before .before .before .before .before .before .before .before .before .before .before .before .before .before .before .before))
 
 write-connid-requires : tie.Need-write-connid-requires
 write-connid-requires c κs =
     let w4 = c .before .before .before in
     let w3 = w4 .before .before .before .before in
     let w2 = w3 .before .before .before .before in
-    let w1 = w2 .before .before .before .before in
+    let w1 = w2 .before .before .before .before .before in
     let s = w1 .before .before .before .before .before .before in
     (s .pre .0, omega (arith, w4 .write-cq-data, w3 .write-raw-address, w2 .write-bytes, w1 .put-mandatory .kept, room s))
 
@@ -67,7 +70,7 @@ write-bytes-requires-2 c κs =
     let w4 = w5 .before .before .before .before in
     let w3 = w4 .before .before .before .before in
     let w2 = w3 .before .before .before .before in
-    let w1 = w2 .before .before .before .before in
+    let w1 = w2 .before .before .before .before .before in
     omega (arith, w5 .write-connid, w4 .write-cq-data, w3 .write-raw-address, w2 .write-bytes, w1 .put-mandatory .kept, room (w1 .before .before .before .before .before .before))
 
 same-length : tie.Need-same-length
@@ -80,7 +83,7 @@ returns c =
     let w4 = w5 .before .before .before .before in
     let w3 = w4 .before .before .before .before in
     let w2 = w3 .before .before .before .before in
-    let w1 = w2 .before .before .before .before in
+    let w1 = w2 .before .before .before .before .before in
     let s = w1 .before .before .before .before .before .before in
     let r = s .args .row in
     let h = s .args .header in
@@ -117,6 +120,7 @@ put-spec =
     tie.close
     (tie.spec
     put-mandatory-requires
+    cast-after-header
     write-bytes-requires
     write-raw-address-requires
     write-cq-data-requires
