@@ -29,7 +29,8 @@ unfoldable pub packetAt : List ℕ → ℕ → ℕ → ℕ → Found
 packetAt w bytes replies at =
     pick (leb (getD w (at + 2) 0 + getD w (at + 3) 0) bytes)
     (pick (leb (getD w (at + 4) 0 + getD w (at + 5) 0) replies)
-    (requestWith w at (Call.Packet (record { at = getD w (at + 2) 0; size = getD w (at + 3) 0 }) (record { at = getD w (at + 4) 0; size = getD w (at + 5) 0 })))
+    (requestWith w at
+    (Call.Packet (record { at = getD w (at + 2) 0; size = getD w (at + 3) 0 }) (record { at = getD w (at + 4) 0; size = getD w (at + 5) 0 })))
     Found.Bad)
     Found.Bad
 
