@@ -51,19 +51,22 @@ use Rattle.peer.proofs.StepCases.{Arrives, dataOf}
 use Rattle.peer.proofs.Valid.{Valid, Within, posted-within}
 use Rattle.peer.proofs.Verdicts.{Begins, Continues, CutOff, Judged, again-inside, found-within, judged}
 
+-- what the words and the area's bytes have of an open message of which the segments gs are accepted
+pub record Held (ws : List ℕ) (mem : ℕ → ℕ) (o : Inbound) (gs : List Segment) : Type 0 where
+  -- its bits are what the segments cover
+  pub bits : Bits ws (o .receive .start) (o .message .length) gs
+  -- what is covered of a long message lies below its granted end
+  pub below : isLong (o .message .shape) ≡ true → (k : ℕ) → covers gs k ≡ true → k < o .message .granted
+  -- what is covered holds the byte of the segment that covers it
+  pub content : Content mem (o .receive .start) (o .message .length) gs
+
 pub record Agrees (p : Peer) (ws : List ℕ) (mem : ℕ → ℕ) (l : Plain) : Type 0 where
   pub next : p .next ≡ l .next
   pub same : rolesOf (p .slots) ≡ roles (l .entries)
   pub ordered : Ordered (p .slots) (l .entries)
   -- a posted receive was posted before the next one will be
   pub past : (i : ℕ) (r : Receive) (a : ℕ) → phaseAt (p .slots) i ≡ Phase.Posted r a → entryAt (l .entries) i .serial < l .posts
-  -- the bits of an open message are what its accepted segments cover
-  pub bits : (i : ℕ) (o : Inbound) → phaseAt (p .slots) i ≡ Phase.Open o → Bits ws (o .receive .start) (o .message .length) (entryAt (l .entries) i .segments)
-  -- what is covered of a long message lies below its granted end
-  pub below : (i : ℕ) (o : Inbound) → phaseAt (p .slots) i ≡ Phase.Open o → isLong (o .message .shape) ≡ true
-      → (k : ℕ) → covers (entryAt (l .entries) i .segments) k ≡ true → k < o .message .granted
-  -- what is covered holds the byte of the segment that covers it
-  pub content : (i : ℕ) (o : Inbound) → phaseAt (p .slots) i ≡ Phase.Open o → Content mem (o .receive .start) (o .message .length) (entryAt (l .entries) i .segments)
+  pub held : (i : ℕ) (o : Inbound) → phaseAt (p .slots) i ≡ Phase.Open o → Held ws mem o (entryAt (l .entries) i .segments)
 
 -- what the answers rest on
 pub record Mirrors (p : Peer) (ws : List ℕ) (l : Plain) : Type 0 where
@@ -73,7 +76,7 @@ pub record Mirrors (p : Peer) (ws : List ℕ) (l : Plain) : Type 0 where
   pub bits : (i : ℕ) (o : Inbound) → phaseAt (p .slots) i ≡ Phase.Open o → Bits ws (o .receive .start) (o .message .length) (entryAt (l .entries) i .segments)
 
 pub mirrors : {p : Peer} {ws : List ℕ} {mem : ℕ → ℕ} {l : Plain} → Agrees p ws mem l → Mirrors p ws l
-mirrors a = record { next = a .next; same = a .same; ordered = a .ordered; bits = a .bits }
+mirrors a = record { next = a .next; same = a .same; ordered = a .ordered; bits = λ i o e. a .held i o e .bits }
 
 -- ---- both at one call
 

@@ -7,7 +7,7 @@ use lib.Seq.{getD-set-same, getD-set-other}
 use mathlib.Core.Bool.{true, false, false≢true}
 use mathlib.Core.List.{List, [], _∷_}
 use mathlib.Core.Logic.{_⊎_, inl, inr, ⊎-map}
-use mathlib.Core.Path.{_≡_, refl, sym, ap, ap₂, _∙_, subst, subst₂}
+use mathlib.Core.Path.{_≡_, refl, sym, ap, ap₂, _∙_, subst}
 use native.Mathlib.Decide.{decLt, ℕ-discrete}
 use native.Mathlib.Omega.{arith}
 use Rattle.bitmap.specs.Map.{bitAt, cleared, marked}
@@ -15,7 +15,6 @@ use Rattle.peer.specs.Calls.{packet}
 use Rattle.peer.specs.Coverage.{Segment, covers, inside}
 use Rattle.peer.specs.Effects.{extended, grantOf, opened, settledAs}
 use Rattle.peer.specs.Formed.{Formed}
-use Rattle.peer.specs.Incomings.{isLong}
 use Rattle.peer.specs.Plain.{Entry, Plain, Target, begunEntry, enterAt, entryAt, extendedRole, grantedEntry, grown, nextAfter, noEntry, receiving, segmentOf}
 use Rattle.peer.specs.State.{clash, freeSlot, overlap, phaseAt, phaseFits, slotWith}
 use Rattle.peer.specs.View.{roleOf}
@@ -28,8 +27,8 @@ use Rattle.peer.specs.declared.types.Receive.{Receive}
 use Rattle.peer.specs.declared.types.Slot.{Slot}
 use Rattle.bitmap.proofs.BitLaws.{cleared-out, length-cleared, marked-out}
 use Rattle.laws.proofs.Choosing.{or-cases, or-left}
-use Rattle.peer.proofs.Agreement.{Agrees, more-bits}
-use Rattle.peer.proofs.CoverageLaws.{Bits, Content, Wrote, bits-cleared, bits-same, content-same, content-written, inside-end}
+use Rattle.peer.proofs.Agreement.{Agrees, Held, more-bits}
+use Rattle.peer.proofs.CoverageLaws.{Wrote, bits-cleared, bits-same, content-same, content-written, inside-end}
 use Rattle.peer.proofs.Kept.{Standing, begun-standing, continued-standing}
 use Rattle.peer.proofs.Roles.{role-at, role-lengths, roles-set}
 use Rattle.peer.proofs.Slots.{phase-other, phase-same}
@@ -49,13 +48,8 @@ pub record Change (p : Peer) (ws′ : List ℕ) (mem′ : ℕ → ℕ) (l : Plai
   pub inSlots : i < length (p .slots)
   pub role : roleOf f ≡ e .role
   pub unposted : (r : Receive) (a : ℕ) → f ≡ Phase.Posted r a → ⊥
-  pub own : (o : Inbound) → f ≡ Phase.Open o → Bits ws′ (o .receive .start) (o .message .length) (e .segments)
-  pub below : (o : Inbound) → f ≡ Phase.Open o → isLong (o .message .shape) ≡ true → (k : ℕ) → covers (e .segments) k ≡ true → k < o .message .granted
-  pub others : (k : ℕ) (o : Inbound) → (k ≡ i → ⊥) → phaseAt (p .slots) k ≡ Phase.Open o
-      → Bits ws′ (o .receive .start) (o .message .length) (entryAt (l .entries) k .segments)
-  pub content : (o : Inbound) → f ≡ Phase.Open o → Content mem′ (o .receive .start) (o .message .length) (e .segments)
-  pub contents : (k : ℕ) (o : Inbound) → (k ≡ i → ⊥) → phaseAt (p .slots) k ≡ Phase.Open o
-      → Content mem′ (o .receive .start) (o .message .length) (entryAt (l .entries) k .segments)
+  pub own : (o : Inbound) → f ≡ Phase.Open o → Held ws′ mem′ o (e .segments)
+  pub others : (k : ℕ) (o : Inbound) → (k ≡ i → ⊥) → phaseAt (p .slots) k ≡ Phase.Open o → Held ws′ mem′ o (entryAt (l .entries) k .segments)
 
 module _ (p : Peer) (ws ws′ : List ℕ) (mem mem′ : ℕ → ℕ) (l : Plain) (i : ℕ) (f : Phase) (e : Entry) (n n′ : ℕ) (a : Agrees p ws mem l)
     (c : Change p ws′ mem′ l i f e) where
@@ -102,45 +96,23 @@ module _ (p : Peer) (ws ws′ : List ℕ) (mem mem′ : ℕ → ℕ) (l : Plain)
         past = λ j r b x.
             let u = kept-posted j r b x in
             subst (λ (v : Entry). v .serial < l .posts) (sym (u .1)) (a .past j r b (u .0));
-        bits = λ j o x. bits j o x (ℕ-discrete j i);
-        below = λ j o x. below j o x (ℕ-discrete j i);
-        content = λ j o x. content j o x (ℕ-discrete j i);
+        held = λ j o x. held j o x (ℕ-discrete j i);
       }
     where
-      content : (j : ℕ) (o : Inbound) → phaseAt ss j ≡ Phase.Open o → Dec (j ≡ i) → Content mem′ (o .receive .start) (o .message .length) (entryAt es j .segments)
-      content j o x (yes y) =
-          subst (λ (v : Entry). Content mem′ (o .receive .start) (o .message .length) (v .segments)) (sym (here j y .1)) (c .content o (sym (here j y .0) ∙ x))
-      content j o x (no y) =
-          subst (λ (v : Entry). Content mem′ (o .receive .start) (o .message .length) (v .segments)) (sym (there j y .1))
-          (c .contents j o y (sym (there j y .0) ∙ x))
+      held : (j : ℕ) (o : Inbound) → phaseAt ss j ≡ Phase.Open o → Dec (j ≡ i) → Held ws′ mem′ o (entryAt es j .segments)
+      held j o x (yes y) = subst (λ (v : Entry). Held ws′ mem′ o (v .segments)) (sym (here j y .1)) (c .own o (sym (here j y .0) ∙ x))
+      held j o x (no y) = subst (λ (v : Entry). Held ws′ mem′ o (v .segments)) (sym (there j y .1)) (c .others j o y (sym (there j y .0) ∙ x))
 
-      bits : (j : ℕ) (o : Inbound) → phaseAt ss j ≡ Phase.Open o → Dec (j ≡ i) → Bits ws′ (o .receive .start) (o .message .length) (entryAt es j .segments)
-      bits j o x (yes y) =
-          subst (λ (v : Entry). Bits ws′ (o .receive .start) (o .message .length) (v .segments)) (sym (here j y .1)) (c .own o (sym (here j y .0) ∙ x))
-      bits j o x (no y) =
-          subst (λ (v : Entry). Bits ws′ (o .receive .start) (o .message .length) (v .segments)) (sym (there j y .1)) (c .others j o y (sym (there j y .0) ∙ x))
-
-      below : (j : ℕ) (o : Inbound) → phaseAt ss j ≡ Phase.Open o → Dec (j ≡ i) → isLong (o .message .shape) ≡ true
-          → (k : ℕ) → covers (entryAt es j .segments) k ≡ true → k < o .message .granted
-      below j o x (yes y) =
-          subst (λ (v : Entry). isLong (o .message .shape) ≡ true → (k : ℕ) → covers (v .segments) k ≡ true → k < o .message .granted) (sym (here j y .1))
-          (c .below o (sym (here j y .0) ∙ x))
-      below j o x (no y) =
-          subst (λ (v : Entry). isLong (o .message .shape) ≡ true → (k : ℕ) → covers (v .segments) k ≡ true → k < o .message .granted) (sym (there j y .1))
-          (a .below j o (sym (there j y .0) ∙ x))
-
--- a slot is freed: nothing of the map changes
-pub freed : (p : Peer) (ws : List ℕ) (mem : ℕ → ℕ) (l : Plain) (i : ℕ) → i < length (p .slots) → Agrees p ws mem l → Change p ws mem l i Phase.Free noEntry
-freed p ws mem l i h a =
+-- slot i is freed
+pub freed : (p : Peer) (ws : List ℕ) (mem : ℕ → ℕ) (l : Plain) (i : ℕ) → i < length (p .slots)
+    → ((k : ℕ) (o : Inbound) → (k ≡ i → ⊥) → phaseAt (p .slots) k ≡ Phase.Open o → Held ws mem o (entryAt (l .entries) k .segments)) → Change p ws mem l i Phase.Free noEntry
+freed p ws mem l i h others =
     record {
       inSlots = h;
       role = refl;
       unposted = λ r b x. let z : _≡_ {A = ℕ} 0 1 = cc in omega arith;
       own = λ o x. absurd (let z : _≡_ {A = ℕ} 0 1 = cc in omega arith);
-      below = λ o x. absurd (let z : _≡_ {A = ℕ} 0 1 = cc in omega arith);
-      others = λ k o n x. a .bits k o x;
-      content = λ o x. absurd (let z : _≡_ {A = ℕ} 0 1 = cc in omega arith);
-      contents = λ k o n x. a .content k o x;
+      others = others;
     }
 
 -- ---- ranges that are apart
@@ -196,12 +168,15 @@ agrees-kept area p ws mem mem′ l v e a =
       same = a .same;
       ordered = a .ordered;
       past = a .past;
-      bits = a .bits;
-      below = a .below;
-      content = λ i o x.
+      held = λ i o x.
           let w = open-within area o (ap (phaseFits area) (sym x) ∙ v .each i) in
-          content-same mem mem′ (o .receive .start) (o .message .length) (entryAt (l .entries) i .segments)
-          (λ k h. e (o .receive .start + k) (omega (arith, w .inArea, w .inRange))) (a .content i o x);
+          let h = a .held i o x in
+          record {
+            bits = h .bits;
+            below = h .below;
+            content = content-same mem mem′ (o .receive .start) (o .message .length) (entryAt (l .entries) i .segments)
+                (λ k y. e (o .receive .start + k) (omega (arith, w .inArea, w .inRange))) (h .content);
+          };
     }
 
 -- ---- a segment is accepted
@@ -210,41 +185,24 @@ agrees-kept area p ws mem mem′ l v e a =
 pub record Taken (area : ℕ) (p : Peer) (ws′ : List ℕ) (mem′ : ℕ → ℕ) (l : Plain) (i : ℕ) (o : Inbound) (e : Entry) : Type 0 where
   pub standing : Standing area (p .slots) i o
   pub role : e .role ≡ receiving o
-  pub own : Bits ws′ (o .receive .start) (o .message .length) (e .segments)
-  pub below : isLong (o .message .shape) ≡ true → (k : ℕ) → covers (e .segments) k ≡ true → k < o .message .granted
-  pub others : (k : ℕ) (q : Inbound) → (k ≡ i → ⊥) → phaseAt (p .slots) k ≡ Phase.Open q
-      → Bits ws′ (q .receive .start) (q .message .length) (entryAt (l .entries) k .segments)
-  pub content : Content mem′ (o .receive .start) (o .message .length) (e .segments)
-  pub contents : (k : ℕ) (q : Inbound) → (k ≡ i → ⊥) → phaseAt (p .slots) k ≡ Phase.Open q
-      → Content mem′ (q .receive .start) (q .message .length) (entryAt (l .entries) k .segments)
+  pub own : Held ws′ mem′ o (e .segments)
+  pub others : (k : ℕ) (q : Inbound) → (k ≡ i → ⊥) → phaseAt (p .slots) k ≡ Phase.Open q → Held ws′ mem′ q (entryAt (l .entries) k .segments)
 
--- the message is still open, perhaps granted more
+-- the message is still open, as q
 still-open : (area : ℕ) (p : Peer) (ws′ : List ℕ) (mem′ : ℕ → ℕ) (l : Plain) (i : ℕ) (o q : Inbound) (e e′ : Entry) → Taken area p ws′ mem′ l i o e
-    → q .receive ≡ o .receive → q .message .length ≡ o .message .length → q .message .shape ≡ o .message .shape → o .message .granted ≤ q .message .granted
-    → e′ .role ≡ receiving q → e′ .segments ≡ e .segments → Change p ws′ mem′ l i (Phase.Open q) e′
-still-open area p ws′ mem′ l i o q e e′ t er el ek g x y =
+    → e′ .role ≡ receiving q → Held ws′ mem′ q (e′ .segments) → Change p ws′ mem′ l i (Phase.Open q) e′
+still-open area p ws′ mem′ l i o q e e′ t x h =
     record {
       inSlots = t .standing .inSlots;
       role = sym x;
       unposted = λ r a z. let u : _≡_ {A = ℕ} 0 1 = cc in omega arith;
-      own = λ m z.
-          let is : q ≡ m = cc in
-          subst (λ (n : Inbound). Bits ws′ (n .receive .start) (n .message .length) (e′ .segments)) is
-          (subst (λ (gs : List Segment). Bits ws′ (q .receive .start) (q .message .length) gs) (sym y)
-          (subst₂ (λ (r : Receive) (n : ℕ). Bits ws′ (r .start) n (e .segments)) (sym er) (sym el) (t .own)));
-      below = λ m z long k c.
-          let is : q ≡ m = cc in
-          let kind : isLong (o .message .shape) ≡ true = ap isLong (sym ek ∙ ap (λ (n : Inbound). n .message .shape) is) ∙ long in
-          let under : k < o .message .granted = t .below kind k (ap (λ (gs : List Segment). covers gs k) (sym y) ∙ c) in
-          subst (λ (n : Inbound). k < n .message .granted) is (omega arith);
+      own = λ m z. let is : q ≡ m = cc in subst (λ (n : Inbound). Held ws′ mem′ n (e′ .segments)) is h;
       others = t .others;
-      content = λ m z.
-          let is : q ≡ m = cc in
-          subst (λ (n : Inbound). Content mem′ (n .receive .start) (n .message .length) (e′ .segments)) is
-          (subst (λ (gs : List Segment). Content mem′ (q .receive .start) (q .message .length) gs) (sym y)
-          (subst₂ (λ (r : Receive) (n : ℕ). Content mem′ (r .start) n (e .segments)) (sym er) (sym el) (t .content)));
-      contents = t .contents;
     }
+
+-- a grant moves the granted end alone
+held-wider : (m : ℕ) {ws : List ℕ} {mem : ℕ → ℕ} {o : Inbound} {gs : List Segment} → Held ws mem o gs → Held ws mem (extended m o) gs
+held-wider m h = record { bits = h .bits; below = λ long k c. omega (arith, h .below long k c); content = h .content }
 
 -- the next id is n from now on; the target t is in slot i
 pub settled-agrees : (area limit : ℕ) (p : Peer) (n : ℕ) (ws ws′ : List ℕ) (mem mem′ : ℕ → ℕ) (l : Plain) (bs : List ℕ) (room i : ℕ) (o : Inbound) (t : Target) (g : Progress)
@@ -255,26 +213,17 @@ unfolding settledAs
 settled-agrees area limit p n ws ws′ mem mem′ l bs room i o t Progress.Whole a en ei k =
     rw ei
     (agrees-set p ws ws′ mem mem′ l i Phase.Free noEntry n (nextAfter l t) a
-    (record {
-      inSlots = k .standing .inSlots;
-      role = refl;
-      unposted = λ r b z. let u : _≡_ {A = ℕ} 0 1 = cc in omega arith;
-      own = λ q z. absurd (let u : _≡_ {A = ℕ} 0 1 = cc in omega arith);
-      below = λ q z. absurd (let u : _≡_ {A = ℕ} 0 1 = cc in omega arith);
-      others = k .others;
-      content = λ q z. absurd (let u : _≡_ {A = ℕ} 0 1 = cc in omega arith);
-      contents = k .contents;
-    })
+    (freed p ws′ mem′ l i (k .standing .inSlots) (k .others))
     en)
 settled-agrees area limit p n ws ws′ mem mem′ l bs room i o t Progress.Due a en ei k =
     let m : ℕ = grantOf limit (o .message) in
     rw ei
     (agrees-set p ws ws′ mem mem′ l i (Phase.Open (extended m o)) (grantedEntry m (t .entry)) n (nextAfter l t) a
-    (still-open area p ws′ mem′ l i o (extended m o) (t .entry) (grantedEntry m (t .entry)) k refl refl refl (omega arith) (ap (extendedRole m) (k .role)) refl) en)
+    (still-open area p ws′ mem′ l i o (extended m o) (t .entry) (grantedEntry m (t .entry)) k (ap (extendedRole m) (k .role)) (held-wider m (k .own))) en)
 settled-agrees area limit p n ws ws′ mem mem′ l bs room i o t Progress.Partial a en ei k =
     rw ei
     (agrees-set p ws ws′ mem mem′ l i (Phase.Open o) (t .entry) n (nextAfter l t) a
-    (still-open area p ws′ mem′ l i o o (t .entry) (t .entry) k refl refl refl (omega arith) (k .role) refl) en)
+    (still-open area p ws′ mem′ l i o o (t .entry) (t .entry) k (k .role) (k .own)) en)
 
 -- ---- a packet
 
@@ -296,21 +245,25 @@ module _ (area limit : ℕ) (p : Peer) (ws : List ℕ) (mem mem′ : ℕ → ℕ
       record {
         standing = s;
         role = sym (role-at (p .slots) (l .entries) (agrees .same) i) ∙ ap roleOf (at .1);
-        own = more-bits ws h bytes o (entryAt (l .entries) i .segments) (omega (arith, s .within .inArea, s .within .inRange)) (agrees .bits i o (at .1));
-        below = λ long. covers-below (segmentOf h bytes) (entryAt (l .entries) i .segments) (o .message .granted) (omega (arith, form .size, c .inGrant long))
-            (agrees .below i o (at .1) long);
+        own = record {
+          bits = more-bits ws h bytes o (entryAt (l .entries) i .segments) (omega (arith, s .within .inArea, s .within .inRange)) (was .bits);
+          below = λ long. covers-below (segmentOf h bytes) (entryAt (l .entries) i .segments) (o .message .granted) (omega (arith, form .size, c .inGrant long))
+              (was .below long);
+          content = content-written area mem mem′ (o .receive .start) (o .message .length) (segmentOf h bytes) (entryAt (l .entries) i .segments)
+              (omega (arith, s .within .inArea, s .within .inRange)) wrote (was .content);
+        };
         others = λ k q n e.
-            bits-same ws _ (q .receive .start) (q .message .length) (entryAt (l .entries) k .segments)
-            (others-marked area p i o v s ws (o .receive .start + h .offset) (length bytes) (omega arith)
-            (omega (arith, form .size, c .inLength (s .within .inLength), s .within .inRange)) k q n e)
-            (agrees .bits k q e);
-        content = content-written area mem mem′ (o .receive .start) (o .message .length) (segmentOf h bytes) (entryAt (l .entries) i .segments)
-            (omega (arith, s .within .inArea, s .within .inRange)) wrote (agrees .content i o (at .1));
-        contents = λ k q n e.
-            content-same mem mem′ (q .receive .start) (q .message .length) (entryAt (l .entries) k .segments)
-            (others-kept area p i o v s mem mem′ (o .receive .start + h .offset) bytes wrote (omega arith)
-            (omega (arith, form .size, c .inLength (s .within .inLength), s .within .inRange)) k q n e)
-            (agrees .content k q e);
+            let inside = c .inLength (s .within .inLength) in
+            let other = agrees .held k q e in
+            record {
+              bits = bits-same ws _ (q .receive .start) (q .message .length) (entryAt (l .entries) k .segments)
+                  (others-marked area p i o v s ws (o .receive .start + h .offset) (length bytes) (omega arith) (omega (arith, form .size, s .within .inRange)) k q n e)
+                  (other .bits);
+              below = other .below;
+              content = content-same mem mem′ (q .receive .start) (q .message .length) (entryAt (l .entries) k .segments)
+                  (others-kept area p i o v s mem mem′ (o .receive .start + h .offset) bytes wrote (omega arith) (omega (arith, form .size, s .within .inRange)) k q n e)
+                  (other .content);
+            };
       }
     where
       s : Standing area (p .slots) i o
@@ -319,6 +272,9 @@ module _ (area limit : ℕ) (p : Peer) (ws : List ℕ) (mem mem′ : ℕ → ℕ
       at : (i < length (p .slots)) × (phaseAt (p .slots) i ≡ Phase.Open o)
       at = continued-at p ws h i o c
 
+      was : Held ws mem o (entryAt (l .entries) i .segments)
+      was = agrees .held i o (at .1)
+
   pub begun-taken : (i : ℕ) (r : Receive) → Begins p h i r → Wrote area mem mem′ (r .start + h .offset) bytes
       → Taken area p (marked (cleared ws (r .start) (r .capacity)) (r .start + h .offset) (length bytes)) mem′ l i (opened r h)
       (begunEntry r (entryAt (l .entries) i .serial) h (segmentOf h bytes))
@@ -326,23 +282,28 @@ module _ (area limit : ℕ) (p : Peer) (ws : List ℕ) (mem mem′ : ℕ → ℕ
       record {
         standing = s;
         role = refl;
-        own = more-bits (cleared ws (r .start) (r .capacity)) h bytes (opened r h) []
-            (omega (arith, s .within .inArea, s .within .inRange, length-cleared ws (r .start) (r .capacity)))
-            (bits-cleared ws (r .start) (r .capacity) (h .length) (b .inCapacity));
-        below = λ long. covers-below (segmentOf h bytes) [] (h .size) (omega (arith, form .size, form .start long)) (λ k e. absurd (no-cover k e));
+        own = record {
+          bits = more-bits (cleared ws (r .start) (r .capacity)) h bytes (opened r h) []
+              (omega (arith, s .within .inArea, s .within .inRange, length-cleared ws (r .start) (r .capacity)))
+              (bits-cleared ws (r .start) (r .capacity) (h .length) (b .inCapacity));
+          below = λ long. covers-below (segmentOf h bytes) [] (h .size) (omega (arith, form .size, form .start long)) (λ k e. absurd (no-cover k e));
+          content = content-written area mem mem′ (r .start) (h .length) (segmentOf h bytes) [] (omega (arith, s .within .inArea, s .within .inRange)) wrote
+              (λ k x y. absurd (no-cover k y));
+        };
         others = λ k q n e.
-            bits-same (cleared ws (r .start) (r .capacity)) _ (q .receive .start) (q .message .length) (entryAt (l .entries) k .segments)
-            (others-marked area p i (opened r h) v s (cleared ws (r .start) (r .capacity)) (r .start + h .offset) (length bytes) (omega arith)
-            (omega (arith, form .size, form .inside (b .matched .rtm), b .inCapacity)) k q n e)
-            (bits-same ws (cleared ws (r .start) (r .capacity)) (q .receive .start) (q .message .length) (entryAt (l .entries) k .segments)
-            (others-cleared area p i (opened r h) v s ws k q n e) (agrees .bits k q e));
-        content = content-written area mem mem′ (r .start) (h .length) (segmentOf h bytes) [] (omega (arith, s .within .inArea, s .within .inRange)) wrote
-            (λ k x y. absurd (no-cover k y));
-        contents = λ k q n e.
-            content-same mem mem′ (q .receive .start) (q .message .length) (entryAt (l .entries) k .segments)
-            (others-kept area p i (opened r h) v s mem mem′ (r .start + h .offset) bytes wrote (omega arith)
-            (omega (arith, form .size, form .inside (b .matched .rtm), b .inCapacity)) k q n e)
-            (agrees .content k q e);
+            let other = agrees .held k q e in
+            record {
+              bits = bits-same (cleared ws (r .start) (r .capacity)) _ (q .receive .start) (q .message .length) (entryAt (l .entries) k .segments)
+                  (others-marked area p i (opened r h) v s (cleared ws (r .start) (r .capacity)) (r .start + h .offset) (length bytes) (omega arith)
+                  (omega (arith, form .size, form .inside (b .matched .rtm), b .inCapacity)) k q n e)
+                  (bits-same ws (cleared ws (r .start) (r .capacity)) (q .receive .start) (q .message .length) (entryAt (l .entries) k .segments)
+                  (others-cleared area p i (opened r h) v s ws k q n e) (other .bits));
+              below = other .below;
+              content = content-same mem mem′ (q .receive .start) (q .message .length) (entryAt (l .entries) k .segments)
+                  (others-kept area p i (opened r h) v s mem mem′ (r .start + h .offset) bytes wrote (omega arith)
+                  (omega (arith, form .size, form .inside (b .matched .rtm), b .inCapacity)) k q n e)
+                  (other .content);
+            };
       }
     where
       s : Standing area (p .slots) i (opened r h)

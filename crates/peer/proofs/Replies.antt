@@ -184,10 +184,10 @@ module _ (area limit : ℕ) (p : Peer) (ws : List ℕ) (mem : ℕ → ℕ) (l : 
             let from : getD starts j 0 ≡ o .receive .start = ap (λ (m : ℕ). getD starts m 0) slot ∙ s in (
               omega (arith, k .standing .within .inArea, k .standing .within .inRange),
               λ x h. ap (λ (m : ℕ). mem (m + x)) from
-                  ∙ k .content x (omega arith) (ap (covers (t .entry .segments)) (omega arith) ∙ all-at (covers (t .entry .segments)) 0 (o .message .length) x all (omega arith)),
+                  ∙ k .own .content x (omega arith) (ap (covers (t .entry .segments)) (omega arith) ∙ all-at (covers (t .entry .segments)) 0 (o .message .length) x all (omega arith)),
             ))
             (λ i id n e x. tt)
-            (subst (Complete (t .index) o (t .entry .segments)) (sym (taken-answer limit q (t .index) o ws (t .entry .segments) (k .standing .within .inLength) (k .own)))
+            (subst (Complete (t .index) o (t .entry .segments)) (sym (taken-answer limit q (t .index) o ws (t .entry .segments) (k .standing .within .inLength) (k .own .bits)))
             (taken-done limit (t .index) o (t .entry .segments)));
         writes = accepted (progressOf ws o);
       }

@@ -13,10 +13,9 @@ use native.Mathlib.Omega.{arith}
 use Rattle.protocol.specs.declared.types.Refusal.{Refusal}
 use Rattle.bitmap.specs.Map.{cleared, marked}
 use Rattle.peer.specs.Calls.{Call, cancel, countOlder, countPosted, packet, peerStep, placed, post, renumbered, renumberedPhase, report}
-use Rattle.peer.specs.Coverage.{covers}
 use Rattle.peer.specs.Effects.{Effect, accept, advance, begun, opened, progressOf, truncatedAt}
 use Rattle.peer.specs.Expected.{enter, expected}
-use Rattle.peer.specs.Incomings.{incomingOf, isLong}
+use Rattle.peer.specs.Incomings.{incomingOf}
 use Rattle.peer.specs.Plain.{Entry, Plain, Target, begunAt, enterAt, entryAt, freshPlain, moreAt, nextAfter, noEntry, nowhere, segmentOf, waiting}
 use Rattle.peer.specs.State.{clash, freeSlot, freshPeer, isFree, phaseAt, phaseFits, slotCount, slotWith}
 use Rattle.peer.specs.declared.types.Answer.{Answer}
@@ -29,8 +28,8 @@ use Rattle.peer.specs.declared.types.Slot.{Slot}
 use Rattle.laws.proofs.Choosing.{pick-false, pick-true}
 use Rattle.peer.proofs.Entered.{agrees-kept, agrees-set, begun-taken, freed, more-taken, settled-agrees}
 use Rattle.peer.proofs.Ages.{length-renumbered, older-below, order-kept, phase-renumbered}
-use Rattle.peer.proofs.Agreement.{Agrees, Meets, alike-same, begins, cancelled, continues, meets, mirrors, posted, refused, reported, truncated}
-use Rattle.peer.proofs.CoverageLaws.{Bits, Content, Wrote}
+use Rattle.peer.proofs.Agreement.{Agrees, Held, Meets, alike-same, begins, cancelled, continues, meets, mirrors, posted, refused, reported, truncated}
+use Rattle.peer.proofs.CoverageLaws.{Wrote}
 use Rattle.peer.proofs.PacketsRead.{read-formed}
 use Rattle.peer.proofs.Roles.{role-lengths, roles-renumbered, roles-set}
 use Rattle.peer.proofs.Slots.{phase-other, phase-same, used-slot, vacant}
@@ -129,16 +128,9 @@ module _ (p : Peer) (ws : List ℕ) (mem : ℕ → ℕ) (l : Plain) (r : Receive
         same = unfold ss es in roles-set (renumbered (p .slots) (p .slots)) (l .entries) i _ e (roles-renumbered (p .slots) (p .slots) ∙ a .same) (unfold e in refl);
         ordered = λ j k s t b d x y. order j k b d (dated j s b x) (dated k t d y);
         past = λ j s b x. past j b (dated j s b x);
-        bits = λ j o x.
+        held = λ j o x.
             let w = open-there j o x in
-            subst (λ (y : Entry). Bits ws (o .receive .start) (o .message .length) (y .segments)) (sym (w .1)) (a .bits j o (w .0));
-        below = λ j o x.
-            let w = open-there j o x in
-            subst (λ (y : Entry). isLong (o .message .shape) ≡ true → (k : ℕ) → covers (y .segments) k ≡ true → k < o .message .granted) (sym (w .1))
-            (a .below j o (w .0));
-        content = λ j o x.
-            let w = open-there j o x in
-            subst (λ (y : Entry). Content mem (o .receive .start) (o .message .length) (y .segments)) (sym (w .1)) (a .content j o (w .0));
+            subst (λ (y : Entry). Held ws mem o (y .segments)) (sym (w .1)) (a .held j o (w .0));
       }
 
   pub placed-agrees : Agrees (placed p r i) ws mem (Rattle.peer.specs.Plain.posted l i r)
@@ -174,12 +166,12 @@ module _ (area limit : ℕ) (p : Peer) (ws : List ℕ) (mem mem′ : ℕ → ℕ
   entered (refused c k) w = shut c k w
   entered (posted r i e) w = placed-agrees p ws mem′ l r i (same w) (vacant (p .slots) i e .0)
   entered (cancelled i h) w =
-      agrees-set p ws ws mem′ mem′ l i Phase.Free noEntry (p .next) (l .next) (same w) (freed p ws mem′ l i (omega arith) (same w)) (agrees .next)
+      agrees-set p ws ws mem′ mem′ l i Phase.Free noEntry (p .next) (l .next) (same w) (freed p ws mem′ l i (omega arith) (λ k o n x. same w .held k o x)) (agrees .next)
   entered (reported i o) w = same w
   entered (truncated bs room q a i j t e x) w =
       rw e
       (agrees-set p ws ws mem′ mem′ l i Phase.Free noEntry _ (nextAfter l t) (same w)
-      (freed p ws mem′ l i (chosen-at p (incomingOf q) i (j .receive) (j .matched) .0) (same w)) (moved t x))
+      (freed p ws mem′ l i (chosen-at p (incomingOf q) i (j .receive) (j .matched) .0) (λ k o n x. same w .held k o x)) (moved t x))
   entered (begins bs room q a i r b) w =
       let h : Incoming = incomingOf q in
       let ws′ : List ℕ = marked (cleared ws (r .start) (r .capacity)) (r .start + h .offset) (length (dataOf bs q)) in
@@ -219,9 +211,7 @@ fresh-agrees ws mem =
       same = refl;
       ordered = λ j k r s a b x. absurd (posted j r a x);
       past = λ i r a x. absurd (posted i r a x);
-      bits = λ i o x. absurd (opened-none i o x);
-      below = λ i o x. absurd (opened-none i o x);
-      content = λ i o x. absurd (opened-none i o x);
+      held = λ i o x. absurd (opened-none i o x);
     }
   where
     posted : (i : ℕ) (r : Receive) (a : ℕ) → phaseAt (replicate slotCount freeSlot) i ≡ Phase.Posted r a → ⊥
