@@ -6,7 +6,7 @@ use lib.ListN.{length}
 use lib.Seq.{set-getD}
 use mathlib.Core.Bool.{Bool, true, false, _&&_, _||_, or-true}
 use mathlib.Core.List.{List, []}
-use mathlib.Core.Logic.{_⊎_, inl, inr}
+use mathlib.Core.Logic.{_⊎_, inl, inr, ⊎-elim}
 use mathlib.Core.Path.{_≡_, refl, sym, ap, _∙_}
 use native.Mathlib.Decide.{decLt}
 use native.Mathlib.Omega.{arith}
@@ -16,11 +16,12 @@ use Rattle.engine.specs.SetUp.{Prepared, engineFits, lentFits, notStarted, numb
 use Rattle.engine.specs.Steps.{Turn, World, callTurn, peerTurn, putBack, refusedTurn, withPeer, wordsOf}
 use Rattle.engine.specs.declared.types.Engine.{Engine}
 use Rattle.guarantees.specs.Refusals.{NeverBadState, RefusedLeavesAll, RefusedSetUp, listFor}
-use Rattle.lending.specs.Acts.{Act, bufferOf, callOf, cancel, packet, post, report}
+use Rattle.lending.specs.Acts.{Act, bufferOf, callOf}
 use Rattle.guarantees.specs.Runs.{freshWorld, turnOf, worldAfter}
 use Rattle.laws.specs.Parts.{storeAt}
 use Rattle.protocol.specs.Checks.{refused}
 use Rattle.protocol.specs.declared.types.Refusal.{Refusal}
+use Rattle.peer.specs.Calls.{Call, cancel, packet, post, report}
 use Rattle.peer.specs.Effects.{Effect, refuse}
 use Rattle.peer.specs.Refusing.{among, refusalsOf}
 use Rattle.peer.specs.State.{freshPeer}
@@ -102,28 +103,21 @@ good-refusal w g p a k e = elim (decLt p (w .engine .n)) as (λ d. (k .number �
 ]
 
 -- 2 and 3 are in no peer's list
-not-listed : (a : Act) (n : ℕ) → (n ≡ 2) ⊎ (n ≡ 3) → among (refusalsOf (callOf a)) n ≡ false
-not-listed (post r) n (inl e) = rw e
-not-listed (post r) n (inr e) = rw e
-not-listed (packet bs b) n (inl e) = rw e
-not-listed (packet bs b) n (inr e) = rw e
-not-listed (cancel i) n (inl e) = rw e
-not-listed (cancel i) n (inr e) = rw e
-not-listed (report i) n (inl e) = rw e
-not-listed (report i) n (inr e) = rw e
+not-listed : (c : Call) → (among (refusalsOf c) 2 ≡ false) × (among (refusalsOf c) 3 ≡ false)
+not-listed (post r) = (refl, refl)
+not-listed (packet bs room) = (refl, refl)
+not-listed (cancel i) = (refl, refl)
+not-listed (report i) = (refl, refl)
 
 pub never-bad-state : NeverBadState
 unfolding NeverBadState turnOf
-never-bad-state n area limit arena map ready before q k e =
-    (λ x. go (inl x) refusal, λ x. go (inr x) refusal)
+never-bad-state n area limit arena map ready before q k e = (
+  λ x. ⊎-elim (λ y. omega arith) (λ y. clashing _ y (ap (among (refusalsOf (callOf (q .act)))) x ∙ not-listed (callOf (q .act)) .0)) refusal,
+  λ x. ⊎-elim (λ y. omega arith) (λ y. clashing _ y (ap (among (refusalsOf (callOf (q .act)))) x ∙ not-listed (callOf (q .act)) .1)) refusal,
+)
   where
     w : World
     w = worldAfter (freshWorld n area limit arena map) before
 
     refusal : (k .number ≡ 4) ⊎ (among (refusalsOf (callOf (q .act))) (k .number) ≡ true)
     refusal = good-refusal w (good-after (freshWorld n area limit arena map) before (fresh-good n area limit arena map ready)) (q .peer) (q .act) k e
-
-    go : (k .number ≡ 2) ⊎ (k .number ≡ 3) → (k .number ≡ 4) ⊎ (among (refusalsOf (callOf (q .act))) (k .number) ≡ true) → ⊥
-    go (inl x) (inl y) = omega arith
-    go (inr x) (inl y) = omega arith
-    go d (inr y) = clashing _ y (not-listed (q .act) (k .number) d)

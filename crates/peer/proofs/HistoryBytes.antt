@@ -46,8 +46,6 @@ done-when-covered area limit calls c =
     let l : Plain = history area limit calls in
     done-claim limit l c (targetOfCall limit l c) (expected area limit l c) (outcome area limit l c)
 
--- ---- the bytes of a done message
-
 -- ---- segments that share no offset
 
 abbrev Apart : List Segment → Type 0

@@ -199,7 +199,7 @@ pub record ByteFrom (gs : List Segment) (o b : ℕ) : Type 0 where
   pub byte : b ≡ getD (segmentAt gs index .bytes) (o - segmentAt gs index .offset) 0
   pub only : (k : ℕ) → k < length gs → inside (segmentAt gs k) o ≡ true → k ≡ index
 
--- the message's bytes are bs
+-- bs has n bytes, at each offset that of the one segment of gs that covers it
 abbrev pub BytesAre : List Segment → ℕ → List ℕ → Type 0
 BytesAre gs n bs = (length bs ≡ n) × ((o : ℕ) → o < n → ByteFrom gs o (getD bs o 0))
 
