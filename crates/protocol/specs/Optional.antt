@@ -62,7 +62,8 @@ flagSum (s ∷ ss) = flagOf s + flagSum ss
 unfoldable pub flagsTaken : TypeRow → ℕ
 flagsTaken r = flagSum (sectionsOf r) + pick (eqb (placeOf r multiuse) 0) 0 connidFlag
 
--- a packet of the type with the flags f has the section: an array wherever the type has one; the flags 0x1 and 0x2 are those of raw address and CQ data in a request alone
+-- a packet of the type with the flags f has the section: an array wherever the type has one; the flags 0x1 and 0x2 are those of raw address and
+-- CQ data in a request alone
 unfoldable pub flagged : TypeRow → ℕ → Section → Bool
 flagged r f array = hasArray r
 flagged r f raw-address = r .request && hasFlag f rawAddressFlag
