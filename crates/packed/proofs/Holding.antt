@@ -2,7 +2,7 @@
 -- bytes or counted modulo 2^32.
 use Prim.Native.Nat.{ℕ, zero, suc, _+_, _^_, _<_}
 use lib.Dec.{lit<}
-use lib.ListN.{length, getD, set, replicate, length-set, length-replicate}
+use lib.ListN.{getD, set, replicate, length-set, length-replicate}
 use mathlib.Core.Bool.{false}
 use mathlib.Core.List.{List, [], _∷_}
 use mathlib.Core.Logic.{_⊎_, inl, inr, ⊎-elim}
@@ -10,33 +10,28 @@ use mathlib.Core.Path.{_≡_, refl, sym, ap, _∙_, subst}
 use native.Mathlib.Decide.{decLt}
 use native.Mathlib.Nat.{mod-lt}
 use native.Mathlib.Omega.{arith}
-use Rattle.laws.proofs.Choosing.{branch, pick-either}
+use Rattle.laws.proofs.Choosing.{pick-either}
 use Rattle.laws.proofs.Storing.{part-all}
 use Rattle.protocol.specs.Layout.{Field}
 use Rattle.protocol.specs.Reading.{readOf}
-use Rattle.protocol.specs.Values.{bytesAt}
 use Rattle.protocol.specs.declared.types.Packet.{Packet}
 use Rattle.protocol.specs.declared.types.Read.{Read}
 use Rattle.protocol.proofs.ReadNumbers.{read-numbers}
 use Rattle.protocol.proofs.Served.{served-read}
-use Rattle.peer.specs.Calls.{Call, cancelAt, cancelEffect, packetEffect, peerStep, placed, placedIn, postEffect, readEffect, renumbered, renumberedPhase, reportAt, reportEffect}
-use Rattle.peer.specs.Effects.{Effect, accept, advance, begun, carry, extended, grantOf, opened, settledAs, truncatedAt, withPhase}
+use Rattle.peer.specs.Calls.{Call, peerStep, placed, renumbered, renumberedPhase}
+use Rattle.peer.specs.Effects.{Effect, accept, advance, begun, extended, grantOf, opened, settledAs, truncatedAt, withPhase}
 use Rattle.peer.specs.Incomings.{incomingOf}
-use Rattle.peer.specs.Judging.{judge}
-use Rattle.peer.specs.Matching.{vacancy}
 use Rattle.peer.specs.State.{freeSlot, freshPeer, phaseAt, slotCount, slotWith}
 use Rattle.peer.specs.declared.types.Inbound.{Inbound}
 use Rattle.peer.specs.declared.types.Incoming.{Incoming}
 use Rattle.peer.specs.declared.types.Peer.{Peer}
 use Rattle.peer.specs.declared.types.Phase.{Phase}
 use Rattle.peer.specs.declared.types.Progress.{Progress}
+use Rattle.peer.specs.declared.types.Receive.{Receive}
 use Rattle.peer.specs.declared.types.Slot.{Slot}
-use Rattle.peer.specs.declared.types.Vacancy.{Vacancy}
-use Rattle.peer.specs.declared.types.Verdict.{Verdict}
 use Rattle.peer.proofs.Ages.{length-renumbered, phase-renumbered}
-use Rattle.peer.proofs.PacketsRead.{read-formed}
-use Rattle.peer.proofs.Valid.{Valid}
-use Rattle.peer.proofs.Verdicts.{Judged, continued-at, judged}
+use Rattle.peer.proofs.Verdicts.{continued-at}
+use Rattle.peer.proofs.StepCases.{StepCase, begins, cancelled, continues, posted, refused, reported, step-case, truncated}
 use Rattle.engine.specs.SetUp.{engineOf, peerAt, peerCount}
 use Rattle.engine.specs.Steps.{Turn, World, callTurn, putBack, wordsOf}
 use Rattle.engine.proofs.Worlds.{Good, good-called, sized, turn-none, turn-own}
@@ -91,10 +86,9 @@ renumbered-held all Phase.Free h = h
 renumbered-held all (Phase.Posted r a) h = λ o e. let z : _≡_ {A = ℕ} 0 1 = cc in absurd (omega arith)
 renumbered-held all (Phase.Open q) h = h
 
-placed-held : (p : Peer) (ws : List ℕ) (r : _) (y : Vacancy) → PeerHeld p → PeerHeld (placedIn p ws r y .peer)
-unfolding placedIn placed
-placed-held p ws r Vacancy.Full h = h
-placed-held p ws r (Vacancy.Slot i) h =
+placed-held : (p : Peer) (r : Receive) (i : ℕ) → PeerHeld p → PeerHeld (placed p r i)
+unfolding placed
+placed-held p r i h =
     put-held (p .next) (renumbered (p .slots) (p .slots)) i _
     (record {
       next = h .next;
@@ -132,17 +126,6 @@ settled-held limit p i o Progress.Due h m =
     (open-held wider (record { id = m .id; sendId = m .sendId; creditRequest = m .creditRequest }))
 settled-held limit p i o Progress.Partial h m = with-held p i (Phase.Open o) h (open-held o m)
 
-carry-held : (limit : ℕ) (p : Peer) (ws : List ℕ) (h : Incoming) (bytes : List ℕ) (d : Verdict) → PeerHeld p → IncomingHeld h → Judged p ws h d
-    → PeerHeld (carry limit p ws h bytes d .peer)
-unfolding carry begun truncatedAt accept
-carry-held limit p ws h bytes (Verdict.Refuse k) x y j = x
-carry-held limit p ws h bytes (Verdict.Truncate i) x y j = advance-held (withPhase p i Phase.Free) (with-held p i Phase.Free x free-held)
-carry-held limit p ws h bytes (Verdict.Begin i r) x y j =
-    settled-held limit (advance p) i (opened r h) _ (advance-held p x)
-    (record { id = y .id; sendId = y .sendId; creditRequest = y .creditRequest })
-carry-held limit p ws h bytes (Verdict.More i o) x y j =
-    settled-held limit p i o _ x (x .messages i o (continued-at p ws h i o j .1))
-
 -- ---- every call
 
 -- a packet's bytes are bytes
@@ -152,34 +135,21 @@ BytesOf (Call.packet bs room) = (i : ℕ) → getD bs i 0 < 256
 BytesOf (Call.cancel i) = Unit {0}
 BytesOf (Call.report i) = Unit {0}
 
-step-held : (area limit : ℕ) (p : Peer) (ws : List ℕ) (c : Call) → Valid area (p .slots) → PeerHeld p → BytesOf c
-    → PeerHeld (peerStep area limit p ws c .peer)
-unfolding peerStep postEffect packetEffect readEffect cancelEffect reportEffect
-step-held area limit p ws (Call.post r) v h b =
-    branch (λ (f : Effect). PeerHeld (f .peer)) _ _ _ (λ x. h) (λ x.
-    branch (λ (f : Effect). PeerHeld (f .peer)) _ _ _ (λ y. h) (λ y. placed-held p ws r (vacancy 0 (p .slots)) h))
-step-held area limit p ws (Call.packet bs room) v h b =
-    branch (λ (f : Effect). PeerHeld (f .peer)) _ _ _ (λ x. h) (λ x. read (readOf false limit bs) refl)
+step-held : (area limit : ℕ) (p : Peer) (ws : List ℕ) (c : Call) → PeerHeld p → BytesOf c → PeerHeld (peerStep area limit p ws c .peer)
+unfolding truncatedAt begun accept
+step-held area limit p ws c h b = go (step-case area limit p ws c) b
   where
-    read : (d : Read) → readOf false limit bs ≡ d → PeerHeld (readEffect limit p ws bs d .peer)
-    read (Read.Refused k) x = h
-    read (Read.Packet q) x =
-        carry-held limit p ws (incomingOf q) (bytesAt bs (q .«data»)) (judge p ws (incomingOf q)) h (read-held limit bs q b x)
-        (judged p ws (incomingOf q) (length (bytesAt bs (q .«data»))) (read-formed limit bs q x))
-step-held area limit p ws (Call.cancel i) v h b =
-    branch (λ (f : Effect). PeerHeld (f .peer)) _ _ _ (λ x. h) (λ x. at (phaseAt (p .slots) i))
-  where
-    at : (f : Phase) → PeerHeld (cancelAt p ws i f .peer)
-    at Phase.Free = unfold cancelAt in h
-    at (Phase.Posted r a) = unfold cancelAt in with-held p i Phase.Free h free-held
-    at (Phase.Open o) = unfold cancelAt in with-held p i Phase.Free h free-held
-step-held area limit p ws (Call.report i) v h b =
-    branch (λ (f : Effect). PeerHeld (f .peer)) _ _ _ (λ x. h) (λ x. at (phaseAt (p .slots) i))
-  where
-    at : (f : Phase) → PeerHeld (reportAt p ws f .peer)
-    at Phase.Free = unfold reportAt in h
-    at (Phase.Posted r a) = unfold reportAt in h
-    at (Phase.Open o) = unfold reportAt in h
+    go : {c : Call} {f : Effect} → StepCase area limit p ws c f → BytesOf c → PeerHeld (f .peer)
+    go (refused c k e) b = h
+    go (posted r i v x y) b = placed-held p r i h
+    go (cancelled i x y) b = with-held p i Phase.Free h free-held
+    go (reported i o e) b = h
+    go (truncated bs room q a i x) b = advance-held (withPhase p i Phase.Free) (with-held p i Phase.Free h free-held)
+    go (begins bs room q a i r x) b =
+        let y = read-held limit bs q b (a .reads) in
+        settled-held limit (advance p) i (opened r (incomingOf q)) _ (advance-held p h)
+        (record { id = y .id; sendId = y .sendId; creditRequest = y .creditRequest })
+    go (continues bs room q a i o x) b = settled-held limit p i o _ h (h .messages i o (continued-at p ws (incomingOf q) i o x .1))
 
 -- ---- the engine
 
@@ -219,7 +189,7 @@ called-held w g h p c b = elim (decLt p (w .engine .n)) as (λ d. Held (callTurn
               ⊎-elim
               (λ x.
               subst PeerHeld (sym x)
-              (step-held (w .engine .area) (w .engine .limit) (peerAt (w .engine) p) (wordsOf w p) c (g .each p l)
+              (step-held (w .engine .area) (w .engine .limit) (peerAt (w .engine) p) (wordsOf w p) c
               (h .each p (omega (arith, sized _ _ _ (g .numbers) .few))) b))
               (λ x. subst PeerHeld (sym x) (h .each q k))
               (set-either (w .engine .peers) p q _ freshPeer);

@@ -157,7 +157,15 @@ abbrev yieldOf : Seen → Yield
 yieldOf s = record { answer = s .says; reply = s .reply; bytes = s .bytes }
 
 unfoldable pub run : List Act → Case
-unfolding pick part storeAt leBytes leOf leAt ctsBytes hasFlag flagsFit flagged flagsOf sectionsOf layout fieldBytes numberAt fieldsIn lengthsFit rawAddressBytes cqDataBytes connidBytes connidOrZero cqDataIn connidIn headerIn packetIn readLengths readSections readFlags readTyped readOf arrayLength countOf countIn numberThere arraySpan rawSpan beginOf connidAt dataAt sectionsIn extentOf rowIn rowOf admit baseBytes mandatoryBytes packetBytes bit bitAt setBit clearBit marked cleared touched countSet firstClear someInTheWay countPosted countOlder renumbered placed placedIn postEffect readEffect packetEffect cancelAt cancelEffect reportAt reportEffect peerStep progressOf grantOf settledAs accept begun truncatedAt carry incomingOf judgeMore judgeAgain judgeData judgeFit judgeNew judgeFound judge openHere findOpen sameOutside fits older olderHere oldest vacancy ahead sameMedium sameMessage freshPeer overlap inTheWay phaseFits clash allFit noneClash pairsApart peerFits numbersFit lentFits allPeersFit engineFits putBack peerTurn callTurn setUp freshWorld turnOf worldAfter observe callsOf
+unfolding pick part storeAt leBytes leOf leAt ctsBytes hasFlag flagsFit flagged flagsOf sectionsOf layout fieldBytes numberAt fieldsIn
+    lengthsFit rawAddressBytes cqDataBytes connidBytes connidOrZero cqDataIn connidIn headerIn packetIn readLengths readSections readFlags
+    readTyped readOf arrayLength countOf countIn numberThere arraySpan rawSpan beginOf connidAt dataAt sectionsIn extentOf rowIn rowOf admit
+    baseBytes mandatoryBytes packetBytes bit bitAt setBit clearBit marked cleared touched countSet firstClear someInTheWay countPosted
+    countOlder renumbered placed placedIn postEffect readEffect packetEffect cancelAt cancelEffect reportAt reportEffect peerStep progressOf
+    grantOf settledAs accept begun truncatedAt carry incomingOf judgeMore judgeAgain judgeData judgeFit judgeNew judgeFound judge openHere
+    findOpen sameOutside fits older olderHere oldest vacancy ahead sameMedium sameMessage freshPeer overlap inTheWay phaseFits clash allFit
+    noneClash pairsApart peerFits numbersFit lentFits allPeersFit engineFits putBack peerTurn callTurn setUp freshWorld turnOf worldAfter
+    observe callsOf
 run calls =
     let start : World = freshWorld 2 256 96 (replicate 512 7) (replicate 8 1) in
     let all : List Request = map asPeer calls in
