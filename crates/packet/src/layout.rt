@@ -16,6 +16,7 @@ use protocol::SEND_ID;
 use protocol::TAG;
 use protocol::TypeRow;
 ghost use mathlib.Core.List.{[], _∷_};
+ghost use mathlib.Core.Bool.{true};
 ghost use mathlib.Core.Path.{_≡_};
 ghost use Prim.Native.Nat.{_+_, _≤_, _<_};
 ghost use lib.ListN.{length};
@@ -57,8 +58,28 @@ fn number_u64(bytes: &[u8], places: u64, unit: u64) -> u64
     wire::read_u64(bytes, at)
 }
 
-// All fields of a packet.
-pub(crate) fn read(row: TypeRow, bytes: &[u8]) -> Fields
+// The fields of a request, which is most packets: three of them it never has.
+fn read_request(row: TypeRow, bytes: &[u8]) -> Fields
+    requires { ⌜ Sound row ⌝ }
+    requires { ⌜ row .header ≤ length (now bytes) ⌝ }
+    requires { ⌜ row .request ≡ true ⌝ }
+    ensures { λ r. ⌜ r ≡ fieldsIn (layout row) 4 (now (bytes .entry)) ⌝ }
+{
+    Fields {
+        msg_id: number_u32(bytes, row.places, MSG_ID),
+        recv_id: 0,
+        send_id: number_u32(bytes, row.places, SEND_ID),
+        msg_length: number_u64(bytes, row.places, MSG_LENGTH),
+        seg_length: 0,
+        recv_length: 0,
+        seg_offset: number_u64(bytes, row.places, SEG_OFFSET),
+        credit_request: number_u32(bytes, row.places, CREDIT_REQUEST),
+        tag: number_u64(bytes, row.places, TAG),
+    }
+}
+
+// The fields of any packet.
+fn read_any(row: TypeRow, bytes: &[u8]) -> Fields
     requires { ⌜ Sound row ⌝ }
     requires { ⌜ row .header ≤ length (now bytes) ⌝ }
     ensures { λ r. ⌜ r ≡ fieldsIn (layout row) 4 (now (bytes .entry)) ⌝ }
@@ -74,6 +95,18 @@ pub(crate) fn read(row: TypeRow, bytes: &[u8]) -> Fields
         credit_request: number_u32(bytes, row.places, CREDIT_REQUEST),
         tag: number_u64(bytes, row.places, TAG),
     }
+}
+
+// All fields of a packet.
+pub(crate) fn read(row: TypeRow, bytes: &[u8]) -> Fields
+    requires { ⌜ Sound row ⌝ }
+    requires { ⌜ row .header ≤ length (now bytes) ⌝ }
+    ensures { λ r. ⌜ r ≡ fieldsIn (layout row) 4 (now (bytes .entry)) ⌝ }
+{
+    if row.request {
+        return read_request(row, bytes);
+    }
+    read_any(row, bytes)
 }
 
 // The count of an array; 0 where the type has none.

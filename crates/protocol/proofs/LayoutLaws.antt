@@ -1,6 +1,7 @@
 -- Laws of fields over any list of them: their length and places, and that written fields are read.
 use Prim.Native.Nat.{ℕ, _+_, _^_, _<_}
 use borrow.Author.Tests.{eq-eqb, eqb-true, ne-eqb}
+use lib.Dec.{lit<}
 use lib.ListN.{length, getD, length-append}
 use mathlib.Core.Bool.{true, false, false≢true, or-true}
 use mathlib.Core.List.{List, [], _∷_, _++_, append-assoc, map}
@@ -9,8 +10,10 @@ use mathlib.Core.Path.{_≡_, refl, sym, ap, ap₂, _∙_}
 use native.Mathlib.Omega.{arith}
 use Rattle.laws.specs.Choose.{pick}
 use Rattle.protocol.specs.FieldNumbers.{fieldBytes, fieldsIn, numberAt, numberIn, numberOf, numberThere}
-use Rattle.protocol.specs.Layout.{Field, count, credit-request, fields, has, isOwn, msg-id, msg-length, multiuse, ordinal, padding, placeIn, recv-id, recv-length, sameField, seg-length, seg-offset, select, send-id, tag, width, widths}
+use Rattle.protocol.specs.Layout.{Field, count, credit-request, fields, has, isOwn, layout, msg-id, msg-length, multiuse, ordinal, padding, placeIn, placeOf, recv-id, recv-length, sameField, seg-length, seg-offset, select, send-id, tag, width, widths}
 use Rattle.protocol.specs.RoundTrip.{Numbers}
+use Rattle.protocol.specs.Rules.{Sound}
+use Rattle.protocol.specs.declared.table.TypeRow.{TypeRow}
 use Rattle.protocol.specs.declared.types.Header.{Header}
 use Rattle.wire.specs.LittleEndian.{leBytes}
 use Rattle.laws.proofs.Choosing.{allTrue, and-left, and-right, pick-false, pick-true, tested}
@@ -167,3 +170,12 @@ pub map-among : (u v : Field → ℕ) (gs fs : List Field) → map u gs ≡ map 
 map-among u v gs [] e m = refl
 map-among u v gs (f ∷ fs) e m =
     ap₂ _∷_ (map-has u v gs f e (and-left (has f gs) _ m)) (map-among u v gs fs e (and-right (has f gs) _ m))
+
+-- the number of a field of a row is that at its place
+pub read-there : (r : TypeRow) (bs : List ℕ) (f : Field) → Sound r → numberThere (placeOf r f) (width f) bs ≡ numberAt (layout r) 4 bs f
+read-there r bs f s = ap (λ (p : ℕ). numberThere p (width f) bs) (sym (s .placed f)) ∙ sym (number-there (layout r) 4 bs f (lit< tt))
+
+-- a field that the row has not reads 0
+pub read-none : (r : TypeRow) (bs : List ℕ) (f : Field) → Sound r → placeOf r f ≡ 0 → numberAt (layout r) 4 bs f ≡ 0
+unfolding numberThere pick
+read-none r bs f s e = sym (read-there r bs f s) ∙ ap (λ (p : ℕ). numberThere p (width f) bs) e

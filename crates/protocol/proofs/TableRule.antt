@@ -133,7 +133,17 @@ checks r =
     ∷ eqb (bitAnd (r .must) (r .may)) 0
     ∷ eqb (r .may) (flagsTaken r)
     ∷ ltb (r .must + flagSum options) (2 ^ 16)
+    ∷ (not (r .request) || (eqb (placeOf r recv-id) 0 && (eqb (placeOf r seg-length) 0 && eqb (placeOf r recv-length) 0)))
     ∷ []
+
+-- what a request has not
+request-has : (q : Bool) (a b c : ℕ) → (not q || (eqb a 0 && (eqb b 0 && eqb c 0))) ≡ true → q ≡ true → (a ≡ 0) × (b ≡ 0) × (c ≡ 0)
+request-has false a b c h e = absurd (false≢true e)
+request-has true a b c h e = (
+  eqb-true _ _ (and-left (eqb a 0) _ h),
+  eqb-true _ _ (and-left (eqb b 0) _ (and-right (eqb a 0) _ h)),
+  eqb-true _ _ (and-right (eqb b 0) _ (and-right (eqb a 0) _ h)),
+)
 
 -- no type of the table has a counted array
 pub no-array : (k : ℕ) (r : TypeRow) → rowOf k ≡ Row r → r .unit ≡ 0
@@ -157,6 +167,7 @@ sound k r e =
       apart = eqb-true _ _ (holds 11);
       may = eqb-true _ _ (holds 12);
       small = ltb-true _ _ (holds 13);
+      requestHas = request-has (r .request) _ _ _ (holds 14);
     }
   where
     holds : (i : ℕ) → getD (checks r) i true ≡ true

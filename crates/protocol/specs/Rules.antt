@@ -9,7 +9,7 @@ use Rattle.protocol.specs.declared.table.TypeRow.{TypeRow}
 use Rattle.protocol.specs.declared.sections.Sections.{Sections}
 use Rattle.protocol.specs.Optional.{cq-data, flagSum, flagged, flagsTaken, options}
 use Rattle.protocol.specs.Optional as Optional
-use Rattle.protocol.specs.Layout.{Field, count, distinct, layout, lengthPlace, multiuse, placeIn, placeOf, width, widths}
+use Rattle.protocol.specs.Layout.{count, distinct, Field, layout, lengthPlace, multiuse, placeIn, placeOf, recv-id, recv-length, seg-length, width, widths}
 
 -- the widths at which a connid behind the other optional headers is written
 abbrev pub NumberWidth : ℕ → Type 0
@@ -27,6 +27,8 @@ pub record Sound (r : TypeRow) : Type 0 where
   pub once : distinct (layout r) ≡ true
   -- the length is one of its fields
   pub lengthAt : r .«length_at» ≡ lengthPlace r
+  -- a request names no message by the receiver's number, and no segment or grant
+  pub requestHas : r .request ≡ true → (placeOf r recv-id ≡ 0) × (placeOf r seg-length ≡ 0) × (placeOf r recv-length ≡ 0)
   -- even a field that the type has not, at 0, would lie inside the header
   pub inside : (f : Field) → placeOf r f + width f ≤ r .header
   -- a count is a field of the types that have an array, and of no other
