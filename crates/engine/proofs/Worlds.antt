@@ -128,19 +128,10 @@ module _ (w : World) (g : Good w) (p : ℕ) (h : p < w .engine .n) where
     arena-fit : p * w .engine .area + f .at + length (f .bytes) ≤ length (w .arena)
     arena-fit = let (arena, map) = lengths in omega (arith, k .inArea, part-inside (w .engine .n) p (w .engine .area) h)
 
-    pub peer-own : peerAt (w′ .engine) p ≡ f .peer
-    unfolding putBack
-    peer-own = getD-set-same (w .engine .peers) p (f .peer) freshPeer in-peers
-
+    -- what others have is as it was
     pub peer-other : (q : ℕ) → (q ≡ p → ⊥) → peerAt (w′ .engine) q ≡ peerAt (w .engine) q
     unfolding putBack
     peer-other q d = getD-set-other (w .engine .peers) p q (f .peer) freshPeer d
-
-    pub words-own : wordsOf w′ p ≡ f .words
-    unfolding putBack
-    words-own =
-        ap (part (storeAt (w .map) (p * (w .engine .area / 64)) (f .words)) (p * (w .engine .area / 64))) (sym (k .words ∙ words))
-        ∙ part-store (w .map) (p * (w .engine .area / 64)) (f .words) (omega (arith, map-fit))
 
     pub words-other : (q : ℕ) → q < w .engine .n → (q ≡ p → ⊥) → wordsOf w′ q ≡ wordsOf w q
     unfolding putBack
@@ -149,6 +140,17 @@ module _ (w : World) (g : Good w) (p : ℕ) (h : p < w .engine .n) where
         part-apart (w .map) (p * (w .engine .area / 64)) (f .words) (q * (w .engine .area / 64)) (w .engine .area / 64) map-fit
         (omega (arith, part-inside (w .engine .n) q (w .engine .area / 64) l))
         (⊎-map (λ x. x) (λ x. omega (arith, k .words, words)) (parts-apart p q (w .engine .area / 64) d))
+
+    -- what the peer has is as its call left it
+    pub peer-own : peerAt (w′ .engine) p ≡ f .peer
+    unfolding putBack
+    peer-own = getD-set-same (w .engine .peers) p (f .peer) freshPeer in-peers
+
+    pub words-own : wordsOf w′ p ≡ f .words
+    unfolding putBack
+    words-own =
+        ap (part (storeAt (w .map) (p * (w .engine .area / 64)) (f .words)) (p * (w .engine .area / 64))) (sym (k .words ∙ words))
+        ∙ part-store (w .map) (p * (w .engine .area / 64)) (f .words) (omega (arith, map-fit))
 
     -- the byte at x of a peer's area
     pub byte-own : Wrote (w .engine .area) (byteIn w p) (byteIn w′ p) (f .at) (f .bytes)
