@@ -1,5 +1,5 @@
 -- The set-up and every call are refused by the first of their checks that fails: the statements of specs/Checks.antt.
-use Prim.Native.Nat.{ℕ, zero, suc, _+_, _*_, _/_, _%_, _^_, _≤_, _<_}
+use Prim.Native.Nat.{ℕ, zero, suc, _*_, _/_, _%_, _≤_, _<_}
 use borrow.Author.Tests.{ltb-true, ltb-false, leb-false, eqb-false}
 use lib.Dec.{leb, ltb, eqb}
 use lib.ListN.{length, getD, take}
@@ -7,10 +7,9 @@ use lib.Seq.{length-take-le, getD-take}
 use mathlib.Core.Bool.{Bool, true, false, _&&_, true≢false, and-false}
 use mathlib.Core.List.{List, [], _∷_, map}
 use mathlib.Core.Logic.{_⊎_, _↔_, inl, inr, ⊎-elim}
-use mathlib.Core.Path.{_≡_, refl, sym, ap, ap₂, _∙_, subst}
+use mathlib.Core.Path.{_≡_, refl, sym, ap, _∙_, subst}
 use native.Mathlib.Nat.{mul-assoc}
 use native.Mathlib.Omega.{arith}
-use Rattle.bitmap.specs.Map.{bit, bitAt}
 use Rattle.laws.specs.Choose.{pick}
 use Rattle.peer.specs.Calls.{Call, peerStep}
 use Rattle.peer.specs.CannotBe.{CannotBeIfAClauseIsBroken}
@@ -20,12 +19,11 @@ use Rattle.peer.specs.Claims.{AreBytes}
 use Rattle.peer.specs.Says.{Saying, said, say}
 use Rattle.peer.specs.State.{freshPeer, peerFits}
 use Rattle.peer.specs.declared.types.Peer.{Peer}
-use Rattle.engine.specs.Checks.{Fails, WithIds, Outside, SetUpFails, SetUpIsChecked, TurnsAreChecked, WordsAreTheAreasBits, WrongLengths, cannotBe, checksAt, highLimit, longArea, lowLimit, manyPeers, noPeer, numberOf, own, readySays, shortArea, unevenArea}
+use Rattle.engine.specs.Checks.{Fails, WithIds, Outside, SetUpFails, SetUpIsChecked, TurnsAreChecked, WrongLengths, cannotBe, checksAt, highLimit, longArea, lowLimit, manyPeers, noPeer, numberOf, own, readySays, shortArea, unevenArea}
 use Rattle.engine.specs.SetUp.{Prepared, allPeersFit, engineFits, lentFits, numbersFit, peerAt, setUp}
 use Rattle.engine.specs.Steps.{World, callTurn, peerTurn, putBack, wordsOf}
 use Rattle.laws.proofs.Choosing.{and-left, and-right, branch, tested}
 use Rattle.laws.proofs.Comparing.{both-tests, eq-words, le-words}
-use Rattle.laws.proofs.Reading.{getD-part}
 use Rattle.peer.proofs.AcceptOrRefuse.{step-checked}
 use Rattle.peer.proofs.CannotBeLaws.{and-fails, cannot-be-if-a-clause-is-broken}
 use Rattle.peer.proofs.FirstLaws.{Gone, gone-as, gone-refused}
@@ -240,15 +238,3 @@ module _ (w : World) (p : ℕ) (c : Call) (held : WithIds (w .engine)) (b : AreB
 pub turns-are-checked : TurnsAreChecked
 unfolding TurnsAreChecked
 turns-are-checked w p c held b = gone-refused (Fails w p) numberOf (checksAt c) (said (callTurn w p c .answer)) (turn-gone w p c held b)
-
--- ---- the peer's words
-
-pub words-are-the-areas-bits : WordsAreTheAreasBits
-unfolding WordsAreTheAreasBits bitAt bit
-words-are-the-areas-bits w p x z l =
-    let k : ℕ = w .engine .area / 64 in
-    let product : p * w .engine .area ≡ p * k * 64 = ap (λ (a : ℕ). p * a) (omega arith) ∙ sym (mul-assoc p k 64) in
-    let place : p * k + x / 64 ≡ (p * w .engine .area + x) / 64 = omega (arith, product) in
-    let within : x % 64 ≡ (p * w .engine .area + x) % 64 = omega (arith, product) in
-    ap₂ (λ (word n : ℕ). word / 2 ^ n % 2)
-    (getD-part (w .map) (p * k) k (x / 64) 0 (omega arith) ∙ ap (λ (j : ℕ). getD (w .map) j 0) place) within

@@ -1,5 +1,8 @@
+pub mod AreaBits
 pub mod Worlds
 pub mod CheckLaws
+pub mod OthersHold
+pub mod WorldTurns
+pub mod EngineChecked
 pub mod PutBack
 pub mod WordsHold
-pub mod EngineChecked

@@ -1,5 +1,5 @@
 -- The engine's checks in 01's own words: those of the set-up (1), and of a call 2, 3 and 4, in front of the peer's own. A call is refused by the
--- first that fails, and by none exactly if it is not refused. Proved in proofs/EngineChecked.antt.
+-- first that fails, and by none exactly if it is not refused. Proved in proofs/EngineChecked.antt and proofs/AreaBits.antt.
 use Prim.Native.Nat.{ℕ, _+_, _*_, _/_, _%_, _^_, _≤_, _<_}
 use lib.ListN.{length, getD}
 use mathlib.Core.List.{List, _∷_, map}

@@ -13,8 +13,9 @@ use Rattle.engine.specs.Steps.{World, callTurn, refusedTurn}
 use Rattle.engine.specs.declared.types.Engine.{Engine}
 use Rattle.engine.specs.declared.types.Gate.{Gate}
 use Rattle.engine.proofs.CheckLaws.{Gated, Passed, fit-numbers, gate-open, opened, small, through}
-use Rattle.engine.proofs.WordsHold.{checked-good}
-use Rattle.engine.proofs.Worlds.{Good, good-called, good-fits}
+use Rattle.engine.proofs.OthersHold.{checked-good}
+use Rattle.engine.proofs.WorldTurns.{good-called}
+use Rattle.engine.proofs.Worlds.{Good, good-fits}
 use Rattle.protocol.specs.declared.types.Refusal.{Refusal}
 use Rattle.engine.specs.InWords.{Eights}
 

@@ -27,7 +27,8 @@ use Rattle.peer.specs.Refusing.{among, refusalsOf}
 use Rattle.peer.specs.State.{freshPeer}
 use Rattle.peer.specs.declared.types.Answer.{Answer}
 use Rattle.peer.specs.declared.types.Peer.{Peer}
-use Rattle.engine.proofs.Worlds.{Good, lent-lengths, part-inside, turn-none, turn-own}
+use Rattle.engine.proofs.WorldTurns.{turn-none, turn-own}
+use Rattle.engine.proofs.Worlds.{Good, lent-lengths, part-inside}
 use Rattle.guarantees.proofs.SetUps.{fresh-good, good-after}
 use Rattle.laws.proofs.Choosing.{branch, clashing}
 use Rattle.laws.proofs.Storing.{store-nothing, store-own}

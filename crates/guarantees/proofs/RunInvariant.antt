@@ -24,7 +24,7 @@ use Rattle.engine.specs.Leaves.{world}
 use Rattle.engine.specs.SetUp.{numbersFit}
 use Rattle.engine.specs.Steps.{Turn, World, putBack, refusedTurn, withPeer, wordsOf}
 use Rattle.engine.specs.declared.types.Gate.{Gate}
-use Rattle.engine.proofs.Worlds.{turn-own}
+use Rattle.engine.proofs.WorldTurns.{turn-own}
 use Rattle.guarantees.specs.Outputs.{RunLeaves, outputOf, repliesAfter, requestsOf}
 use Rattle.guarantees.specs.Runs.{requestOf, turnOf, worldAfter}
 use Rattle.guarantees.proofs.CheckedOnce.{CheckedOnce, once-good, once-in-peers, once-passed, once-shut, once-turn}

@@ -14,7 +14,8 @@ use Rattle.guarantees.specs.Runs.{Request, freshWorld, turnOf, worldAfte
 use Rattle.peer.specs.State.{freeSlot, freshPeer, slotCount}
 use Rattle.peer.specs.declared.types.Peer.{Peer}
 use Rattle.engine.proofs.WordsHold.{fresh-peer, ready-fits}
-use Rattle.engine.proofs.Worlds.{Good, good-called}
+use Rattle.engine.proofs.WorldTurns.{good-called}
+use Rattle.engine.proofs.Worlds.{Good}
 use Rattle.laws.proofs.Choosing.{branch}
 use Rattle.peer.proofs.Steps.{fresh-valid}
 use Rattle.peer.proofs.Valid.{Valid}

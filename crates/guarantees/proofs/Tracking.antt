@@ -24,7 +24,9 @@ use Rattle.peer.specs.Plain.{Plain, Target}
 use Rattle.peer.specs.Starts.{noteStart}
 use Rattle.peer.specs.declared.types.Answer.{Answer}
 use Rattle.peer.specs.declared.types.Peer.{Peer}
-use Rattle.engine.proofs.Worlds.{Good, byte-other, byte-own, byteIn, good-turn, kept, lent-lengths, part-inside, peer-other, peer-own, turn-none, turn-own, words-cover, words-other, words-own}
+use Rattle.engine.proofs.OthersHold.{others-same}
+use Rattle.engine.proofs.WorldTurns.{byte-own, good-turn, peer-other, peer-own, turn-none, turn-own, words-other, words-own}
+use Rattle.engine.proofs.Worlds.{Good, byteIn, kept, lent-lengths, part-inside, words-cover}
 use Rattle.laws.proofs.Reading.{getD-part}
 use Rattle.laws.proofs.Storing.{length-part, part-store}
 use Rattle.peer.proofs.Agreement.{Agrees, meets, mirrors}
@@ -243,7 +245,7 @@ module _ (p : ℕ) (w : World) (starts : List ℕ) (l : Plain) (t : Tracks p w s
               agrees = subst₂ (λ (x : Peer) (ws : List ℕ). Agrees x ws (byteIn (putBack w (q .peer) f .world) p) l)
                   (sym (peer-other w (t .good) (q .peer) h f k p e)) (sym (words-other w (t .good) (q .peer) h f k p (t .below) e))
                   (agrees-kept (w .engine .area) (peerAt (w .engine) p) (wordsOf w p) (byteIn w p) (byteIn (putBack w (q .peer) f .world) p) l (t .good .each p (t .below))
-                  (byte-other w (t .good) (q .peer) h f k p e) (t .agrees));
+                  (others-same w (t .good) (q .peer) h f k p e .bytes) (t .agrees));
               from = subst (λ (x : Peer). Starts (x .slots) starts) (sym (peer-other w (t .good) (q .peer) h f k p e)) (t .from);
             };
             area = refl;

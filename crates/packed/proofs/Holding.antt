@@ -34,7 +34,8 @@ use Rattle.peer.proofs.Verdicts.{continued-at}
 use Rattle.peer.proofs.StepCases.{StepCase, begins, cancelled, continues, posted, refused, reported, step-case, truncated}
 use Rattle.engine.specs.SetUp.{engineOf, peerAt, peerCount}
 use Rattle.engine.specs.Steps.{Turn, World, callTurn, putBack, wordsOf}
-use Rattle.engine.proofs.Worlds.{Good, good-called, sized, turn-none, turn-own}
+use Rattle.engine.proofs.WorldTurns.{good-called, turn-none, turn-own}
+use Rattle.engine.proofs.Worlds.{Good, sized}
 use Rattle.lending.specs.Acts.{actOf, callOf}
 use Rattle.guarantees.specs.Outputs.{requestsOf}
 use Rattle.guarantees.specs.Runs.{turnOf, worldAfter}
