@@ -92,9 +92,14 @@ fn typed(row: TypeRow, bytes: &[u8]) -> Read
     if !flags::fit(row, flags) {
         return refused(BAD_FLAGS);
     }
+    // each arm returns: what arms give to their match is held once more before it is returned
     match sections::find(row, flags, bytes) {
-        Extent::Cut => refused(CUT_SHORT),
-        Extent::Whole(at) => whole(row, flags, bytes, at),
+        Extent::Cut => {
+            return refused(CUT_SHORT);
+        }
+        Extent::Whole(at) => {
+            return whole(row, flags, bytes, at);
+        }
     }
 }
 
@@ -112,8 +117,12 @@ fn among(bytes: &[u8], limit: usize, all: bool) -> Read
         return refused(BAD_VERSION);
     }
     match table::find_among(bytes[0], all) {
-        Found::Unknown => refused(BAD_TYPE),
-        Found::Row(row) => typed(row, bytes),
+        Found::Unknown => {
+            return refused(BAD_TYPE);
+        }
+        Found::Row(row) => {
+            return typed(row, bytes);
+        }
     }
 }
 

@@ -78,6 +78,12 @@ enum-told c = search needs
 refused-requires-4 : tie.Need-refused-requires-4
 refused-requires-4 c κs = search needs
 
+returns-4 : tie.Need-returns-4
+unfolding readTyped
+returns-4 c =
+    let f = c .before .before .before in
+    rw (passed (f .before), ← f .find-among .ensures, c .before .enum-told .given .1, c .refused4 .ensures)
+
 enum-known-row : tie.Need-enum-known-row
 enum-known-row c = search needs
 
@@ -85,12 +91,6 @@ typed-requires : tie.Need-typed-requires
 typed-requires c κs =
     let e = sym (c .before .before .before .find-among .ensures) ∙ c .before .row .given .1 in
     (sound _ _ (admitted _ _ _ e), omega arith)
-
-returns-4 : tie.Need-returns-4
-unfolding readTyped
-returns-4 c =
-    let f = c .before .before .before in
-    rw (passed (f .before), ← f .find-among .ensures, c .before .enum-told .given .1, c .refused4 .ensures)
 
 returns-5 : tie.Need-returns-5
 unfolding readTyped
@@ -113,7 +113,7 @@ among-spec =
     find-among-requires
     enum-told
     refused-requires-4
+    returns-4
     enum-known-row
     typed-requires
-    returns-4
     returns-5)

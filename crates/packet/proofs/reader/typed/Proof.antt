@@ -43,6 +43,12 @@ enum-told c = search needs
 refused-requires-2 : tie.Need-refused-requires-2
 refused-requires-2 c κs = search needs
 
+returns-2 : tie.Need-returns-2
+unfolding readSections
+returns-2 c =
+    let f = c .before .before .before in
+    rw (passed (f .before), ← f .find .ensures, c .before .enum-told .given .1, c .refused2 .ensures)
+
 enum-known-at : tie.Need-enum-known-at
 enum-known-at c = search needs
 
@@ -50,12 +56,6 @@ whole-requires : tie.Need-whole-requires
 whole-requires c κs =
     let s = c .before .before .before .before .before .before .before .before .pre .0 in
     (s, extent-inside _ _ _ _ s (sym (c .before .before .before .find .ensures) ∙ c .before .at .given .1))
-
-returns-2 : tie.Need-returns-2
-unfolding readSections
-returns-2 c =
-    let f = c .before .before .before in
-    rw (passed (f .before), ← f .find .ensures, c .before .enum-told .given .1, c .refused2 .ensures)
 
 returns-3 : tie.Need-returns-3
 unfolding readSections
@@ -74,7 +74,7 @@ typed-spec =
     find-requires
     enum-told
     refused-requires-2
+    returns-2
     enum-known-at
     whole-requires
-    returns-2
     returns-3)
