@@ -118,7 +118,7 @@ read-held limit bs q b e =
       creditRequest = numbers .fields Field.credit-request;
     }
 
-settled-held : (limit : ℕ) (p : Peer) (i : ℕ) (o : Inbound) (g : Progress) → PeerHeld p → MessageHeld (o .message) → PeerHeld (settledAs limit p i o g .peer)
+settled-held : (limit : ℕ) (p : Peer) (i : ℕ) (o : Inbound) (g : Progress) → PeerHeld p → MessageHeld (o .message) → PeerHeld (withPhase p i (settledAs limit i o g .phase))
 unfolding settledAs
 settled-held limit p i o Progress.Whole h m = with-held p i Phase.Free h free-held
 settled-held limit p i o Progress.Due h m =
@@ -145,7 +145,7 @@ step-held area limit p ws c h b = go (step-case area limit p ws c) b
     go (posted r i v x y) b = placed-held p r i h
     go (cancelled i x y) b = with-held p i Phase.Free h free-held
     go (reported i o e) b = h
-    go (truncated bs room q a i x) b = advance-held (withPhase p i Phase.Free) (with-held p i Phase.Free h free-held)
+    go (truncated bs room q a i x) b = with-held (advance p) i Phase.Free (advance-held p h) free-held
     go (begins bs room q a i r x) b =
         let y = read-held limit bs q b (a .reads) in
         settled-held limit (advance p) i (opened r (incomingOf q)) _ (advance-held p h)

@@ -19,7 +19,7 @@ use Rattle.protocol.specs.declared.types.Refusal.{Refusal}
 use Rattle.peer.specs.Calls.{Call, cancel, cancelAt, cancelEffect, missingIn, packet, packetEffect, peerStep, placed, placedIn, post, postEffect, readEffect, report, reportAt, reportEffect}
 use Rattle.peer.specs.Claims.{takes}
 use Rattle.peer.specs.Coverage.{Segment, allOf, covers}
-use Rattle.peer.specs.Effects.{Effect, accept, advance, begun, carry, grantOf, opened, progressOf, quiet, refuse, settledAs, truncatedAt, withPhase}
+use Rattle.peer.specs.Effects.{Effect, accept, advance, begun, carry, grantOf, inSlot, opened, progressOf, quiet, refuse, settledAs, truncatedAt, withPhase}
 use Rattle.peer.specs.Expected.{Ruling, accepting, anyOverlap, expectAgain, expectCancel, expectData, expectFit, expectFound, expectMore, expectNew, expectPacket, expectPlace, expectPost, expectRead, expectReport, expectTaken, expected, lowestIdle, refusing, targetOfCall}
 use Rattle.peer.specs.Formed.{Formed}
 use Rattle.peer.specs.Incomings.{incomingOf, isLong, isRtm}
@@ -98,23 +98,23 @@ pub data Meets (area limit : ℕ) (p : Peer) (ws : List ℕ) (l : Plain) : Call 
   truncated : (bs : List ℕ) (room : ℕ) (q : Packet) → Arrives limit bs room q → (i : ℕ) → CutOff p (incomingOf q) i
       → (t : Target) → t .index ≡ i → t .matched ≡ true → Meets area limit p ws l (packet bs room) (truncatedAt p ws i (incomingOf q)) t
   begins : (bs : List ℕ) (room : ℕ) (q : Packet) → Arrives limit bs room q → (i : ℕ) (r : Receive) → Begins p (incomingOf q) i r
-      → Meets area limit p ws l (packet bs room) (begun limit p ws i r (incomingOf q) (dataOf bs q))
+      → Meets area limit p ws l (packet bs room) (inSlot (advance p) i (begun limit ws i r (incomingOf q) (dataOf bs q)))
       (begunAt (incomingOf q) i r (entryAt (l .entries) i .serial) (segmentOf (incomingOf q) (dataOf bs q)))
   continues : (bs : List ℕ) (room : ℕ) (q : Packet) → Arrives limit bs room q → (i : ℕ) (o : Inbound) → Continues p ws (incomingOf q) i o
-      → Meets area limit p ws l (packet bs room) (accept limit p ws i o (incomingOf q .offset) (dataOf bs q))
+      → Meets area limit p ws l (packet bs room) (inSlot p i (accept limit ws i o (incomingOf q .offset) (dataOf bs q)))
       (moreAt l i (segmentOf (incomingOf q) (dataOf bs q)))
 
 -- ---- an accepted segment
 
 -- the words have the bits of the segments gs
-pub taken-answer : (limit : ℕ) (p : Peer) (i : ℕ) (o : Inbound) (ws : List ℕ) (gs : List Segment) → o .message .granted ≤ o .message .length
-    → Bits ws (o .receive .start) (o .message .length) gs → settledAs limit p i o (progressOf ws o) .answer ≡ expectTaken limit i o gs
+pub taken-answer : (limit i : ℕ) (o : Inbound) (ws : List ℕ) (gs : List Segment) → o .message .granted ≤ o .message .length
+    → Bits ws (o .receive .start) (o .message .length) gs → settledAs limit i o (progressOf ws o) .answer ≡ expectTaken limit i o gs
 unfolding progressOf expectTaken settledAs
-taken-answer limit p i o ws gs g b =
+taken-answer limit i o ws gs g b =
     in-step A Progress.Whole _ _ _ whole (λ x. refl) (λ x. rest (isLong (o .message .shape)) (ltb-short x))
   where
     A : Progress → Answer
-    A d = settledAs limit p i o d .answer
+    A d = settledAs limit i o d .answer
 
     len : ℕ
     len = o .message .length
@@ -188,8 +188,8 @@ module _ (area limit : ℕ) (p : Peer) (ws : List ℕ) (l : Plain) (v : Valid ar
     more-ruled i o e fit =
         beside Ruled _ _ _ _ (touched-cover ws (covers gs) (o .receive .start) (o .message .length) own (h .offset) (h .size) fit) (λ x. refused-ruled repeated)
         (λ x. unfold Ruled Aimed carry accept in (
-          taken _ _ (settled-takes limit p i o _) (expect-takes limit i o (segmentOf h bytes ∷ gs))
-              (λ words. taken-answer limit p i o (marked ws (o .receive .start + h .offset) (length bytes)) (segmentOf h bytes ∷ gs) (within .inLength)
+          taken _ _ (settled-takes limit i o _) (expect-takes limit i o (segmentOf h bytes ∷ gs))
+              (λ words. taken-answer limit i o (marked ws (o .receive .start + h .offset) (length bytes)) (segmentOf h bytes ∷ gs) (within .inLength)
               (more-bits ws h bytes o gs (omega (arith, within .inArea, within .inRange)) own)),
           refl,
         ))
@@ -227,8 +227,8 @@ module _ (area limit : ℕ) (p : Peer) (ws : List ℕ) (l : Plain) (v : Valid ar
         → Ruled (Verdict.Begin i r) (accepting limit (opened r h) (begunAt h i r (entryAt (l .entries) i .serial) (segmentOf h bytes)))
     unfolding Ruled Aimed carry begun accept
     begun-ruled i r a at rtm short = (
-      taken _ _ (settled-takes limit (advance p) i (opened r h) _) (expect-takes limit i (opened r h) (segmentOf h bytes ∷ []))
-          (λ words. taken-answer limit (advance p) i (opened r h) (marked (cleared ws (r .start) (r .capacity)) (r .start + h .offset) (length bytes))
+      taken _ _ (settled-takes limit i (opened r h) _) (expect-takes limit i (opened r h) (segmentOf h bytes ∷ []))
+          (λ words. taken-answer limit i (opened r h) (marked (cleared ws (r .start) (r .capacity)) (r .start + h .offset) (length bytes))
           (segmentOf h bytes ∷ []) (omega (arith, form .inside rtm))
           (more-bits (cleared ws (r .start) (r .capacity)) h bytes (opened r h) []
           (omega (arith, posted-within area r a (ap (phaseFits area) (sym at) ∙ v .each i), length-cleared ws (r .start) (r .capacity)))

@@ -13,7 +13,6 @@ use Rattle.peer.specs.Expected.{expectTaken}
 use Rattle.peer.specs.Says.{refused, said}
 use Rattle.peer.specs.declared.types.Answer.{Answer}
 use Rattle.peer.specs.declared.types.Inbound.{Inbound}
-use Rattle.peer.specs.declared.types.Peer.{Peer}
 use Rattle.peer.specs.declared.types.Progress.{Progress}
 use Rattle.laws.proofs.Choosing.{pick-either}
 
@@ -102,11 +101,11 @@ takes-unrefused (Answer.Truncated slot id n) e x = let z : _≡_ {A = ℕ} 0 1 =
 takes-unrefused (Answer.Missing received first) e x = false≢true e
 
 -- that of an accepted segment does
-pub settled-takes : (limit : ℕ) (p : Peer) (i : ℕ) (o : Inbound) (g : Progress) → takes (settledAs limit p i o g .answer) ≡ true
+pub settled-takes : (limit i : ℕ) (o : Inbound) (g : Progress) → takes (settledAs limit i o g .answer) ≡ true
 unfolding settledAs
-settled-takes limit p i o Progress.Whole = refl
-settled-takes limit p i o Progress.Due = refl
-settled-takes limit p i o Progress.Partial = refl
+settled-takes limit i o Progress.Whole = refl
+settled-takes limit i o Progress.Due = refl
+settled-takes limit i o Progress.Partial = refl
 
 pub expect-takes : (limit i : ℕ) (o : Inbound) (gs : List Segment) → takes (expectTaken limit i o gs) ≡ true
 unfolding expectTaken

@@ -13,7 +13,7 @@ use native.Mathlib.Omega.{arith}
 use Rattle.bitmap.specs.Map.{bitAt, cleared, marked}
 use Rattle.peer.specs.Calls.{packet}
 use Rattle.peer.specs.Coverage.{Segment, covers, inside}
-use Rattle.peer.specs.Effects.{extended, grantOf, opened, settledAs}
+use Rattle.peer.specs.Effects.{extended, grantOf, opened, settledAs, withPhase}
 use Rattle.peer.specs.Formed.{Formed}
 use Rattle.peer.specs.Plain.{Entry, Plain, Target, begunEntry, enterAt, entryAt, extendedRole, grantedEntry, grown, nextAfter, noEntry, receiving, segmentOf}
 use Rattle.peer.specs.State.{clash, freeSlot, overlap, phaseAt, phaseFits, slotWith}
@@ -208,7 +208,7 @@ held-wider m h = record { bits = h .bits; below = λ long k c. omega (arith, h .
 pub settled-agrees : (area limit : ℕ) (p : Peer) (n : ℕ) (ws ws′ : List ℕ) (mem mem′ : ℕ → ℕ) (l : Plain) (bs : List ℕ) (room i : ℕ) (o : Inbound) (t : Target) (g : Progress)
     → Agrees p ws mem l
     → n ≡ nextAfter l t → t .index ≡ i → Taken area p ws′ mem′ l i o (t .entry)
-    → Agrees (settledAs limit (record { next = n; slots = p .slots }) i o g .peer) ws′ mem′ (enterAt l (packet bs room) t (settledAs limit (record { next = n; slots = p .slots }) i o g .answer))
+    → Agrees (withPhase (record { next = n; slots = p .slots }) i (settledAs limit i o g .phase)) ws′ mem′ (enterAt l (packet bs room) t (settledAs limit i o g .answer))
 unfolding settledAs
 settled-agrees area limit p n ws ws′ mem mem′ l bs room i o t Progress.Whole a en ei k =
     rw ei

@@ -9,7 +9,7 @@ use mathlib.Core.Path.{_≡_, refl, sym, ap, ap₂, _∙_, subst}
 use native.Mathlib.Omega.{arith}
 use Rattle.bitmap.specs.Map.{cleared, marked}
 use Rattle.peer.specs.Calls.{Call, countOlder, countPosted, missingIn, peerStep, placed, renumbered, renumberedPhase, someInTheWay}
-use Rattle.peer.specs.Effects.{Effect, accept, advance, begun, extended, grantOf, opened, progressOf, quiet, settledAs, truncatedAt, withPhase}
+use Rattle.peer.specs.Effects.{Effect, accept, advance, begun, extended, grantOf, inSlot, opened, progressOf, quiet, settledAs, truncatedAt, withPhase}
 use Rattle.peer.specs.Formed.{Formed}
 use Rattle.peer.specs.Incomings.{incomingOf}
 use Rattle.peer.specs.Matching.{vacancy}
@@ -81,28 +81,24 @@ unfolding grantOf
 grant-le limit m = omega arith
 
 settled-kept : (area limit : ℕ) (p : Peer) (i : ℕ) (o : Inbound) (g : Progress) → Valid area (p .slots) → Standing area (p .slots) i o
-    → Valid area (settledAs limit p i o g .peer .slots) × (length (settledAs limit p i o g .peer .slots) ≡ length (p .slots))
+    → Valid area (withPhase p i (settledAs limit i o g .phase) .slots)
 unfolding settledAs
-settled-kept area limit p i o Progress.Whole v s = (valid-free area (p .slots) i (s .inSlots) v, length-set (p .slots) i _)
-settled-kept area limit p i o Progress.Due v s = (
-  valid-set area (p .slots) i (Phase.Open (extended (grantOf limit (o .message)) o)) (s .inSlots) v
-      (within-open area (extended (grantOf limit (o .message)) o)
-      (record { inArea = s .within .inArea; inRange = s .within .inRange; inLength = omega (arith, s .within .inLength, grant-le limit (o .message)) }))
-      (λ k l n. clash-same o (extended (grantOf limit (o .message)) o) (phaseAt (p .slots) k) refl refl (s .apart k l n)),
-  length-set (p .slots) i _,
-)
-settled-kept area limit p i o Progress.Partial v s =
-    (valid-set area (p .slots) i (Phase.Open o) (s .inSlots) v (within-open area o (s .within)) (s .apart), length-set (p .slots) i _)
+settled-kept area limit p i o Progress.Whole v s = valid-free area (p .slots) i (s .inSlots) v
+settled-kept area limit p i o Progress.Due v s =
+    valid-set area (p .slots) i (Phase.Open (extended (grantOf limit (o .message)) o)) (s .inSlots) v
+    (within-open area (extended (grantOf limit (o .message)) o)
+    (record { inArea = s .within .inArea; inRange = s .within .inRange; inLength = omega (arith, s .within .inLength, grant-le limit (o .message)) }))
+    (λ k l n. clash-same o (extended (grantOf limit (o .message)) o) (phaseAt (p .slots) k) refl refl (s .apart k l n))
+settled-kept area limit p i o Progress.Partial v s = valid-set area (p .slots) i (Phase.Open o) (s .inSlots) v (within-open area o (s .within)) (s .apart)
 
 accept-kept : (area limit : ℕ) (p q : Peer) (ws ws′ : List ℕ) (i : ℕ) (o : Inbound) (offset : ℕ) (bytes : List ℕ) → Valid area (p .slots)
     → Standing area (p .slots) i o → length (p .slots) ≡ length (q .slots) → length ws ≡ length ws′ → offset + length bytes ≤ o .message .length
-    → Kept area q ws′ (accept limit p ws i o offset bytes)
+    → Kept area q ws′ (inSlot p i (accept limit ws i o offset bytes))
 unfolding accept
 accept-kept area limit p q ws ws′ i o offset bytes v s e d l =
-    let k = settled-kept area limit p i o (progressOf (marked ws (o .receive .start + offset) (length bytes)) o) v s in
     record {
-      valid = k .0;
-      slots = k .1 ∙ e;
+      valid = settled-kept area limit p i o (progressOf (marked ws (o .receive .start + offset) (length bytes)) o) v s;
+      slots = length-set (p .slots) i _ ∙ e;
       words = length-marked ws (o .receive .start + offset) (length bytes) ∙ d;
       inArea = omega (arith, s .within .inArea, s .within .inRange);
     }
@@ -184,7 +180,7 @@ step-kept area limit p ws c v e = go (step-case area limit p ws c)
     go (cancelled i l u) = freed (withPhase p i Phase.Free) i (Answer.Cancelled i) refl (omega arith)
     go (reported i o x) = quiet-kept area p p ws (missingIn ws o) v refl
     go (truncated bs room q a i j) =
-        freed (advance (withPhase p i Phase.Free)) i (Answer.Truncated i (incomingOf q .id) (incomingOf q .length)) refl
+        freed (withPhase (advance p) i Phase.Free) i (Answer.Truncated i (incomingOf q .id) (incomingOf q .length)) refl
         (chosen-at p (incomingOf q) i (j .receive) (j .matched) .0)
     go (begins bs room q a i r b) =
         let h : Incoming = incomingOf q in

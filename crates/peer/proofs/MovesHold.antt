@@ -15,7 +15,7 @@ use Rattle.protocol.specs.declared.types.Packet.{Packet}
 use Rattle.protocol.specs.declared.types.Read.{Read}
 use Rattle.peer.specs.Calls.{Call, countPosted, missingIn, packet, placed, renumbered, report}
 use Rattle.peer.specs.Coverage.{Segment}
-use Rattle.peer.specs.Effects.{Effect, accept, advance, begun, extended, grantOf, landed, opened, progressOf, quiet, settledAs, truncatedAt, withPhase}
+use Rattle.peer.specs.Effects.{Effect, accept, advance, begun, extended, grantOf, inSlot, opened, progressOf, quiet, settledAs, truncatedAt, withPhase}
 use Rattle.peer.specs.Formed.{Formed}
 use Rattle.peer.specs.InWords.{NothingFoundIsNoneOpen}
 use Rattle.peer.specs.Incomings.{incomingOf}
@@ -205,7 +205,7 @@ module _ (limit : ℕ) (p : Peer) (ws : List ℕ) (eight : length (p .slots) ≡
     q = record { next = n; slots = p .slots }
 
     abbrev Landed : Progress → Effect
-    Landed g = landed now at bytes (settledAs limit q i o g)
+    Landed g = inSlot q i (record { settled = settledAs limit i o g; words = now; at = at; bytes = bytes })
 
     -- a byte that is missing where all granted ones are in is beyond the granted end
     beyond : AllIn now o (o .message .granted) → SomeMissing now o (o .message .length) → o .message .granted < o .message .length
@@ -213,7 +213,7 @@ module _ (limit : ℕ) (p : Peer) (ws : List ℕ) (eight : length (p .slots) ≡
 
     -- slot i has the phase x from now on
     taking : (x : Phase) (a : Answer) (reply : List ℕ)
-        → Taking p ws (packet bs room) i o (landed now at bytes (record { peer = withPhase q i x; answer = a; reply = reply }))
+        → Taking p ws (packet bs room) i o (inSlot q i (record { settled = record { phase = x; answer = a; reply = reply }; words = now; at = at; bytes = bytes }))
     taking x a reply =
         record {
           text = bs;
@@ -289,7 +289,7 @@ module _ (limit : ℕ) (p : Peer) (ws : List ℕ) (eight : length (p .slots) ≡
     form : Formed (incomingOf q) (length (bytesAt bs (q .«data»)))
     form = read-formed limit bs q e
 
-    begun-moves : (i : ℕ) (r : Receive) → Begins p h i r → Moved limit p ws (packet bs room) (begun limit p ws i r h bytes) (begun limit p ws i r h bytes .answer)
+    begun-moves : (i : ℕ) (r : Receive) → Begins p h i r → Moved limit p ws (packet bs room) (inSlot (advance p) i (begun limit ws i r h bytes)) (begun limit ws i r h bytes .settled .answer)
     unfolding begun accept
     begun-moves i r b =
         settled-moves bs room i (opened r h) ((p .next + 1) % 4294967296) (r .start + h .offset) now bytes (chosen-at p h i r (b .matched) .0)
@@ -316,7 +316,7 @@ module _ (limit : ℕ) (p : Peer) (ws : List ℕ) (eight : length (p .slots) ≡
         now = marked mid (r .start + h .offset) (length bytes)
 
     more-moves : (i : ℕ) (o : Inbound) → Continues p ws h i o
-        → Moved limit p ws (packet bs room) (accept limit p ws i o (h .offset) bytes) (accept limit p ws i o (h .offset) bytes .answer)
+        → Moved limit p ws (packet bs room) (inSlot p i (accept limit ws i o (h .offset) bytes)) (accept limit ws i o (h .offset) bytes .settled .answer)
     unfolding accept
     more-moves i o c =
         settled-moves bs room i o (p .next) (o .receive .start + h .offset) now bytes (continued-at p ws h i o c .0)

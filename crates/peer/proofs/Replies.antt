@@ -21,7 +21,7 @@ use Rattle.peer.specs.Answers.{onDone, onGranted}
 use Rattle.peer.specs.Calls.{Call, cancel, packet, peerStep, placed, post, renumbered, renumberedPhase, report}
 use Rattle.peer.specs.Claims.{SegmentIn, WriteClaim}
 use Rattle.peer.specs.Coverage.{Segment, allOf, byteOf, covers}
-use Rattle.peer.specs.Effects.{Effect, accept, advance, begun, extended, grantOf, landed, opened, progressOf, settledAs, truncatedAt}
+use Rattle.peer.specs.Effects.{Effect, accept, advance, begun, extended, grantOf, inSlot, opened, progressOf, settledAs, truncatedAt, withPhase}
 use Rattle.peer.specs.Expected.{expectTaken, expectedReply, messageOf}
 use Rattle.peer.specs.Incomings.{incomingOf}
 use Rattle.peer.specs.Plain.{Plain, Role, Target, entryAt, segmentOf}
@@ -73,7 +73,7 @@ starts-set ss starts i f h s k =
         s .at j (ap isFree (sym there) ∙ u) ∙ sym (ap startOf there)
 
 starts-settled : (limit : ℕ) (p : Peer) (starts : List ℕ) (i : ℕ) (o : Inbound) (g : Progress) → i < length (p .slots) → Starts (p .slots) starts
-    → getD starts i 0 ≡ o .receive .start → Starts (settledAs limit p i o g .peer .slots) starts
+    → getD starts i 0 ≡ o .receive .start → Starts (withPhase p i (settledAs limit i o g .phase) .slots) starts
 unfolding settledAs
 starts-settled limit p starts i o Progress.Whole h s e = starts-set (p .slots) starts i Phase.Free h s (λ u. absurd (true≢false u))
 starts-settled limit p starts i o Progress.Due h s e = starts-set (p .slots) starts i (Phase.Open (extended (grantOf limit (o .message)) o)) h s (λ u. e)
@@ -164,7 +164,7 @@ taken-done limit i o gs = branch (Complete i o gs) _ _ _ (λ x. (refl, refl, x))
 module _ (area limit : ℕ) (p : Peer) (ws : List ℕ) (mem : ℕ → ℕ) (l : Plain) (starts : List ℕ) (q : Peer) (o : Inbound) (g : Segment) (gs : List Segment)
     (t : Target) (k : Taken area p ws mem l (t .index) o (t .entry)) (latest : t .entry .segments ≡ g ∷ gs) where
   settled : Progress → Effect
-  settled d = landed ws (o .receive .start + g .offset) (g .bytes) (settledAs limit q (t .index) o d)
+  settled d = inSlot q (t .index) (record { settled = settledAs limit (t .index) o d; words = ws; at = o .receive .start + g .offset; bytes = g .bytes })
 
   settled-reply : (d : Progress) → settled d .reply ≡ expectedReply t (settled d .answer)
   unfolding settled settledAs
@@ -178,7 +178,7 @@ module _ (area limit : ℕ) (p : Peer) (ws : List ℕ) (mem : ℕ → ℕ) (l : 
   settled-yields s fit =
       record {
         reply = settled-reply (progressOf ws o);
-        done = claim-from (settledAs limit q (t .index) o (progressOf ws o) .answer) (λ e x. tt) (λ e x. tt) (λ n e x. tt)
+        done = claim-from (settledAs limit (t .index) o (progressOf ws o) .answer) (λ e x. tt) (λ e x. tt) (λ n e x. tt)
             (λ j id n cq e x.
             let (slot, len, all) = x in
             let from : getD starts j 0 ≡ o .receive .start = ap (λ (m : ℕ). getD starts m 0) slot ∙ s in (
@@ -187,7 +187,7 @@ module _ (area limit : ℕ) (p : Peer) (ws : List ℕ) (mem : ℕ → ℕ) (l : 
                   ∙ k .own .content x (omega arith) (ap (covers (t .entry .segments)) (omega arith) ∙ all-at (covers (t .entry .segments)) 0 (o .message .length) x all (omega arith)),
             ))
             (λ i id n e x. tt)
-            (subst (Complete (t .index) o (t .entry .segments)) (sym (taken-answer limit q (t .index) o ws (t .entry .segments) (k .standing .within .inLength) (k .own .bits)))
+            (subst (Complete (t .index) o (t .entry .segments)) (sym (taken-answer limit (t .index) o ws (t .entry .segments) (k .standing .within .inLength) (k .own .bits)))
             (taken-done limit (t .index) o (t .entry .segments)));
         writes = accepted (progressOf ws o);
       }
@@ -207,7 +207,7 @@ module _ (area limit : ℕ) (p : Peer) (ws : List ℕ) (mem : ℕ → ℕ) (l : 
             inArea = k .standing .within .inArea;
           }
 
-      accepted : (d : Progress) → WriteClaim area t (settledAs limit q (t .index) o d .answer) (o .receive .start + g .offset) (g .bytes)
+      accepted : (d : Progress) → WriteClaim area t (settledAs limit (t .index) o d .answer) (o .receive .start + g .offset) (g .bytes)
       accepted Progress.Whole = unfold settledAs in placed-in
       accepted Progress.Due = unfold settledAs in placed-in
       accepted Progress.Partial = unfold settledAs in placed-in
@@ -260,11 +260,10 @@ pub step-replies : (area limit : ℕ) (p : Peer) (ws : List ℕ) (c : Call)
 unfolding truncatedAt begun accept
 step-replies area limit p ws c = go (step-case area limit p ws c)
   where
-    told : (room : ℕ) (q : Peer) (i : ℕ) (o : Inbound) (d : Progress) → 24 ≤ room
-        → Replying room (settledAs limit q i o d .reply) (settledAs limit q i o d .answer)
-    told room q i o Progress.Whole h = unfold settledAs in refl
-    told room q i o Progress.Due h = unfold settledAs in (length-cts _ _ _, h)
-    told room q i o Progress.Partial h = unfold settledAs in refl
+    told : (room i : ℕ) (o : Inbound) (d : Progress) → 24 ≤ room → Replying room (settledAs limit i o d .reply) (settledAs limit i o d .answer)
+    told room i o Progress.Whole h = unfold settledAs in refl
+    told room i o Progress.Due h = unfold settledAs in (length-cts _ _ _, h)
+    told room i o Progress.Partial h = unfold settledAs in refl
 
     go : {c : Call} {f : Effect} → StepCase area limit p ws c f → Replying (roomOf c) (f .reply) (f .answer)
     go (StepCase.refused c k m) = refl
@@ -272,5 +271,5 @@ step-replies area limit p ws c = go (step-case area limit p ws c)
     go (StepCase.cancelled i h u) = refl
     go (StepCase.reported i o e) = refl
     go (StepCase.truncated bs room q a i j) = refl
-    go (StepCase.begins bs room q a i r b) = told room (advance p) i (opened r (incomingOf q)) _ (a .roomy)
-    go (StepCase.continues bs room q a i o k) = told room p i o _ (a .roomy)
+    go (StepCase.begins bs room q a i r b) = told room i (opened r (incomingOf q)) _ (a .roomy)
+    go (StepCase.continues bs room q a i o k) = told room i o _ (a .roomy)

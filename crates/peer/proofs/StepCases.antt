@@ -21,7 +21,7 @@ use Rattle.protocol.specs.declared.types.Refusal.{Refusal}
 use Rattle.wire.specs.LittleEndian.{leAt}
 use Rattle.peer.specs.Calls.{Call, cancel, cancelAt, cancelEffect, missingIn, packet, packetEffect, peerStep, placed, placedIn, post, postEffect, readEffect, report, reportAt, reportEffect, someInTheWay}
 use Rattle.peer.specs.Claims.{takes}
-use Rattle.peer.specs.Effects.{Effect, accept, advance, begun, carry, opened, quiet, refuse, truncatedAt, withPhase}
+use Rattle.peer.specs.Effects.{Effect, accept, advance, begun, carry, inSlot, opened, quiet, refuse, truncatedAt, withPhase}
 use Rattle.peer.specs.Incomings.{incomingOf}
 use Rattle.peer.specs.Judging.{judge}
 use Rattle.peer.specs.Matching.{vacancy}
@@ -57,9 +57,9 @@ pub data StepCase (area limit : ℕ) (p : Peer) (ws : List ℕ) : Call → Effec
   truncated : (bs : List ℕ) (room : ℕ) (q : Packet) → Arrives limit bs room q → (i : ℕ) → CutOff p (incomingOf q) i
       → StepCase area limit p ws (packet bs room) (truncatedAt p ws i (incomingOf q))
   begins : (bs : List ℕ) (room : ℕ) (q : Packet) → Arrives limit bs room q → (i : ℕ) (r : Receive) → Begins p (incomingOf q) i r
-      → StepCase area limit p ws (packet bs room) (begun limit p ws i r (incomingOf q) (dataOf bs q))
+      → StepCase area limit p ws (packet bs room) (inSlot (advance p) i (begun limit ws i r (incomingOf q) (dataOf bs q)))
   continues : (bs : List ℕ) (room : ℕ) (q : Packet) → Arrives limit bs room q → (i : ℕ) (o : Inbound) → Continues p ws (incomingOf q) i o
-      → StepCase area limit p ws (packet bs room) (accept limit p ws i o (incomingOf q .offset) (dataOf bs q))
+      → StepCase area limit p ws (packet bs room) (inSlot p i (accept limit ws i o (incomingOf q .offset) (dataOf bs q)))
 
 -- ---- the reader's refusals
 
@@ -144,5 +144,5 @@ step-refusing area limit p ws c = go (step-case area limit p ws c)
     go (cancelled i l u) k x = absurd (let z : _≡_ {A = ℕ} 0 1 = cc in omega arith)
     go (reported i o e) k x = absurd (let z : _≡_ {A = ℕ} 0 1 = cc in omega arith)
     go (truncated bs room q a i j) k x = absurd (let z : _≡_ {A = ℕ} 0 1 = cc in omega arith)
-    go (begins bs room q a i r b) k x = clashing _ (settled-takes limit (advance p) i (opened r (incomingOf q)) _) (ap takes x)
-    go (continues bs room q a i o j) k x = clashing _ (settled-takes limit p i o _) (ap takes x)
+    go (begins bs room q a i r b) k x = clashing _ (settled-takes limit i (opened r (incomingOf q)) _) (ap takes x)
+    go (continues bs room q a i o j) k x = clashing _ (settled-takes limit i o _) (ap takes x)

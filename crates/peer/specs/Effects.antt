@@ -93,60 +93,72 @@ extended n o =
       };
     }
 
--- the peer, the answer and the reply packet
+-- what a segment makes of its message: the phase of its slot, the answer and the reply packet
 pub record Settled : Type 0 where
-  pub peer : Peer
+  pub phase : Phase
   pub answer : Answer
   pub reply : List ℕ
 
 -- "Done frees the slot and leaves the bits"
-abbrev pub finished : Peer → ℕ → Inbound → Settled
-finished p i o =
-    record {
-      peer = withPhase p i Phase.Free;
-      answer = Answer.Done i (o .message .id) (o .message .length) (o .message .«cq_data»);
-      reply = [];
-    }
+abbrev pub finished : ℕ → Inbound → Settled
+finished i o =
+    record { phase = Phase.Free; answer = Answer.Done i (o .message .id) (o .message .length) (o .message .«cq_data»); reply = [] }
 
 -- "gets a CTS in the first 24 reply bytes .. and answers granted"; "recv_id is the message's id"
-abbrev pub granting : ℕ → Peer → ℕ → Inbound → Settled
-granting limit p i o =
+abbrev pub granting : ℕ → Inbound → Settled
+granting limit o =
     record {
-      peer = withPhase p i (Phase.Open (extended (grantOf limit (o .message)) o));
+      phase = Phase.Open (extended (grantOf limit (o .message)) o);
       answer = Answer.Granted (grantOf limit (o .message));
       reply = ctsBytes (o .message .«send_id») (o .message .id) (grantOf limit (o .message));
     }
 
-abbrev pub holding : Peer → ℕ → Inbound → Settled
-holding p i o = record { peer = withPhase p i (Phase.Open o); answer = Answer.Stored; reply = [] }
+abbrev pub holding : Inbound → Settled
+holding o = record { phase = Phase.Open o; answer = Answer.Stored; reply = [] }
 
-unfoldable pub settledAs : ℕ → Peer → ℕ → Inbound → Progress → Settled
-settledAs limit p i o Progress.Whole = finished p i o
-settledAs limit p i o Progress.Due = granting limit p i o
-settledAs limit p i o Progress.Partial = holding p i o
+-- of the message in slot i
+unfoldable pub settledAs : ℕ → ℕ → Inbound → Progress → Settled
+settledAs limit i o Progress.Whole = finished i o
+settledAs limit i o Progress.Due = granting limit o
+settledAs limit i o Progress.Partial = holding o
 
 -- ---- a verdict is carried out
 
-abbrev pub landed : List ℕ → ℕ → List ℕ → Settled → Effect
-landed ws at bytes s = record { peer = s .peer; words = ws; answer = s .answer; reply = s .reply; at = at; bytes = bytes }
+-- what an accepted segment leaves
+pub record SegmentEffect : Type 0 where
+  pub settled : Settled
+  pub words : List ℕ
+  pub at : ℕ
+  pub bytes : List ℕ
 
 -- the segment's bytes go to its own range of its own buffer, and its bits are set
-unfoldable pub accept : ℕ → Peer → List ℕ → ℕ → Inbound → ℕ → List ℕ → Effect
-accept limit p ws i o offset bytes =
+unfoldable pub accept : ℕ → List ℕ → ℕ → Inbound → ℕ → List ℕ → SegmentEffect
+accept limit ws i o offset bytes =
     let now : List ℕ = marked ws (o .receive .start + offset) (length bytes) in
-    landed now (o .receive .start + offset) bytes (settledAs limit p i o (progressOf now o))
+    record { settled = settledAs limit i o (progressOf now o); words = now; at = o .receive .start + offset; bytes = bytes }
 
 -- "A match whose length fits clears the map bits of the receive's whole range, then stores the segment."
-unfoldable pub begun : ℕ → Peer → List ℕ → ℕ → Receive → Incoming → List ℕ → Effect
-begun limit p ws i r h bytes =
-    accept limit (advance p) (cleared ws (r .start) (r .capacity)) i (opened r h) (h .offset) bytes
+unfoldable pub begun : ℕ → List ℕ → ℕ → Receive → Incoming → List ℕ → SegmentEffect
+begun limit ws i r h bytes = accept limit (cleared ws (r .start) (r .capacity)) i (opened r h) (h .offset) bytes
+
+-- the peer is put together: slot i is used as the segment leaves it
+abbrev pub inSlot : Peer → ℕ → SegmentEffect → Effect
+inSlot p i s =
+    record {
+      peer = withPhase p i (s .settled .phase);
+      words = s .words;
+      answer = s .settled .answer;
+      reply = s .settled .reply;
+      at = s .at;
+      bytes = s .bytes;
+    }
 
 -- "answer truncated (slot, id, length), slot freed, no arena byte or map bit changed"
 unfoldable pub truncatedAt : Peer → List ℕ → ℕ → Incoming → Effect
-truncatedAt p ws i h = quiet (advance (withPhase p i Phase.Free)) ws (Answer.Truncated i (h .id) (h .length))
+truncatedAt p ws i h = quiet (withPhase (advance p) i Phase.Free) ws (Answer.Truncated i (h .id) (h .length))
 
 unfoldable pub carry : ℕ → Peer → List ℕ → Incoming → List ℕ → Verdict → Effect
 carry limit p ws h bytes (Verdict.Refuse k) = refuse p ws k
 carry limit p ws h bytes (Verdict.Truncate i) = truncatedAt p ws i h
-carry limit p ws h bytes (Verdict.Begin i r) = begun limit p ws i r h bytes
-carry limit p ws h bytes (Verdict.More i o) = accept limit p ws i o (h .offset) bytes
+carry limit p ws h bytes (Verdict.Begin i r) = inSlot (advance p) i (begun limit ws i r h bytes)
+carry limit p ws h bytes (Verdict.More i o) = inSlot p i (accept limit ws i o (h .offset) bytes)

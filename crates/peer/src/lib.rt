@@ -16,6 +16,7 @@ pub use types::Progress;
 pub use types::Receive;
 pub use types::Request;
 pub use types::Slot;
+pub use types::SlotStep;
 pub use types::Step;
 pub use types::Vacancy;
 pub use types::Verdict;

@@ -1,16 +1,15 @@
 // The steps of a slot and of a peer: each takes the state by value and hands the changed state back.
 use crate::types::Answer;
-use crate::types::Inbound;
 use crate::types::Peer;
 use crate::types::Phase;
 use crate::types::Receive;
 use crate::types::Slot;
+use crate::types::SlotStep;
 use crate::types::Step;
 use protocol::Refusal;
 ghost use mathlib.Core.Path.{_≡_};
 ghost use Prim.Native.Nat.{_<_};
-ghost use lib.ListN.{set};
-ghost use Rattle.peer.specs.State.{freshPeer, slotCount, slotWith, isFree, overlap};
+ghost use Rattle.peer.specs.State.{freshPeer, slotCount, isFree, overlap};
 ghost use Rattle.peer.specs.Effects.{withPhase, advance};
 
 impl Receive {
@@ -44,31 +43,6 @@ impl Slot {
             Phase::Open(_) => false,
         }
     }
-
-    // The slot, free.
-    pub(crate) fn freed(self) -> Slot
-        ensures { λ r. ⌜ r ≡ slotWith Phase.Free ⌝ }
-    {
-        Slot { phase: Phase::Free }
-    }
-
-    // The slot, with a receive of this age.
-    pub(crate) fn posted(self, receive: Receive, age: u64) -> Slot
-        ensures { λ r. ⌜ r ≡ slotWith (Phase.Posted receive age) ⌝ }
-    {
-        Slot {
-            phase: Phase::Posted(receive, age),
-        }
-    }
-
-    // The slot, with an open message.
-    pub(crate) fn opened(self, inbound: Inbound) -> Slot
-        ensures { λ r. ⌜ r ≡ slotWith (Phase.Open inbound) ⌝ }
-    {
-        Slot {
-            phase: Phase::Open(inbound),
-        }
-    }
 }
 
 impl Peer {
@@ -91,41 +65,15 @@ impl Peer {
         }
     }
 
-    // The peer with a slot replaced.
-    pub(crate) fn with_slot(self, i: usize, slot: Slot) -> Peer
+    // The peer with another use of a slot.
+    pub fn with_phase(self, i: usize, phase: Phase) -> Peer
         requires { ⌜ i < slotCount ⌝ }
-        ensures { λ r. ⌜ r ≡ record { next = self .next; slots = set (self .slots) i slot } ⌝ }
+        ensures { λ r. ⌜ r ≡ withPhase self i phase ⌝ }
     {
         let mut peer = self;
+        let slot = Slot { phase };
         peer.slots[i] = slot;
         peer
-    }
-
-    // The peer with a slot freed.
-    pub fn freed(self, i: usize) -> Peer
-        requires { ⌜ i < slotCount ⌝ }
-        ensures { λ r. ⌜ r ≡ withPhase self i Phase.Free ⌝ }
-    {
-        let slot = self.slots[i];
-        self.with_slot(i, slot.freed())
-    }
-
-    // The peer with a receive of this age posted in a slot.
-    pub fn posted(self, i: usize, receive: Receive, age: u64) -> Peer
-        requires { ⌜ i < slotCount ⌝ }
-        ensures { λ r. ⌜ r ≡ withPhase self i (Phase.Posted receive age) ⌝ }
-    {
-        let slot = self.slots[i];
-        self.with_slot(i, slot.posted(receive, age))
-    }
-
-    // The peer with a message open in a slot.
-    pub fn opened(self, i: usize, inbound: Inbound) -> Peer
-        requires { ⌜ i < slotCount ⌝ }
-        ensures { λ r. ⌜ r ≡ withPhase self i (Phase.Open inbound) ⌝ }
-    {
-        let slot = self.slots[i];
-        self.with_slot(i, slot.opened(inbound))
     }
 
     // The peer with the next id moved on by one, round at 2^32.
@@ -135,6 +83,19 @@ impl Peer {
         let mut peer = self;
         peer.next = std::num::wrapping_add_u32(self.next, 1);
         peer
+    }
+
+    // The peer with a slot as a call left it, and the call's answer.
+    pub fn stepped(self, i: usize, step: SlotStep) -> Step
+        requires { ⌜ i < slotCount ⌝ }
+        ensures { λ r. ⌜ r ≡ record { peer = withPhase self i (step .phase); answer = step .answer } ⌝ }
+    {
+        let phase = step.phase;
+        let answer = step.answer;
+        Step {
+            peer: self.with_phase(i, phase),
+            answer,
+        }
     }
 
     // The peer as it is, and a refusal.

@@ -135,6 +135,12 @@ pub struct Request {
     pub call: Call,
 }
 
+// What a call leaves of one slot, and the call's answer.
+pub struct SlotStep {
+    pub phase: Phase,
+    pub answer: Answer,
+}
+
 // The peer after a call, and the call's answer.
 pub struct Step {
     pub peer: Peer,

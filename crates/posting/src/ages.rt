@@ -94,5 +94,5 @@ pub(crate) fn placed(peer: Peer, receive: Receive, i: usize) -> Peer
     ensures { λ r. ⌜ r ≡ placed peer receive i ⌝ }
 {
     let age = count_posted(peer);
-    renumbered(peer).posted(i, receive, age)
+    renumbered(peer).with_phase(i, Phase::Posted(receive, age))
 }

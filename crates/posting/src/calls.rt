@@ -3,7 +3,9 @@ use crate::ages;
 use crate::places;
 use peer::Answer;
 use peer::Peer;
+use peer::Phase;
 use peer::Receive;
+use peer::SlotStep;
 use peer::Step;
 use peer::Vacancy;
 use protocol::BAD_LENGTH;
@@ -46,8 +48,9 @@ pub fn cancel(peer: Peer, slot: usize) -> Step
     if there.is_free() {
         return peer.refused(BAD_SLOT);
     }
-    Step {
-        peer: peer.freed(slot),
+    let step = SlotStep {
+        phase: Phase::Free,
         answer: Answer::Cancelled(slot),
-    }
+    };
+    peer.stepped(slot, step)
 }

@@ -14,10 +14,10 @@ use Rattle.protocol.specs.declared.table.TypeRow.{TypeRow}
 use Rattle.protocol.specs.declared.types.Packet.{Packet}
 use Rattle.protocol.specs.declared.types.Read.{Read}
 use Rattle.receiving.specs.Preconditions.{Beginning, Carrying, Granting, Judging, Limited, Placed, Storing}
-use Rattle.peer.specs.Effects.{grantOf, opened, progressOf, quiet}
+use Rattle.peer.specs.Effects.{grantOf, opened, progressOf, quiet, withPhase}
 use Rattle.peer.specs.Incomings.{isRtm}
 use Rattle.peer.specs.Judging.{judge}
-use Rattle.receiving.specs.Leaves.{PacketLeaves, Replied, leaves}
+use Rattle.receiving.specs.Leaves.{PacketLeaves, Replied, SegmentLeaves, leaves}
 use Rattle.peer.specs.Matching.{findOpen, sameMessage}
 use Rattle.peer.specs.State.{slotCount}
 use Rattle.peer.specs.declared.types.Answer.{Answer}
@@ -37,7 +37,7 @@ use Rattle.protocol.proofs.Accepted.{ReadAs, as-read, packetOf}
 use Rattle.protocol.proofs.Served.{served-read}
 use Rattle.peer.proofs.Kept.{begun-standing, continued-standing}
 use Rattle.peer.proofs.Valid.{Valid, Within, fits-valid}
-use Rattle.peer.proofs.Verdicts.{Judged, again-inside, chosen-at, found-within, judged}
+use Rattle.peer.proofs.Verdicts.{Judged, again-inside, chosen-at, continued-at, found-within, judged}
 
 -- ---- a grant
 
@@ -97,18 +97,25 @@ module _ (limit : ℕ) (p : Peer) (h : Incoming) (n area words reply : ℕ) (c :
   verdict : (d : Verdict) → judge p ws h ≡ d → Judged p ws h d
   verdict d e = subst (Judged p ws h) e (judged p ws h n (c .form))
 
+  -- a verdict names a slot that is there
   pub cut-slot : (i : ℕ) → judge p ws h ≡ Verdict.Truncate i → i < slotCount
   cut-slot i e =
       let v = verdict (Verdict.Truncate i) e in
       omega (arith, eight, chosen-at p h i (v .receive) (v .matched) .0)
 
-  pub begins : (i : ℕ) (r : Receive) → judge p ws h ≡ Verdict.Begin i r → Beginning limit i r h n area words reply
+  pub begun-slot : (i : ℕ) (r : Receive) → judge p ws h ≡ Verdict.Begin i r → i < slotCount
+  begun-slot i r e = omega (arith, eight, chosen-at p h i r (verdict (Verdict.Begin i r) e .matched) .0)
+
+  pub more-slot : (i : ℕ) (o : Inbound) → judge p ws h ≡ Verdict.More i o → i < slotCount
+  more-slot i o e = omega (arith, eight, continued-at p ws h i o (verdict (Verdict.More i o) e) .0)
+
+  -- and what its parts ask is there
+  pub begins : (i : ℕ) (r : Receive) → judge p ws h ≡ Verdict.Begin i r → Beginning limit r h n area words reply
   begins i r e =
       let v = verdict (Verdict.Begin i r) e in
       let s = begun-standing area p h n i r sound (c .form) v in
       record {
         limited = c .limited;
-        slot = omega (arith, eight, s .inSlots);
         inArea = s .within .inArea;
         inRange = s .within .inRange;
         inLength = c .form .inside (v .matched .rtm);
@@ -118,14 +125,13 @@ module _ (limit : ℕ) (p : Peer) (h : Incoming) (n area words reply : ℕ) (c :
         room = c .room;
       }
 
-  pub goes-on : (i : ℕ) (o : Inbound) → judge p ws h ≡ Verdict.More i o → Storing limit i o (h .offset) n area words reply
+  pub goes-on : (i : ℕ) (o : Inbound) → judge p ws h ≡ Verdict.More i o → Storing limit o (h .offset) n area words reply
   goes-on i o e =
       let v = verdict (Verdict.More i o) e in
       let s = continued-standing area p ws h i o sound v in
       record {
         accepting = record {
           limited = c .limited;
-          slot = omega (arith, eight, s .inSlots);
           inArea = s .within .inArea;
           inRange = s .within .inRange;
           inLength = s .within .inLength;
@@ -137,13 +143,12 @@ module _ (limit : ℕ) (p : Peer) (h : Incoming) (n area words reply : ℕ) (c :
       }
 
 -- a message that begins is stored as it was opened
-pub begun-stores : (limit i : ℕ) (r : Receive) (h : Incoming) (n area words words′ reply : ℕ) → Beginning limit i r h n area words reply
-    → 64 * words′ ≡ area → Storing limit i (opened r h) (h .offset) n area words′ reply
-begun-stores limit i r h n area words words′ reply b whole =
+pub begun-stores : (limit : ℕ) (r : Receive) (h : Incoming) (n area words words′ reply : ℕ) → Beginning limit r h n area words reply
+    → 64 * words′ ≡ area → Storing limit (opened r h) (h .offset) n area words′ reply
+begun-stores limit r h n area words words′ reply b whole =
     record {
       accepting = record {
         limited = b .limited;
-        slot = b .slot;
         inArea = b .inArea;
         inRange = b .inRange;
         inLength = omega (arith, b .inLength);
@@ -167,10 +172,17 @@ data-inside limit bs q e = go (as-read limit bs q (served-read limit bs q e))
 
 -- ---- the steps of the calls
 
+abbrev inPeer : Peer → ℕ → SegmentLeaves → PacketLeaves
+inPeer p i s = record { step = record { peer = withPhase p i (s .step .phase); answer = s .step .answer }; area = s .area; words = s .words; reply = s .reply }
+
 -- the step and the reply of a part, within the whole
 pub within : (area words : List ℕ) (s t : Replied) → s ≡ t
-    → _≡_ {A = PacketLeaves} (record { step = s .step; area = area; words = words; reply = s .reply }) (record { step = t .step; area = area; words = words; reply = t .reply })
+    → _≡_ {A = SegmentLeaves} (record { step = s .step; area = area; words = words; reply = s .reply }) (record { step = t .step; area = area; words = words; reply = t .reply })
 within area words s t e = ap (λ (x : Replied). record { step = x .step; area = area; words = words; reply = x .reply }) e
+
+-- what a segment leaves, put into slot i of its peer
+pub in-peer : (p : Peer) (i : ℕ) (s t : SegmentLeaves) → s ≡ t → inPeer p i s ≡ inPeer p i t
+in-peer p i s t e = ap (inPeer p i) e
 
 -- a quiet step leaves what is lent
 pub left-quiet : (area ws reply : List ℕ) (p : Peer) (a : Answer)

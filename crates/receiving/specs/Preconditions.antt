@@ -8,7 +8,7 @@ use Rattle.peer.specs.declared.types.Message.{Message}
 use Rattle.peer.specs.declared.types.Peer.{Peer}
 use Rattle.peer.specs.declared.types.Receive.{Receive}
 use Rattle.peer.specs.Formed.{Formed}
-use Rattle.peer.specs.State.{slotCount, peerFits}
+use Rattle.peer.specs.State.{peerFits}
 
 -- a peer that can be, with a map word for each 64 bytes of its area
 pub record Mapped (area words : ℕ) (p : Peer) : Type 0 where
@@ -41,10 +41,9 @@ pub record Judging (words : ℕ) (p : Peer) (h : Incoming) : Type 0 where
   pub mapped : Mapped (64 * words) words p
   pub form : Formed h (h .size)
 
--- an open message in its slot, in an area with its map, and room for a reply
-pub record Accepting (limit i : ℕ) (o : Inbound) (area words reply : ℕ) : Type 0 where
+-- an open message in an area with its map, and room for a reply
+pub record Accepting (limit : ℕ) (o : Inbound) (area words reply : ℕ) : Type 0 where
   pub limited : Limited limit
-  pub slot : i < slotCount
   pub inArea : o .receive .start + o .receive .capacity ≤ area
   pub inRange : o .message .length ≤ o .receive .capacity
   pub inLength : o .message .granted ≤ o .message .length
@@ -53,14 +52,13 @@ pub record Accepting (limit i : ℕ) (o : Inbound) (area words reply : ℕ) : Ty
   pub room : 24 ≤ reply
 
 -- the same, with n bytes to be stored at an offset in the message
-pub record Storing (limit i : ℕ) (o : Inbound) (offset n area words reply : ℕ) : Type 0 where
-  pub accepting : Accepting limit i o area words reply
+pub record Storing (limit : ℕ) (o : Inbound) (offset n area words reply : ℕ) : Type 0 where
+  pub accepting : Accepting limit o area words reply
   pub inMessage : offset + n ≤ o .message .length
 
 -- a message begins in a receive, with n bytes of data
-pub record Beginning (limit i : ℕ) (r : Receive) (h : Incoming) (n area words reply : ℕ) : Type 0 where
+pub record Beginning (limit : ℕ) (r : Receive) (h : Incoming) (n area words reply : ℕ) : Type 0 where
   pub limited : Limited limit
-  pub slot : i < slotCount
   pub inArea : r .start + r .capacity ≤ area
   pub inRange : h .length ≤ r .capacity
   pub inLength : h .offset + h .size ≤ h .length

@@ -8,19 +8,21 @@ use peer::Inbound;
 use peer::Incoming;
 use peer::Message;
 use peer::Peer;
+use peer::Phase;
 use peer::Progress;
 use peer::Receive;
+use peer::SlotStep;
 use peer::Step;
 use peer::Verdict;
 ghost use mathlib.Core.Path.{_≡_};
-ghost use mathlib.Core.List.{List};
-ghost use Prim.Native.Nat.{ℕ, _+_, _*_, _≤_, _<_};
+ghost use Prim.Native.Nat.{_+_, _*_, _≤_};
 ghost use lib.ListN.{length};
 ghost use Rattle.receiving.specs.Preconditions.{Granting, Mapping, Accepting, Storing, Beginning, Carrying};
-ghost use Rattle.peer.specs.Effects.{quiet, opened, extended, progressOf, finished, granting, holding, settledAs, accept, begun, truncatedAt, carry};
+ghost use Rattle.peer.specs.Effects.{opened, extended, progressOf, finished, granting, holding, settledAs, accept, begun, carry};
 ghost use Rattle.peer.specs.Judging.{judge};
-ghost use Rattle.receiving.specs.Leaves.{leaves, replies};
-ghost use Rattle.peer.specs.State.{slotCount};
+ghost use Rattle.receiving.specs.Leaves.{leaves, replies, segmentLeaves};
+ghost use Rattle.peer.specs.declared.types.Answer.{Answer};
+ghost use Rattle.peer.specs.declared.types.Phase.{Phase};
 
 // The message that a packet begins in this receive.
 fn opened(receive: Receive, h: Incoming) -> Inbound
@@ -75,14 +77,13 @@ fn extended(inbound: Inbound, n: usize) -> Inbound
 }
 
 // Every byte of the message in slot i is in: the slot is freed.
-fn finish(peer: Peer, i: usize, inbound: Inbound) -> Step
-    requires { ⌜ i < slotCount ⌝ }
-    ensures { λ r. ⌜ r ≡ record { peer = finished peer i inbound .peer; answer = finished peer i inbound .answer } ⌝ }
+fn finish(i: usize, inbound: Inbound) -> SlotStep
+    ensures { λ r. ⌜ r ≡ record { phase = finished i inbound .phase; answer = finished i inbound .answer } ⌝ }
 {
     let message = inbound.message;
     let cq_data = message.cq_data;
-    Step {
-        peer: peer.freed(i),
+    SlotStep {
+        phase: Phase::Free,
         answer: Answer::Done {
             slot: i,
             id: message.id,
@@ -92,55 +93,45 @@ fn finish(peer: Peer, i: usize, inbound: Inbound) -> Step
     }
 }
 
-// The message in slot i waits for more.
-fn hold(peer: Peer, i: usize, inbound: Inbound) -> Step
-    requires { ⌜ i < slotCount ⌝ }
-    ensures { λ r. ⌜ r ≡ record { peer = holding peer i inbound .peer; answer = Answer.Stored } ⌝ }
+// The message waits for more.
+fn hold(inbound: Inbound) -> SlotStep
+    ensures { λ r. ⌜ r ≡ record { phase = holding inbound .phase; answer = holding inbound .answer } ⌝ }
 {
-    Step {
-        peer: peer.opened(i, inbound),
+    SlotStep {
+        phase: Phase::Open(inbound),
         answer: Answer::Stored,
     }
 }
 
-// The message in slot i is granted more: a CTS is written, and its granted end moves on.
-fn grant(peer: Peer, limit: usize, i: usize, inbound: Inbound, reply: &mut [u8]) -> Step
-    requires { ⌜ i < slotCount ⌝ }
+// The message is granted more: a CTS is written, and its granted end moves on.
+fn grant(limit: usize, inbound: Inbound, reply: &mut [u8]) -> SlotStep
     requires { ⌜ Granting limit (inbound .message) ⌝ }
     requires { ⌜ 24 ≤ length (now reply) ⌝ }
-    ensures { λ r. ⌜ record { step = r; reply = now (reply .exit) } ≡ replies (now (reply .entry)) (granting limit peer i inbound) ⌝ }
+    ensures { λ r. ⌜ record { step = r; reply = now (reply .exit) } ≡ replies (now (reply .entry)) (granting limit inbound) ⌝ }
 {
     let message = inbound.message;
     let n = grants::grant_of(message, limit);
     grants::write_cts(reply, message.send_id, message.id, n);
-    Step {
-        peer: peer.opened(i, extended(inbound, n)),
+    SlotStep {
+        phase: Phase::Open(extended(inbound, n)),
         answer: Answer::Granted(n),
     }
 }
 
 // What the map says of the message in slot i after a segment: done, granted or stored.
-fn settle(
-    peer: Peer,
-    limit: usize,
-    i: usize,
-    inbound: Inbound,
-    words: &[u64],
-    reply: &mut [u8],
-) -> Step
-    requires { ⌜ Accepting limit i inbound (64 * length (now words)) (length (now words)) (length (now reply)) ⌝ }
-    ensures { λ r. ⌜ record { step = r; reply = now (reply .exit) } ≡ replies (now (reply .entry)) (settledAs limit peer i inbound (progressOf (now (words .entry)) inbound)) ⌝ }
+fn settle(limit: usize, i: usize, inbound: Inbound, words: &[u64], reply: &mut [u8]) -> SlotStep
+    requires { ⌜ Accepting limit inbound (64 * length (now words)) (length (now words)) (length (now reply)) ⌝ }
+    ensures { λ r. ⌜ record { step = r; reply = now (reply .exit) } ≡ replies (now (reply .entry)) (settledAs limit i inbound (progressOf (now (words .entry)) inbound)) ⌝ }
 {
     match progress(inbound, words) {
-        Progress::Whole => finish(peer, i, inbound),
-        Progress::Due => grant(peer, limit, i, inbound, reply),
-        Progress::Partial => hold(peer, i, inbound),
+        Progress::Whole => finish(i, inbound),
+        Progress::Due => grant(limit, inbound, reply),
+        Progress::Partial => hold(inbound),
     }
 }
 
 // A segment is written and marked, and its message settled.
 fn accept(
-    peer: Peer,
     limit: usize,
     i: usize,
     inbound: Inbound,
@@ -149,20 +140,19 @@ fn accept(
     area: &mut [u8],
     words: &mut [u64],
     reply: &mut [u8],
-) -> Step
-    requires { ⌜ Storing limit i inbound offset (length (now bytes)) (length (now area)) (length (now words)) (length (now reply)) ⌝ }
-    ensures { λ r. ⌜ record { step = r; area = now (area .exit); words = now (words .exit); reply = now (reply .exit) } ≡ leaves (now (area .entry)) (now (reply .entry)) (accept limit peer (now (words .entry)) i inbound offset (now (bytes .entry))) ⌝ }
+) -> SlotStep
+    requires { ⌜ Storing limit inbound offset (length (now bytes)) (length (now area)) (length (now words)) (length (now reply)) ⌝ }
+    ensures { λ r. ⌜ record { step = r; area = now (area .exit); words = now (words .exit); reply = now (reply .exit) } ≡ segmentLeaves (now (area .entry)) (now (reply .entry)) (accept limit (now (words .entry)) i inbound offset (now (bytes .entry))) ⌝ }
 {
     let receive = inbound.receive;
     let at = receive.start + offset;
     segment::write_segment(area, at, bytes);
     bitmap::mark(words, at, bytes.len());
-    settle(peer, limit, i, inbound, words, reply)
+    settle(limit, i, inbound, words, reply)
 }
 
 // A message begins in the receive of slot i, whose bits are cleared first.
 fn begin(
-    peer: Peer,
     limit: usize,
     i: usize,
     receive: Receive,
@@ -171,32 +161,21 @@ fn begin(
     area: &mut [u8],
     words: &mut [u64],
     reply: &mut [u8],
-) -> Step
-    requires { ⌜ Beginning limit i receive h (length (now bytes)) (length (now area)) (length (now words)) (length (now reply)) ⌝ }
-    ensures { λ r. ⌜ record { step = r; area = now (area .exit); words = now (words .exit); reply = now (reply .exit) } ≡ leaves (now (area .entry)) (now (reply .entry)) (begun limit peer (now (words .entry)) i receive h (now (bytes .entry))) ⌝ }
+) -> SlotStep
+    requires { ⌜ Beginning limit receive h (length (now bytes)) (length (now area)) (length (now words)) (length (now reply)) ⌝ }
+    ensures { λ r. ⌜ record { step = r; area = now (area .exit); words = now (words .exit); reply = now (reply .exit) } ≡ segmentLeaves (now (area .entry)) (now (reply .entry)) (begun limit (now (words .entry)) i receive h (now (bytes .entry))) ⌝ }
 {
     let inbound = opened(receive, h);
     bitmap::clear(words, receive.start, receive.capacity);
-    accept(
-        peer.advanced(),
-        limit,
-        i,
-        inbound,
-        h.offset,
-        bytes,
-        area,
-        words,
-        reply,
-    )
+    accept(limit, i, inbound, h.offset, bytes, area, words, reply)
 }
 
-// The message is longer than the receive in slot i, which is freed. The id is used up.
-fn truncate(peer: Peer, i: usize, h: Incoming) -> Step
-    requires { ⌜ i < slotCount ⌝ }
-    ensures { λ r. ⌜ ((words : List ℕ) → quiet (r .peer) words (r .answer) ≡ truncatedAt peer words i h) ⌝ }
+// The message is longer than the receive in slot i, which is freed.
+fn truncate(i: usize, h: Incoming) -> SlotStep
+    ensures { λ r. ⌜ r ≡ record { phase = Phase.Free; answer = Answer.Truncated i (h .id) (h .length) } ⌝ }
 {
-    Step {
-        peer: peer.freed(i).advanced(),
+    SlotStep {
+        phase: Phase::Free,
         answer: Answer::Truncated {
             slot: i,
             id: h.id,
@@ -205,7 +184,8 @@ fn truncate(peer: Peer, i: usize, h: Incoming) -> Step
     }
 }
 
-// A packet is judged, and the verdict carried out.
+// A packet is judged, and the verdict carried out; a match moves the next id on. The peer is put
+// together here, once.
 pub(crate) fn carry(
     peer: Peer,
     limit: usize,
@@ -220,12 +200,14 @@ pub(crate) fn carry(
 {
     match judging::judge(peer, h, words) {
         Verdict::Refuse(refusal) => peer.refused(refusal),
-        Verdict::Truncate(i) => truncate(peer, i, h),
+        Verdict::Truncate(i) => peer.advanced().stepped(i, truncate(i, h)),
         Verdict::Begin(i, receive) => {
-            begin(peer, limit, i, receive, h, bytes, area, words, reply)
+            let step = begin(limit, i, receive, h, bytes, area, words, reply);
+            peer.advanced().stepped(i, step)
         }
         Verdict::More(i, inbound) => {
-            accept(peer, limit, i, inbound, h.offset, bytes, area, words, reply)
+            let step = accept(limit, i, inbound, h.offset, bytes, area, words, reply);
+            peer.stepped(i, step)
         }
     }
 }

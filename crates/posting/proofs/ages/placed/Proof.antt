@@ -10,12 +10,12 @@ count-posted-requires c κs = search needs
 renumbered-requires : tie.Need-renumbered-requires
 renumbered-requires c κs = search needs
 
-posted-requires : tie.Need-posted-requires
-posted-requires c κs = search needs
+with-phase-requires : tie.Need-with-phase-requires
+with-phase-requires c κs = search needs
 
 returns : tie.Need-returns
 unfolding placed
-returns c = rw (c .posted .ensures, c .before .renumbered .ensures, c .before .before .count-posted .ensures)
+returns c = rw (c .with-phase .ensures, c .before .renumbered .ensures, c .before .before .count-posted .ensures)
 
 pub placed-spec : {M : Type 1} → statement M
 placed-spec =
@@ -23,5 +23,5 @@ placed-spec =
     (tie.spec
     count-posted-requires
     renumbered-requires
-    posted-requires
+    with-phase-requires
     returns)

@@ -34,14 +34,14 @@ returns-2 c = λ ws.
     rw (lt-leb _ _ (c .before .before .before .before .if1 .left), c .refused2 .ensures)
     (sym (cancel-free (s .args .t1) ws (s .args .slot) _ (sym (c .before .before .is-free .ensures) ∙ c .before .if2 .taken)))
 
-freed-requires : tie.Need-freed-requires
-freed-requires c κs = search needs
+stepped-requires : tie.Need-stepped-requires
+stepped-requires c κs = search needs
 
 returns-3 : tie.Need-returns-3
 unfolding cancelEffect pick
 returns-3 c = λ ws.
     let s = c .before .before .before .before .before in
-    rw (lt-leb _ _ (c .before .before .before .before .if1 .left), c .freed .ensures)
+    rw (lt-leb _ _ (c .before .before .before .before .if1 .left), c .stepped .ensures)
     (sym (cancel-used (s .args .t1) ws (s .args .slot) _ (sym (c .before .before .is-free .ensures) ∙ c .before .if2 .left)))
 
 pub cancel-spec : {M : Type 1} → statement M
@@ -55,5 +55,5 @@ cancel-spec =
     is-free-requires
     refused-requires-2
     returns-2
-    freed-requires
+    stepped-requires
     returns-3)

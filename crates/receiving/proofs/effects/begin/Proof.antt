@@ -13,15 +13,12 @@ opened-requires c κs = search needs
 clear-requires : tie.Need-clear-requires
 clear-requires c κs = search needs
 
-advanced-requires : tie.Need-advanced-requires
-advanced-requires c κs = search needs
-
 accept-requires : tie.Need-accept-requires
 accept-requires c κs =
-    let s = c .before .before .before .before .before .before .before .before .before .before .before .before .before in
+    let s = c .before .before .before .before .before .before .before .before .before .before .before .before in
     let a = s .args in
-    rw (c .before .before .before .before .before .before .before .before .opened .ensures)
-    (begun-stores (a .limit) (a .i) (a .receive) (a .h) (length (a .bytes .now)) (length (a .area .now)) (length (a .words .now)) _ (length (a .reply .now)) (s .pre) (omega (arith, s .pre .whole)))
+    rw (c .before .before .before .before .before .before .before .opened .ensures)
+    (begun-stores (a .limit) (a .receive) (a .h) (length (a .bytes .now)) (length (a .area .now)) (length (a .words .now)) _ (length (a .reply .now)) (s .pre) (omega (arith, s .pre .whole)))
 
 same-length : tie.Need-same-length
 same-length c = search needs
@@ -37,9 +34,8 @@ unfolding begun
 returns c =
     rw (
       c .before .before .before .before .before .before .accept .ensures,
-      c .before .before .before .before .before .before .before .before .before .before .before .before .before .clear .ensures,
-      c .before .before .before .before .before .before .before .before .before .before .advanced .ensures,
-      c .before .before .before .before .before .before .before .before .before .before .before .before .before .before .before .opened .ensures,
+      c .before .before .before .before .before .before .before .before .before .before .before .before .clear .ensures,
+      c .before .before .before .before .before .before .before .before .before .before .before .before .before .before .opened .ensures,
     )
 
 pub begin-spec : {M : Type 1} → statement M
@@ -48,7 +44,6 @@ begin-spec =
     (tie.spec
     opened-requires
     clear-requires
-    advanced-requires
     accept-requires
     same-length
     same-length-2

@@ -3,8 +3,8 @@ use borrow.Author.Needs.{needs}
 use lib.ListN.{length}
 use mathlib.Core.Path.{_≡_, sym, _∙_}
 use Rattle.laws.proofs.Listing.{length-mapped}
-use Rattle.peer.specs.Effects.{carry}
-use Rattle.receiving.proofs.Asking.{begins, cut-slot, goes-on, judging, left-quiet}
+use Rattle.peer.specs.Effects.{advance, carry, truncatedAt}
+use Rattle.receiving.proofs.Asking.{begins, begun-slot, cut-slot, goes-on, in-peer, judging, left-quiet, more-slot}
 use Rattle.receiving.proofs.effects.carry.Statement.{statement}
 use Rattle.receiving.proofs.effects.carry.Tie as tie
 
@@ -24,12 +24,18 @@ refused-requires c κs = search needs
 enum-known-i : tie.Need-enum-known-i
 enum-known-i c = search needs
 
+advanced-requires : tie.Need-advanced-requires
+advanced-requires c κs = search needs
+
 truncate-requires : tie.Need-truncate-requires
-truncate-requires c κs =
-    let s = c .before .before .before .before .before .before .before .before .before in
+truncate-requires c κs = search needs
+
+stepped-requires : tie.Need-stepped-requires
+stepped-requires c κs =
+    let s = c .before .before .before .before .before .before .before .before .before .before .before in
     let a = s .args in
     let len : length (a .peer .slots) ≡ 8 = search length-mapped in
-    cut-slot (a .limit) (a .peer) (a .h) (length (a .bytes .now)) (length (a .area .now)) (length (a .words .now)) (length (a .reply .now)) (s .pre) len (a .words .now) _ (sym (c .before .before .before .judge .ensures) ∙ c .before .i .given .1)
+    cut-slot (a .limit) (a .peer) (a .h) (length (a .bytes .now)) (length (a .area .now)) (length (a .words .now)) (length (a .reply .now)) (s .pre) len (a .words .now) _ (sym (c .before .before .before .before .before .judge .ensures) ∙ c .before .before .before .i .given .1)
 
 enum-known-i-2 : tie.Need-enum-known-i-2
 enum-known-i-2 c = search needs
@@ -41,6 +47,16 @@ begin-requires c κs =
     let len : length (a .peer .slots) ≡ 8 = search length-mapped in
     begins (a .limit) (a .peer) (a .h) (length (a .bytes .now)) (length (a .area .now)) (length (a .words .now)) (length (a .reply .now)) (s .pre) len (a .words .now) _ _ (sym (c .before .before .before .before .before .before .judge .ensures) ∙ c .before .before .before .before .i2 .given .1)
 
+advanced-requires-2 : tie.Need-advanced-requires-2
+advanced-requires-2 c κs = search needs
+
+stepped-requires-2 : tie.Need-stepped-requires-2
+stepped-requires-2 c κs =
+    let s = c .before .before .before .before .before .before .before .before .before .before .before .before .before .before .before .before .before .before .before .before in
+    let a = s .args in
+    let len : length (a .peer .slots) ≡ 8 = search length-mapped in
+    begun-slot (a .limit) (a .peer) (a .h) (length (a .bytes .now)) (length (a .area .now)) (length (a .words .now)) (length (a .reply .now)) (s .pre) len (a .words .now) _ _ (sym (c .before .before .before .before .before .before .before .before .before .before .before .before .before .before .judge .ensures) ∙ c .before .before .before .before .before .before .before .before .before .before .before .before .i2 .given .1)
+
 enum-known-i-3 : tie.Need-enum-known-i-3
 enum-known-i-3 c = search needs
 
@@ -50,6 +66,13 @@ accept-requires c κs =
     let a = s .args in
     let len : length (a .peer .slots) ≡ 8 = search length-mapped in
     goes-on (a .limit) (a .peer) (a .h) (length (a .bytes .now)) (length (a .area .now)) (length (a .words .now)) (length (a .reply .now)) (s .pre) len (a .words .now) _ _ (sym (c .before .before .before .before .before .before .judge .ensures) ∙ c .before .before .before .before .i3 .given .1)
+
+stepped-requires-3 : tie.Need-stepped-requires-3
+stepped-requires-3 c κs =
+    let s = c .before .before .before .before .before .before .before .before .before .before .before .before .before .before .before .before .before .before .before in
+    let a = s .args in
+    let len : length (a .peer .slots) ≡ 8 = search length-mapped in
+    more-slot (a .limit) (a .peer) (a .h) (length (a .bytes .now)) (length (a .area .now)) (length (a .words .now)) (length (a .reply .now)) (s .pre) len (a .words .now) _ _ (sym (c .before .before .before .before .before .before .before .before .before .before .before .before .before .judge .ensures) ∙ c .before .before .before .before .before .before .before .before .before .before .before .i3 .given .1)
 
 same-length : tie.Need-same-length
 same-length c = search needs
@@ -62,10 +85,10 @@ same-length-2 : tie.Need-same-length-2
 same-length-2 c = search needs
 
 returns-2 : tie.Need-returns-2
-unfolding carry
+unfolding carry truncatedAt
 returns-2 c =
-    let a = c .before .before .before .before .before .before .before .before .before .before .args in
-    rw (← c .before .before .before .before .judge .ensures, c .before .before .i .given .1, ← c .truncate .ensures (a .words .now)) (left-quiet _ _ _ _ _)
+    rw (← c .before .before .before .before .before .before .judge .ensures, c .before .before .before .before .i .given .1, c .stepped .ensures, c .before .truncate .ensures, c .before .before .advanced .ensures)
+    (left-quiet _ _ _ _ _)
 
 same-length-3 : tie.Need-same-length-3
 same-length-3 c = search needs
@@ -78,7 +101,11 @@ same-length-5 c = search needs
 
 returns-3 : tie.Need-returns-3
 unfolding carry
-returns-3 c = rw (← c .before .before .before .before .before .before .before .before .before .before .before .before .before .judge .ensures, c .before .before .before .before .before .before .before .before .before .before .before .i2 .given .1) (c .before .before .before .before .before .before .begin .ensures)
+returns-3 c =
+    let verdict = c .before .before .before .before .before .before .before .before .before .before .before .before .before in
+    let a = verdict .before .before .before .before .before .before .before .before .args in
+    rw (← verdict .before .before .judge .ensures, verdict .i2 .given .1, c .stepped2 .ensures, c .before .advanced2 .ensures)
+    (in-peer (advance (a .peer)) (verdict .i2 .given .0 .0) _ _ (c .before .before .before .before .before .before .before .before .begin .ensures))
 
 same-length-6 : tie.Need-same-length-6
 same-length-6 c = search needs
@@ -91,7 +118,11 @@ same-length-8 c = search needs
 
 returns-4 : tie.Need-returns-4
 unfolding carry
-returns-4 c = rw (← c .before .before .before .before .before .before .before .before .before .before .before .before .before .judge .ensures, c .before .before .before .before .before .before .before .before .before .before .before .i3 .given .1) (c .before .before .before .before .before .before .accept .ensures)
+returns-4 c =
+    let verdict = c .before .before .before .before .before .before .before .before .before .before .before .before in
+    let a = verdict .before .before .before .before .before .before .before .before .args in
+    rw (← verdict .before .before .judge .ensures, verdict .i3 .given .1, c .stepped3 .ensures)
+    (in-peer (a .peer) (verdict .i3 .given .0 .0) _ _ (c .before .before .before .before .before .before .before .accept .ensures))
 
 pub carry-spec : {M : Type 1} → statement M
 carry-spec =
@@ -101,11 +132,16 @@ carry-spec =
     enum-known-refusal
     refused-requires
     enum-known-i
+    advanced-requires
     truncate-requires
+    stepped-requires
     enum-known-i-2
     begin-requires
+    advanced-requires-2
+    stepped-requires-2
     enum-known-i-3
     accept-requires
+    stepped-requires-3
     same-length
     returns
     same-length-2

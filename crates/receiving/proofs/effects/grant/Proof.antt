@@ -12,16 +12,13 @@ grant-of-requires c κs = search needs
 write-cts-requires : tie.Need-write-cts-requires
 write-cts-requires c κs =
     let s = c .before .before .before .before in
-    (s .pre .1 .1, rw (c .before .grant-of .ensures) (grant-one (s .args .limit) (s .args .inbound .message) (s .pre .1 .0)))
+    (s .pre .1, rw (c .before .grant-of .ensures) (grant-one (s .args .limit) (s .args .inbound .message) (s .pre .0)))
 
 extended-requires : tie.Need-extended-requires
 extended-requires c κs =
     let s = c .before .before .before .before .before .before .before in
     let m = s .args .inbound .message in
-    rw (c .before .before .before .before .grant-of .ensures) (omega (arith, grant-le (s .args .limit) m, s .pre .1 .0 .remains))
-
-opened-requires : tie.Need-opened-requires
-opened-requires c κs = search needs
+    rw (c .before .before .before .before .grant-of .ensures) (omega (arith, grant-le (s .args .limit) m, s .pre .0 .remains))
 
 same-length : tie.Need-same-length
 same-length c = search needs
@@ -29,10 +26,9 @@ same-length c = search needs
 returns : tie.Need-returns
 returns c =
     rw (
-      c .opened .ensures,
-      c .before .extended .ensures,
-      c .before .before .before .before .write-cts .ensures,
-      c .before .before .before .before .before .before .grant-of .ensures,
+      c .extended .ensures,
+      c .before .before .before .write-cts .ensures,
+      c .before .before .before .before .before .grant-of .ensures,
     )
 
 pub grant-spec : {M : Type 1} → statement M
@@ -42,6 +38,5 @@ grant-spec =
     grant-of-requires
     write-cts-requires
     extended-requires
-    opened-requires
     same-length
     returns)

@@ -24,7 +24,7 @@ grant-requires c κs =
     let s = c .before .before .before .before .before .before in
     let e = sym (c .before .before .before .progress .ensures) ∙ c .before .enum-told2 .given .1 in
     let left = due-remains (s .args .words .now) (s .args .inbound) e in
-    (s .pre .slot, (record { limited = s .pre .limited; remains = left }, s .pre .room))
+    (record { limited = s .pre .limited; remains = left }, s .pre .room)
 
 enum-told-3 : tie.Need-enum-told-3
 enum-told-3 c = search needs
