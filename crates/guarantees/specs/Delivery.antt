@@ -2,7 +2,7 @@
 use Prim.Native.Nat.{ℕ, _+_, _*_, _<_}
 use lib.Dec.{eqb}
 use lib.ListN.{length}
-use mathlib.Core.Bool.{true, false}
+use mathlib.Core.Bool.{true}
 use mathlib.Core.List.{List, [], _∷_}
 use mathlib.Core.Path.{_≡_}
 use Rattle.engine.specs.SetUp.{setUp}
@@ -15,6 +15,7 @@ use Rattle.laws.specs.Parts.{storeAt}
 use Rattle.protocol.specs.Reading.{readOf}
 use Rattle.protocol.specs.declared.types.Packet.{Packet}
 use Rattle.protocol.specs.declared.types.Read.{Read}
+use Rattle.protocol.specs.Types.{servedRow}
 use Rattle.peer.specs.Calls.{Call}
 use Rattle.peer.specs.Claims.{AllBytes, BytesClaim, CountsUp, Distinct, DoneClaim, GrantClaim, InOrder, TruncateClaim, idsOf, isDone, isMatch, receivesOf, takes}
 use Rattle.peer.specs.Expected.{enter, expected, expectedBytes, plainStep, targetOfCall}
@@ -58,10 +59,10 @@ pub record Delivered (area limit : ℕ) (l : Plain) (gs : List Origin) (c : Call
   -- done exactly at the packet with which accepted segments cover every byte
   pub done : DoneClaim (targetOfCall limit l c) (s .answer)
   -- in message order, to the receive posted first of those that fit
-  pub order : (bs : List ℕ) (room : ℕ) (q : Packet) → c ≡ Call.packet bs room → readOf false limit bs ≡ Read.Packet q → takes (s .answer) ≡ true
+  pub order : (bs : List ℕ) (room : ℕ) (q : Packet) → c ≡ Call.packet bs room → readOf servedRow limit bs ≡ Read.Packet q → takes (s .answer) ≡ true
       → targetOfCall limit l c .matched ≡ true → InOrder l q (targetOfCall limit l c)
   -- truncated exactly if the message is longer than the oldest fitting receive
-  pub truncated : (bs : List ℕ) (room : ℕ) (q : Packet) → c ≡ Call.packet bs room → readOf false limit bs ≡ Read.Packet q
+  pub truncated : (bs : List ℕ) (room : ℕ) (q : Packet) → c ≡ Call.packet bs room → readOf servedRow limit bs ≡ Read.Packet q
       → TruncateClaim l q (targetOfCall limit l c) (s .answer)
   -- the message is that of the packet that matched it, in the receive that was posted; done answers that packet's CQ data
   pub origin : OriginClaim (originOfCall limit l gs c (s .answer)) (targetOfCall limit l c) (s .answer)

@@ -3,7 +3,6 @@
 use Prim.Native.Nat.{ℕ, zero, suc, _+_, _^_, _<_}
 use lib.Dec.{lit<}
 use lib.ListN.{getD, set, replicate, length-set, length-replicate}
-use mathlib.Core.Bool.{false}
 use mathlib.Core.List.{List, [], _∷_}
 use mathlib.Core.Logic.{_⊎_, inl, inr, ⊎-elim}
 use mathlib.Core.Path.{_≡_, refl, sym, ap, _∙_, subst}
@@ -16,8 +15,9 @@ use Rattle.protocol.specs.Layout.{Field}
 use Rattle.protocol.specs.Reading.{readOf}
 use Rattle.protocol.specs.declared.types.Packet.{Packet}
 use Rattle.protocol.specs.declared.types.Read.{Read}
+use Rattle.protocol.specs.Types.{servedRow}
 use Rattle.protocol.proofs.ReadNumbers.{read-numbers}
-use Rattle.protocol.proofs.Served.{served-read}
+use Rattle.protocol.proofs.Served.{any-read}
 use Rattle.peer.specs.Calls.{Call, peerStep, placed, renumbered, renumberedPhase}
 use Rattle.peer.specs.Effects.{Effect, accept, advance, begun, extended, grantOf, opened, settledAs, truncatedAt, withPhase}
 use Rattle.peer.specs.Incomings.{incomingOf}
@@ -107,10 +107,10 @@ pub record IncomingHeld (h : Incoming) : Type 0 where
   pub sendId : h .«send_id» < 2 ^ 32
   pub creditRequest : h .«credit_request» < 2 ^ 32
 
-read-held : (limit : ℕ) (bs : List ℕ) (q : Packet) → ((i : ℕ) → getD bs i 0 < 256) → readOf false limit bs ≡ Read.Packet q → IncomingHeld (incomingOf q)
+read-held : (limit : ℕ) (bs : List ℕ) (q : Packet) → ((i : ℕ) → getD bs i 0 < 256) → readOf servedRow limit bs ≡ Read.Packet q → IncomingHeld (incomingOf q)
 unfolding incomingOf
 read-held limit bs q b e =
-    let there = served-read limit bs q e in
+    let there = any-read servedRow limit bs q e in
     let numbers = read-numbers bs b limit q there in
     record {
       id = pick-either (λ (n : ℕ). n < 2 ^ 32) _ (numbers .fields Field.msg-id) (numbers .fields Field.recv-id);

@@ -29,6 +29,7 @@ ghost use Prim.Native.Nat.{_≤_};
 ghost use lib.ListN.{length};
 ghost use Rattle.protocol.specs.Reading.{headerIn, packetIn, readLengths, readFlags, readOf};
 ghost use Rattle.protocol.specs.Rules.{Sound, Inside};
+ghost use Rattle.protocol.specs.Types.{everyRow, servedRow, readerRows};
 
 fn refused(refusal: Refusal) -> Read
     ensures { λ r. ⌜ r ≡ Read.Refused refusal ⌝ }
@@ -104,7 +105,7 @@ fn typed(row: TypeRow, bytes: &[u8]) -> Read
 }
 
 fn among(bytes: &[u8], limit: usize, all: bool) -> Read
-    ensures { λ r. ⌜ r ≡ readOf all limit (now (bytes .entry)) ⌝ }
+    ensures { λ r. ⌜ r ≡ readOf (readerRows all) limit (now (bytes .entry)) ⌝ }
 {
     let n = bytes.len();
     if limit < n {
@@ -128,7 +129,7 @@ fn among(bytes: &[u8], limit: usize, all: bool) -> Read
 
 // Reads a packet of any type of the table: the reader alone, whose limit is 8,192 bytes.
 pub fn read(bytes: &[u8]) -> Read
-    ensures { λ r. ⌜ r ≡ readOf true 8192 (now (bytes .entry)) ⌝ }
+    ensures { λ r. ⌜ r ≡ readOf everyRow 8192 (now (bytes .entry)) ⌝ }
 {
     among(bytes, LIMIT, true)
 }
@@ -136,7 +137,7 @@ pub fn read(bytes: &[u8]) -> Read
 // Reads a packet that is at most limit bytes long, of the types that the receive engine serves: a
 // CTS is refused as a type.
 pub fn read_served(bytes: &[u8], limit: usize) -> Read
-    ensures { λ r. ⌜ r ≡ readOf false limit (now (bytes .entry)) ⌝ }
+    ensures { λ r. ⌜ r ≡ readOf servedRow limit (now (bytes .entry)) ⌝ }
 {
     among(bytes, limit, false)
 }

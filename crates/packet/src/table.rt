@@ -13,7 +13,7 @@ use protocol::Shape;
 use protocol::TAG;
 use protocol::TypeRow;
 ghost use mathlib.Core.Path.{_≡_};
-ghost use Rattle.protocol.specs.Types.{rowOf, admit};
+ghost use Rattle.protocol.specs.Types.{admit, readerRows, rowOf};
 
 // Flags that an RTM may have: raw address, CQ data and connid; and that CTS and CTSDATA may have.
 const RTM_MAY: u16 = 0x8003;
@@ -162,7 +162,7 @@ pub fn find(kind: u8) -> Found
 
 // The same, of all types or only of those that the engine serves.
 pub(crate) fn find_among(kind: u8, all: bool) -> Found
-    ensures { λ r. ⌜ r ≡ admit all (rowOf kind) ⌝ }
+    ensures { λ r. ⌜ r ≡ admit (readerRows all) (rowOf kind) ⌝ }
 {
     match find(kind) {
         Found::Unknown => Found::Unknown,

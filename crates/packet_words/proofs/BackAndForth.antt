@@ -18,7 +18,7 @@ use Rattle.protocol.specs.Optional.{optionsFit}
 use Rattle.protocol.specs.Options.{connidOrZero}
 use Rattle.protocol.specs.RoundTrip.{Numbers, cqDataOrZero}
 use Rattle.protocol.specs.Says.{writtenSays}
-use Rattle.protocol.specs.Types.{rowOf}
+use Rattle.protocol.specs.Types.{everyRow, rowOf}
 use Rattle.protocol.specs.Values.{Values, valuesIn}
 use Rattle.protocol.specs.Values as packets
 use Rattle.protocol.specs.WriterInWords.{writerChecks}
@@ -210,11 +210,11 @@ writes-words-read bs values v raw body out size b room long z =
     let h = headerIn v in
     let said = sym (reads-into-words bs values .0 (⊎-elim (λ l. l) few (le-or-lt 19 (length values)))) ∙ z in
     let (p, e, same) = read-gives bs _ (wordsSay v raw body) said in
-    let kind = read-tells-its-bytes true 8192 bs p e .kind in
+    let kind = read-tells-its-bytes everyRow 8192 bs p e .kind in
     let small : typeWord v < 256 = omega (arith, b 0, type-read v raw body bs p same) in
     let fit = held-read v raw body bs p same (read-numbers bs b 8192 p e) in
     let (q, a, y) = as-read 8192 bs p e in
-    let (answer, left) = writes-what-was-read true 8192 bs h raw body out b (a .allowed) room (said ∙ ap gives (sym (header-said v raw body small fit))) in
+    let (answer, left) = writes-what-was-read everyRow 8192 bs h raw body out b (a .allowed) room (said ∙ ap gives (sym (header-said v raw body small fit))) in
     let written = written-gives _ (length bs) answer in
     let (r, w, l) = as-written h raw body out (length bs) written in
     written-on v raw body out size r w long small fit _ (length bs) left written

@@ -17,7 +17,7 @@ use Rattle.protocol.specs.Optional.{optionsFit}
 use Rattle.protocol.specs.InWords.{TypesAreTheTables}
 use Rattle.protocol.specs.Layout.{Field, width}
 use Rattle.protocol.specs.Lengths.{lengthsFit}
-use Rattle.protocol.specs.Types.{admit, rowOf}
+use Rattle.protocol.specs.Types.{admit, everyRow, rowOf}
 use Rattle.protocol.specs.WriterInWords.{connidTakes, cqDataTakes}
 use Rattle.protocol.specs.WriterInWords as packet
 use Rattle.protocol.specs.Writing.{Outcome, writeOf}
@@ -129,7 +129,7 @@ rule-in v n w = record { cts = w .cts; ctsdata = w .ctsdata; medium = w .medium;
 
 known-row : (k : ℕ) (r : TypeRow) → rowOf k ≡ Row r → Known true k
 unfolding TypesAreTheTables admit pick
-known-row k r e = types-are-the-tables true k .0 (r, ap (admit true) e)
+known-row k r e = types-are-the-tables true k .0 (r, ap (admit everyRow) e)
 
 -- each check stands in the list
 placed : (c : Check) → (i : ℕ) × (i < 6) × (checkAt i ≡ c)

@@ -2,12 +2,12 @@
 -- Proved in proofs/WordsTold.antt.
 use Prim.Native.Nat.{ℕ, _≤_, _<_}
 use lib.ListN.{length}
-use mathlib.Core.Bool.{true}
 use mathlib.Core.List.{List}
 use mathlib.Core.Path.{_≡_}
 use Rattle.protocol.specs.Checks.{refused}
 use Rattle.protocol.specs.Reading.{readOf}
 use Rattle.protocol.specs.Says.{readSays}
+use Rattle.protocol.specs.Types.{everyRow}
 use Rattle.packet_words.specs.Says.{tookSays}
 use Rattle.packet_words.specs.Values.{readInto}
 
@@ -15,7 +15,7 @@ use Rattle.packet_words.specs.Values.{readInto}
 unfoldable pub ReadsIntoWords : Type 0
 ReadsIntoWords =
     (bs values : List ℕ)
-    → (19 ≤ length values → tookSays bs (readInto bs values) ≡ readSays bs (readOf true 8192 bs))
+    → (19 ≤ length values → tookSays bs (readInto bs values) ≡ readSays bs (readOf everyRow 8192 bs))
     × (length values < 19 → tookSays bs (readInto bs values) ≡ refused 21)
 
 -- "Each refusal returns its number alone and changes nothing lent"

@@ -1,7 +1,6 @@
 -- A packet's values as 19 words, and the reader into them (01: "A packet's values are its type, that type's own fields ..").
 use Prim.Native.Nat.{ℕ}
 use mathlib.Core.List.{List, [], _∷_}
-use mathlib.Core.Bool.{true}
 use lib.ListN.{length}
 use lib.Dec.{leb}
 use Rattle.laws.specs.Choose.{pick}
@@ -12,6 +11,7 @@ use Rattle.protocol.specs.declared.types.Header.{Header}
 use Rattle.protocol.specs.declared.types.Packet.{Packet}
 use Rattle.protocol.specs.declared.types.Read.{Read}
 use Rattle.protocol.specs.Reading.{readOf}
+use Rattle.protocol.specs.Types.{everyRow}
 use Rattle.words.specs.Presence.{bitOf, cqBit, cqValue}
 use Rattle.packet_words.specs.Presence.{connidBit, connidValue}
 
@@ -38,4 +38,4 @@ tookAs values (Read.Packet p) = record { refusal = 0; values = storeAt values 0 
 -- with too few words nothing is read
 unfoldable pub readInto : List ℕ → List ℕ → Took
 readInto bytes values =
-    pick (leb valueCount (length values)) (tookAs values (readOf true 8192 bytes)) (record { refusal = noRoom .number; values = values })
+    pick (leb valueCount (length values)) (tookAs values (readOf everyRow 8192 bytes)) (record { refusal = noRoom .number; values = values })

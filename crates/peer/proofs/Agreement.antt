@@ -16,6 +16,7 @@ use Rattle.protocol.specs.Refusals.{badLength, badSlot, beyondGrant, differs, e
 use Rattle.protocol.specs.declared.types.Packet.{Packet}
 use Rattle.protocol.specs.declared.types.Read.{Read}
 use Rattle.protocol.specs.declared.types.Refusal.{Refusal}
+use Rattle.protocol.specs.Types.{servedRow}
 use Rattle.peer.specs.Calls.{Call, cancel, cancelAt, cancelEffect, missingIn, packet, packetEffect, peerStep, placed, placedIn, post, postEffect, readEffect, report, reportAt, reportEffect}
 use Rattle.peer.specs.Claims.{takes}
 use Rattle.peer.specs.Coverage.{Segment, allOf, covers}
@@ -295,9 +296,9 @@ module _ (area limit : ℕ) (p : Peer) (ws : List ℕ) (l : Plain) (v : Valid ar
       place (Vacancy.Slot i) e = (same _, posted r i e)
   meets (packet bs room) =
       beside (λ (f : Effect) (x : Ruling). Both (packet bs room) f (x .target) (x .answer)) _ _ _ _ refl (λ x. refused-both (packet bs room) shortReply)
-      (λ x. read (readOf false limit bs) refl (ltb-false room 24 x))
+      (λ x. read (readOf servedRow limit bs) refl (ltb-false room 24 x))
     where
-      read : (d : Read) → readOf false limit bs ≡ d → 24 ≤ room
+      read : (d : Read) → readOf servedRow limit bs ≡ d → 24 ≤ room
           → Both (packet bs room) (readEffect limit p ws bs d) (expectRead limit l bs d .target) (expectRead limit l bs d .answer)
       read (Read.Refused k) e x = refused-both (packet bs room) k
       read (Read.Packet q) e x =

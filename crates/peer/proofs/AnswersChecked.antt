@@ -16,6 +16,7 @@ use Rattle.protocol.specs.Says.{readSays}
 use Rattle.protocol.specs.Values.{bytesAt, valuesIn}
 use Rattle.protocol.specs.declared.types.Packet.{Packet}
 use Rattle.protocol.specs.declared.types.Read.{Read}
+use Rattle.protocol.specs.Types.{servedRow}
 use Rattle.peer.specs.Calls.{Call, cancel, packet, post, report}
 use Rattle.peer.specs.Checks.{AnswersAreChecked, Check, Fails, checksOf, judgedChecks, numberOf, unread}
 use Rattle.peer.specs.Claims.{AreBytes}
@@ -100,7 +101,7 @@ module _ (area limit : ℕ) (l : Plain) where
   -- ---- packet
 
   module _ (one : OneEach (viewIn l)) (small : l .next < 2 ^ 32) (bs : List ℕ) (octets : (i : ℕ) → getD bs i 0 < 256) (q : Packet)
-      (e : readOf false limit bs ≡ Read.Packet q) where
+      (e : readOf servedRow limit bs ≡ Read.Packet q) where
     abbrev h : Incoming
     h = incomingOf q
 
@@ -166,10 +167,10 @@ module _ (area limit : ℕ) (l : Plain) where
   unfolding expected expectPacket expectRead RefusedByFirstToFail ReadIfNoneFails
   packet-checked one small bs room octets =
       branch (λ (x : Ruling). G (checksOf (packet bs room)) (x .answer)) _ _ _ (λ x. inl (ltb-true _ _ x, refl))
-      (λ x. inr (λ y. omega (arith, ltb-false room 24 x), read (readOf false limit bs) refl))
+      (λ x. inr (λ y. omega (arith, ltb-false room 24 x), read (readOf servedRow limit bs) refl))
     where
       -- the reader's checks, then the judgement's
-      read : (d : Read) → readOf false limit bs ≡ d → G (map (unread bs) readerChecks ++ judgedChecks bs) (expectRead limit l bs d .answer)
+      read : (d : Read) → readOf servedRow limit bs ≡ d → G (map (unread bs) readerChecks ++ judgedChecks bs) (expectRead limit l bs d .answer)
       read (Read.Refused k) e =
           let (i, w, n, (x, b)) = refused-by-first-to-fail false limit bs (k .number) .0 (ap (readSays bs) e) in
           gone-at (Fails area limit v) numberOf (unread bs) readerChecks (judgedChecks bs) wrongLengths (said (Answer.Refused k)) i w x b

@@ -14,7 +14,7 @@ use Rattle.protocol.specs.InWords as words
 use Rattle.protocol.specs.InWords.{ReadTellsItsBytes, flagsIn, headIn}
 use Rattle.protocol.specs.Reading.{readOf, readTyped}
 use Rattle.protocol.specs.Refusals.{badType}
-use Rattle.protocol.specs.Types.{admit, rowOf}
+use Rattle.protocol.specs.Types.{admit, rowOf, servedRow}
 use Rattle.protocol.specs.declared.table.Found.{Found}
 use Rattle.protocol.specs.declared.table.Found.the-variants.{Row, Unknown}
 use Rattle.protocol.specs.declared.table.TypeRow.{TypeRow}
@@ -47,7 +47,7 @@ pub record Says (bs : List ℕ) (h : Incoming) : Type 0 where
 no-packet : (k : Refusal) (p : Packet) → Read.Refused k ≡ Read.Packet p → ⊥
 no-packet k p e = let z : _≡_ {A = ℕ} 0 1 = cc in omega arith
 
-row-served : (o : Found) (bs : List ℕ) (p : Packet) → readTyped (admit false o) bs ≡ Read.Packet p → (r : TypeRow) × (o ≡ Row r) × (r .served ≡ true)
+row-served : (o : Found) (bs : List ℕ) (p : Packet) → readTyped (admit servedRow o) bs ≡ Read.Packet p → (r : TypeRow) × (o ≡ Row r) × (r .served ≡ true)
 unfolding readTyped admit pick
 row-served Unknown bs p e = absurd (no-packet badType p e)
 row-served (Row r) bs p e = (r, refl, go (r .served) e)
@@ -66,7 +66,7 @@ served-passes k r e s =
     ⊎-elim (λ x. clashing (r .served) s (not-true _ x)) (λ x. x)
     (or-cases (not (r .served)) (rowTest r) (row-passes (λ q. not (q .served) || rowTest q) refl k r e))
 
-module _ (limit : ℕ) (bs : List ℕ) (q : Packet) (e : readOf false limit bs ≡ Read.Packet q) where
+module _ (limit : ℕ) (bs : List ℕ) (q : Packet) (e : readOf servedRow limit bs ≡ Read.Packet q) where
   the-row : (r : TypeRow) × (rowOf (typeIn bs) ≡ Row r) × (r .served ≡ true)
   unfolding readOf
   the-row =
@@ -89,7 +89,7 @@ module _ (limit : ℕ) (bs : List ℕ) (q : Packet) (e : readOf false limit bs �
   -- where its parts lie
   pub bytes-told : words.Told bs (typeIn bs) (flagsIn bs) q
   unfolding ReadTellsItsBytes
-  bytes-told = read-tells-its-bytes false limit bs q e
+  bytes-told = read-tells-its-bytes servedRow limit bs q e
 
   size-said : incomingOf q .size ≡ sizeIn bs
   unfolding sizeIn

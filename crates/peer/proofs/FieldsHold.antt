@@ -13,7 +13,7 @@ use Rattle.protocol.specs.FieldNumbers.{fieldsIn, numberAt}
 use Rattle.protocol.specs.Layout.{layout, placeOf, tag}
 use Rattle.protocol.specs.Lengths.{lengthsFit}
 use Rattle.protocol.specs.Reading.{headerIn, packetIn, readOf}
-use Rattle.protocol.specs.Types.{row, rowIn, rowOf, rows}
+use Rattle.protocol.specs.Types.{row, rowIn, rowOf, rows, servedRow}
 use Rattle.protocol.specs.declared.table.Found.the-variants.{Row}
 use Rattle.protocol.specs.declared.table.Shape.the-variants.{Cts}
 use Rattle.protocol.specs.declared.table.TypeRow.{TypeRow}
@@ -27,7 +27,7 @@ use Rattle.wire.specs.LittleEndian.{leAt}
 use Rattle.laws.proofs.Choosing.{and-right, clashing, or-cases}
 use Rattle.protocol.proofs.Accepted.{ReadAs, as-read, dataFrom, packetOf}
 use Rattle.protocol.proofs.RowLaws.{number-none}
-use Rattle.protocol.proofs.Served.{served-read}
+use Rattle.protocol.proofs.Served.{any-read}
 use Rattle.protocol.proofs.TableRule.{row-passes, rows-say, sound}
 use Rattle.protocol.proofs.TypeWords.{tagged-in-words}
 
@@ -68,12 +68,12 @@ module _ {g h : Incoming} (p : g ≡ h) where
 abbrev rowAt : ℕ → TypeRow
 rowAt i = getD rows i (row 0 Cts 0 0 0 0 false false false 0 0)
 
-module _ (limit : ℕ) (bs : List ℕ) (q : Packet) (e : readOf false limit bs ≡ Read.Packet q) where
+module _ (limit : ℕ) (bs : List ℕ) (q : Packet) (e : readOf servedRow limit bs ≡ Read.Packet q) where
   -- a packet of the type k is read as the row of this type has it
   read-by-row : (k : ℕ) (r : TypeRow) → rowOf k ≡ Row r → getD bs 0 0 ≡ k
       → ReadAs limit bs r × (incomingOf q ≡ incomingOf (packetOf r (leAt 2 bs 2) bs))
   read-by-row k r x y =
-      let (s, a, p) = as-read limit bs q (served-read limit bs q e) in
+      let (s, a, p) = as-read limit bs q (any-read servedRow limit bs q e) in
       let same : s ≡ r = cc (a .row, x, y) in
       (subst (ReadAs limit bs) same a, ap incomingOf p ∙ ap (λ (z : TypeRow). incomingOf (packetOf z (leAt 2 bs 2) bs)) same)
 
@@ -83,13 +83,13 @@ module _ (limit : ℕ) (bs : List ℕ) (q : Packet) (e : readOf false limit bs �
   kind-read : typeSaid (incomingOf q) ≡ getD bs 0 0
   unfolding incomingOf packetIn
   kind-read =
-      let (r, a, p) = as-read limit bs q (served-read limit bs q e) in
+      let (r, a, p) = as-read limit bs q (any-read servedRow limit bs q e) in
       ap (λ (x : Packet). typeNumber (x .shape) (x .tagged)) p ∙ numbered (getD bs 0 0) r (a .row)
 
   tagged-read : incomingOf q .tagged ≡ taggedTold (getD bs 0 0)
   unfolding incomingOf packetIn
   tagged-read =
-      let (r, a, p) = as-read limit bs q (served-read limit bs q e) in
+      let (r, a, p) = as-read limit bs q (any-read servedRow limit bs q e) in
       ap (λ (x : Packet). x .tagged) p ∙ tagged-in-words (getD bs 0 0) r (a .row)
 
   size-read : getD bs 0 0 ≡ 4 → incomingOf q .size ≡ leAt 8 bs 8
@@ -102,7 +102,7 @@ module _ (limit : ℕ) (bs : List ℕ) (q : Packet) (e : readOf false limit bs �
   tag-read : taggedTold (getD bs 0 0) ≡ false → incomingOf q .tag ≡ 0
   unfolding incomingOf packetIn headerIn fieldsIn
   tag-read x =
-      let (r, a, p) = as-read limit bs q (served-read limit bs q e) in
+      let (r, a, p) = as-read limit bs q (any-read servedRow limit bs q e) in
       ap (λ (y : Packet). y .header .fields .tag) p
       ∙ number-none r bs tag (sound (getD bs 0 0) r (a .row)) (plain-untagged (getD bs 0 0) r (a .row) (tagged-in-words (getD bs 0 0) r (a .row) ∙ x))
 

@@ -16,6 +16,7 @@ use Rattle.protocol.specs.declared.types.CqData.{CqData}
 use Rattle.protocol.specs.declared.types.Packet.{Packet}
 use Rattle.protocol.specs.declared.types.Read.{Read}
 use Rattle.protocol.specs.declared.types.Refusal.{Refusal}
+use Rattle.protocol.specs.Types.{servedRow}
 use Rattle.peer.specs.Answers.{onTaken}
 use Rattle.peer.specs.Calls.{Call, cancel, packet, post, report}
 use Rattle.peer.specs.Claims.{history, plainAfter, takes}
@@ -49,7 +50,7 @@ pub record Brings (limit : ℕ) (c : Call) : Type 0 where
   pub room : ℕ
   pub read : Packet
   pub call : c ≡ packet text room
-  pub reads : readOf false limit text ≡ Read.Packet read
+  pub reads : readOf servedRow limit text ≡ Read.Packet read
 
 abbrev pub headOf : {limit : ℕ} {c : Call} → Brings limit c → Incoming
 headOf b = incomingOf (b .read)
@@ -251,7 +252,7 @@ module _ (limit : ℕ) (l : Plain) (h : Incoming) (body : List ℕ) where
   ruled = ruled-found (openIn (h .id) 0 (roles (l .entries))) refl
 
 -- a packet that is read
-module _ (limit : ℕ) (l : Plain) (bs : List ℕ) (room : ℕ) (q : Packet) (reads : readOf false limit bs ≡ Read.Packet q) where
+module _ (limit : ℕ) (l : Plain) (bs : List ℕ) (room : ℕ) (q : Packet) (reads : readOf servedRow limit bs ≡ Read.Packet q) where
   abbrev b : Brings limit (packet bs room)
   b = record { text = bs; room = room; read = q; call = refl; reads = reads }
 
@@ -299,9 +300,9 @@ walked area limit l (post r) =
     go (Vacancy.Slot i) = (tt, withPost nowhere i r refl)
 walked area limit l (packet bs room) =
     branch (λ (x : Ruling). Walked limit l (packet bs room) (x .target) (x .answer)) (ltb room 24) _ _
-    (λ x. refused-walked limit l (packet bs room) shortReply) (λ x. go (readOf false limit bs) refl)
+    (λ x. refused-walked limit l (packet bs room) shortReply) (λ x. go (readOf servedRow limit bs) refl)
   where
-    go : (x : Read) → readOf false limit bs ≡ x → Walked limit l (packet bs room) (expectRead limit l bs x .target) (expectRead limit l bs x .answer)
+    go : (x : Read) → readOf servedRow limit bs ≡ x → Walked limit l (packet bs room) (expectRead limit l bs x .target) (expectRead limit l bs x .answer)
     go (Read.Refused k) e = refused-walked limit l (packet bs room) k
     go (Read.Packet q) e = ruled-walked limit l bs room q e (ruled limit l (incomingOf q) (bytesAt bs (q .«data»)))
 walked area limit l (cancel i) =

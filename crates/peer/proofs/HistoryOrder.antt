@@ -1,13 +1,14 @@
 -- Messages are matched in message order, each to the receive that was posted first of those that it fits; a message is truncated exactly if
 -- it is longer than that receive.
 use Prim.Native.Nat.{ℕ, _≤_, _<_}
-use mathlib.Core.Bool.{true, false, false≢true}
+use mathlib.Core.Bool.{true, false≢true}
 use mathlib.Core.List.{List}
 use mathlib.Core.Path.{_≡_, refl, sym, ap, _∙_, subst, subst₂}
 use native.Mathlib.Omega.{arith}
 use Rattle.protocol.specs.Reading.{readOf}
 use Rattle.protocol.specs.declared.types.Packet.{Packet}
 use Rattle.protocol.specs.declared.types.Read.{Read}
+use Rattle.protocol.specs.Types.{servedRow}
 use Rattle.peer.specs.Calls.{packet}
 use Rattle.peer.specs.Claims.{HasRoom, InOrder, MatchedInOrder, TruncateClaim, TruncatedAboveCapacity, history}
 use Rattle.peer.specs.Effects.{opened}
@@ -36,11 +37,11 @@ in-order {l} {h} q e (begins i r serial m) x =
     }
 
 -- the packet that a call brings is the one that is read
-module _ (limit : ℕ) (bs : List ℕ) (room : ℕ) (q : Packet) (e : readOf false limit bs ≡ Read.Packet q) (b : Brings limit (packet bs room)) where
+module _ (limit : ℕ) (bs : List ℕ) (room : ℕ) (q : Packet) (e : readOf servedRow limit bs ≡ Read.Packet q) (b : Brings limit (packet bs room)) where
   same-head : incomingOf q ≡ headOf b
   same-head =
       let same : bs ≡ b .text = cc (b .call) in
-      let read : q ≡ b .read = cc (b .reads, ap (readOf false limit) same) in
+      let read : q ≡ b .read = cc (b .reads, ap (readOf servedRow limit) same) in
       ap incomingOf read
 
 pub matched-in-order : MatchedInOrder
@@ -60,7 +61,7 @@ waited q e (begins j r serial m) x i =
     let same : waiting r ≡ waiting (i .receive) = sym (m .chosen .waits) ∙ i .waits in
     (cc, refl)
 
-module _ (limit : ℕ) (l : Plain) (bs : List ℕ) (room : ℕ) (q : Packet) (e : readOf false limit bs ≡ Read.Packet q) (t : Target) where
+module _ (limit : ℕ) (l : Plain) (bs : List ℕ) (room : ℕ) (q : Packet) (e : readOf servedRow limit bs ≡ Read.Packet q) (t : Target) where
   roomy : (w : Taken limit l (packet bs room) t) → Fitting (t .matched) (w .message) → HasRoom l q t
   roomy w f =
       record {

@@ -13,6 +13,7 @@ use Rattle.protocol.specs.Reading.{readOf}
 use Rattle.protocol.specs.Values.{bytesAt}
 use Rattle.protocol.specs.declared.types.Packet.{Packet}
 use Rattle.protocol.specs.declared.types.Read.{Read}
+use Rattle.protocol.specs.Types.{servedRow}
 use Rattle.peer.specs.Calls.{Call, countPosted, missingIn, packet, placed, renumbered, report}
 use Rattle.peer.specs.Coverage.{Segment}
 use Rattle.peer.specs.Effects.{Effect, accept, advance, begun, extended, grantOf, inSlot, opened, progressOf, quiet, settledAs, truncatedAt, withPhase}
@@ -276,7 +277,7 @@ module _ (limit : ℕ) (p : Peer) (ws : List ℕ) (eight : length (p .slots) ≡
   -- ---- a packet that was read
 
   module _ (area : ℕ) (v : Valid area (p .slots)) (cover : area ≤ 64 * length ws) (bs : List ℕ) (room : ℕ) (q : Packet)
-      (e : readOf false limit bs ≡ Read.Packet q) where
+      (e : readOf servedRow limit bs ≡ Read.Packet q) where
     abbrev h : Incoming
     h = incomingOf q
 

@@ -2,7 +2,7 @@
 use Prim.Native.Nat.{ℕ, zero, suc, _<_}
 use lib.ListN.{length, set, length-set, length-replicate}
 use lib.Seq.{getD-set-same}
-use mathlib.Core.Bool.{true, false}
+use mathlib.Core.Bool.{true}
 use mathlib.Core.List.{List, [], _∷_}
 use mathlib.Core.Logic.{⊎-elim}
 use mathlib.Core.Path.{_≡_, refl, sym, ap, _∙_, subst, subst₂}
@@ -11,6 +11,7 @@ use Rattle.laws.specs.Choose.{pick}
 use Rattle.protocol.specs.Reading.{readOf}
 use Rattle.protocol.specs.declared.types.Packet.{Packet}
 use Rattle.protocol.specs.declared.types.Read.{Read}
+use Rattle.protocol.specs.Types.{servedRow}
 use Rattle.peer.specs.Calls.{Call}
 use Rattle.peer.specs.Claims.{history, plainAfter, takes}
 use Rattle.peer.specs.Effects.{opened}
@@ -32,7 +33,7 @@ use Rattle.peer.proofs.HistoryFacts.{Aims, Entered, Outcome, Taken, asB
 -- ---- a packet that begins a message
 
 -- the message that it begins has its numbers
-pub begun-by : (limit : ℕ) (bs : List ℕ) (q : Packet) → readOf false limit bs ≡ Read.Packet q → isRtm (incomingOf q .shape) ≡ true → (r : Receive)
+pub begun-by : (limit : ℕ) (bs : List ℕ) (q : Packet) → readOf servedRow limit bs ≡ Read.Packet q → isRtm (incomingOf q .shape) ≡ true → (r : Receive)
     → BegunBy bs (opened r (incomingOf q) .message)
 begun-by limit bs q e rtm r =
     let says = read-says limit bs q e in
@@ -91,7 +92,7 @@ module _ (limit : ℕ) (l : Plain) (gs : List Origin) (from : Trace l gs) where
       (used-inside (l .entries) i (λ x. absurd (let y : waiting r ≡ idle = sym e ∙ x in let z : _≡_ {A = ℕ} 0 1 = cc in omega arith)))
 
   -- of a packet that is taken: its entry's origin
-  aimed : {bytes : List ℕ} {t : Target} {o : Inbound} (bs : List ℕ) (q : Packet) → readOf false limit bs ≡ Read.Packet q → Aims l (incomingOf q) bytes t o
+  aimed : {bytes : List ℕ} {t : Target} {o : Inbound} (bs : List ℕ) (q : Packet) → readOf servedRow limit bs ≡ Read.Packet q → Aims l (incomingOf q) bytes t o
       → FromOrigin (originAt (after t bs) (t .index)) (receiving o)
   unfolding pick
   aimed bs q e (goesOn i o g) = subst (FromOrigin (originAt gs i)) (g .role) (from .1 i)

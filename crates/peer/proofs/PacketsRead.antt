@@ -13,7 +13,7 @@ use Rattle.protocol.specs.FieldNumbers.{fieldsIn}
 use Rattle.protocol.specs.Layout.{layout, placeOf, seg-offset}
 use Rattle.protocol.specs.Lengths.{lengthsFit}
 use Rattle.protocol.specs.Reading.{headerIn, packetIn, readOf}
-use Rattle.protocol.specs.Types.{rowOf}
+use Rattle.protocol.specs.Types.{rowOf, servedRow}
 use Rattle.protocol.specs.Values.{bytesAt}
 use Rattle.protocol.specs.declared.table.Found.the-variants.{Row}
 use Rattle.protocol.specs.declared.table.Shape.{Shape}
@@ -29,7 +29,7 @@ use Rattle.laws.proofs.Choosing.{and-right, clashing, or-cases, pick-false, pic
 use Rattle.laws.proofs.Storing.{length-part}
 use Rattle.protocol.proofs.Accepted.{ReadAs, as-read, dataFrom, packetOf}
 use Rattle.protocol.proofs.RowLaws.{number-none}
-use Rattle.protocol.proofs.Served.{served-read}
+use Rattle.protocol.proofs.Served.{any-read}
 use Rattle.protocol.proofs.TableRule.{row-passes, sound}
 
 -- the shapes that have no offset, since their data begin the message
@@ -102,8 +102,8 @@ module _ (limit : ℕ) (bs : List ℕ) (r : TypeRow) (a : ReadAs limit bs r) whe
       from Medium e long = never isLong Medium e refl long
       from LongCts e long = offset (ap fromStart e)
 
-pub read-formed : (limit : ℕ) (bs : List ℕ) (q : Packet) → readOf false limit bs ≡ Read.Packet q → Formed (incomingOf q) (length (bytesAt bs (q .«data»)))
-read-formed limit bs q e = go (as-read limit bs q (served-read limit bs q e))
+pub read-formed : (limit : ℕ) (bs : List ℕ) (q : Packet) → readOf servedRow limit bs ≡ Read.Packet q → Formed (incomingOf q) (length (bytesAt bs (q .«data»)))
+read-formed limit bs q e = go (as-read limit bs q (any-read servedRow limit bs q e))
   where
     go : (r : TypeRow) × ReadAs limit bs r × (q ≡ packetOf r (leAt 2 bs 2) bs) → Formed (incomingOf q) (length (bytesAt bs (q .«data»)))
     go w = subst (λ (x : Packet). Formed (incomingOf x) (length (bytesAt bs (x .«data»)))) (sym (w .2)) (shaped limit bs (w .0) (w .1) (w .0 .shape) refl)

@@ -10,7 +10,7 @@ use native.Mathlib.Omega.{arith}
 use Rattle.protocol.specs.Reading.{packetIn, readFlags, readLengths, readOf, readSections, readTyped}
 use Rattle.protocol.specs.Refusals.{badLength, badSlot, noSlot, overlaps, shortReply}
 use Rattle.protocol.specs.Sections.{extentOf}
-use Rattle.protocol.specs.Types.{admit, rowOf}
+use Rattle.protocol.specs.Types.{admit, rowOf, servedRow}
 use Rattle.protocol.specs.Values.{bytesAt}
 use Rattle.protocol.specs.declared.sections.Extent.{Extent}
 use Rattle.protocol.specs.declared.table.Found.the-variants.{Row, Unknown}
@@ -42,7 +42,7 @@ use Rattle.peer.proofs.Verdicts.{Begins, Continues, CutOff, Judged, Lis
 -- the packet is read, and its reply buffer has room for a CTS
 pub record Arrives (limit : ℕ) (bs : List ℕ) (room : ℕ) (q : Packet) : Type 0 where
   pub roomy : 24 ≤ room
-  pub reads : readOf false limit bs ≡ Read.Packet q
+  pub reads : readOf servedRow limit bs ≡ Read.Packet q
 
 abbrev pub dataOf : List ℕ → Packet → List ℕ
 dataOf bs q = bytesAt bs (q .«data»)
@@ -67,12 +67,12 @@ abbrev ReadListed : Read → Type 0
 ReadListed (Read.Refused k) = Listed k
 ReadListed (Read.Packet q) = Unit {0}
 
-read-listed : (all : Bool) (limit : ℕ) (bs : List ℕ) → ReadListed (readOf all limit bs)
+read-listed : (which : TypeRow → Bool) (limit : ℕ) (bs : List ℕ) → ReadListed (readOf which limit bs)
 unfolding readOf
-read-listed all limit bs =
+read-listed which limit bs =
     branch ReadListed _ _ _ (λ x. refl) (λ x.
     branch ReadListed _ _ _ (λ x. refl) (λ x.
-    branch ReadListed _ _ _ (λ x. typed (admit all (rowOf (getD bs 0 0)))) (λ x. refl)))
+    branch ReadListed _ _ _ (λ x. typed (admit which (rowOf (getD bs 0 0)))) (λ x. refl)))
   where
     lengths : (r : TypeRow) (q : Packet) → ReadListed (readLengths r q)
     lengths r q = unfold readLengths in branch ReadListed _ _ _ (λ x. tt) (λ x. refl)
@@ -106,10 +106,10 @@ module _ (area limit : ℕ) (p : Peer) (ws : List ℕ) where
       place Vacancy.Full e x y = refused (post r) noSlot refl
       place (Vacancy.Slot i) e x y = posted r i e x y
   step-case (packet bs room) =
-      branch (StepCase area limit p ws (packet bs room)) _ _ _ (λ x. refused (packet bs room) shortReply refl) (λ x. read (readOf false limit bs) refl (ltb-false room 24 x))
+      branch (StepCase area limit p ws (packet bs room)) _ _ _ (λ x. refused (packet bs room) shortReply refl) (λ x. read (readOf servedRow limit bs) refl (ltb-false room 24 x))
     where
-      read : (d : Read) → readOf false limit bs ≡ d → 24 ≤ room → StepCase area limit p ws (packet bs room) (readEffect limit p ws bs d)
-      read (Read.Refused k) e x = refused (packet bs room) k (subst ReadListed e (read-listed false limit bs))
+      read : (d : Read) → readOf servedRow limit bs ≡ d → 24 ≤ room → StepCase area limit p ws (packet bs room) (readEffect limit p ws bs d)
+      read (Read.Refused k) e x = refused (packet bs room) k (subst ReadListed e (read-listed servedRow limit bs))
       read (Read.Packet q) e x =
           carried bs room q (record { roomy = x; reads = e }) (judge p ws (incomingOf q)) (judged p ws (incomingOf q) _ (read-formed limit bs q e))
   step-case (cancel i) =

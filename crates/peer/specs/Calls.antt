@@ -10,6 +10,7 @@ use Rattle.protocol.specs.Refusals.{badLength, badSlot, noSlot, overlaps, short
 use Rattle.protocol.specs.declared.types.Read.{Read}
 use Rattle.protocol.specs.Reading.{readOf}
 use Rattle.protocol.specs.Values.{bytesAt}
+use Rattle.protocol.specs.Types.{servedRow}
 use Rattle.peer.specs.declared.types.Receive.{Receive}
 use Rattle.peer.specs.declared.types.Inbound.{Inbound}
 use Rattle.peer.specs.declared.types.Phase.{Phase}
@@ -92,7 +93,7 @@ readEffect limit p ws bs (Read.Packet q) = carry limit p ws (incomingOf q) (byte
 -- "Packet order: .. 5, 6, then 7 if under 4 bytes, 8, 9, 10, 7, 11; then" the judgement's
 unfoldable pub packetEffect : ℕ → Peer → List ℕ → List ℕ → ℕ → Effect
 packetEffect limit p ws bs room =
-    pick (ltb room 24) (refuse p ws shortReply) (readEffect limit p ws bs (readOf false limit bs))
+    pick (ltb room 24) (refuse p ws shortReply) (readEffect limit p ws bs (readOf servedRow limit bs))
 
 -- ---- cancel and report
 

@@ -8,6 +8,7 @@ use Rattle.laws.specs.Choose.{pick}
 use Rattle.protocol.specs.declared.types.Packet.{Packet}
 use Rattle.protocol.specs.declared.types.Read.{Read}
 use Rattle.protocol.specs.Reading.{readOf}
+use Rattle.protocol.specs.Types.{servedRow}
 use Rattle.peer.specs.declared.types.Answer.{Answer}
 use Rattle.peer.specs.declared.types.Inbound.{Inbound}
 use Rattle.peer.specs.declared.types.Receive.{Receive}
@@ -81,7 +82,7 @@ isGrant a = onGranted false (λ n. true) a
 unfoldable pub MatchedInOrder : Type 0
 MatchedInOrder =
     (area limit : ℕ) (calls : List Call) (bs : List ℕ) (room : ℕ) (q : Packet)
-    → readOf false limit bs ≡ Read.Packet q
+    → readOf servedRow limit bs ≡ Read.Packet q
     → takes (expected area limit (history area limit calls) (packet bs room)) ≡ true
     → targetOfCall limit (history area limit calls) (packet bs room) .matched ≡ true
     → InOrder (history area limit calls) q (targetOfCall limit (history area limit calls) (packet bs room))
@@ -107,7 +108,7 @@ TruncateClaim l q t a =
 unfoldable pub TruncatedAboveCapacity : Type 0
 TruncatedAboveCapacity =
     (area limit : ℕ) (calls : List Call) (bs : List ℕ) (room : ℕ) (q : Packet)
-    → readOf false limit bs ≡ Read.Packet q
+    → readOf servedRow limit bs ≡ Read.Packet q
     → TruncateClaim (history area limit calls) q (targetOfCall limit (history area limit calls) (packet bs room))
     (expected area limit (history area limit calls) (packet bs room))
 

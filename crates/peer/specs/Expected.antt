@@ -13,6 +13,7 @@ use Rattle.protocol.specs.declared.types.Read.{Read}
 use Rattle.protocol.specs.declared.types.Refusal.{Refusal}
 use Rattle.protocol.specs.Reading.{readOf}
 use Rattle.protocol.specs.Values.{bytesAt}
+use Rattle.protocol.specs.Types.{servedRow}
 use Rattle.peer.specs.declared.types.Receive.{Receive}
 use Rattle.peer.specs.declared.types.Message.{Message}
 use Rattle.peer.specs.declared.types.Inbound.{Inbound}
@@ -125,7 +126,7 @@ expectRead limit l bs (Read.Packet q) =
 
 -- 5 before all: "reply buffer below 24 bytes"
 unfoldable pub expectPacket : ℕ → Plain → List ℕ → ℕ → Ruling
-expectPacket limit l bs room = pick (ltb room 24) (refusing shortReply) (expectRead limit l bs (readOf false limit bs))
+expectPacket limit l bs room = pick (ltb room 24) (refusing shortReply) (expectRead limit l bs (readOf servedRow limit bs))
 
 -- ---- cancel and report: "20"
 

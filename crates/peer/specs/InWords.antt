@@ -13,6 +13,7 @@ use Rattle.protocol.specs.Reading.{readOf}
 use Rattle.protocol.specs.declared.table.Shape.{Shape}
 use Rattle.protocol.specs.declared.types.Packet.{Packet}
 use Rattle.protocol.specs.declared.types.Read.{Read}
+use Rattle.protocol.specs.Types.{servedRow}
 use Rattle.peer.specs.Coverage.{Segment, allOf, covers}
 use Rattle.peer.specs.Incomings.{incomingOf, isEager, isLong, isMedium, isRtm}
 use Rattle.peer.specs.Matching.{ahead, fits, sameMessage}
@@ -176,4 +177,4 @@ pub record Told (bs : List ℕ) (h : Incoming) : Type 0 where
   pub noTag : taggedTold (getD bs 0 0) ≡ false → h .tag ≡ 0
 
 unfoldable pub ReadAsTheTableSays : Type 0
-ReadAsTheTableSays = (limit : ℕ) (bs : List ℕ) (q : Packet) → readOf false limit bs ≡ Read.Packet q → Told bs (incomingOf q)
+ReadAsTheTableSays = (limit : ℕ) (bs : List ℕ) (q : Packet) → readOf servedRow limit bs ≡ Read.Packet q → Told bs (incomingOf q)

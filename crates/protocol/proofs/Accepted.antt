@@ -17,7 +17,7 @@ use Rattle.protocol.specs.Layout.{layout}
 use Rattle.protocol.specs.Lengths.{lengthsFit}
 use Rattle.protocol.specs.Reading.{readOf}
 use Rattle.protocol.specs.Refusals.{refusal}
-use Rattle.protocol.specs.Types.{admit, rowOf}
+use Rattle.protocol.specs.Types.{admit, everyRow, rowOf}
 use Rattle.protocol.specs.WriterInWords.{WriterCheck, brokenLengths, misplacedHeader, noType, overLongest, packetLength, shortBuffer, writeRefusedAs, writerCheckAt, writerChecks}
 use Rattle.protocol.specs.Writing.{Outcome, packetBytes, writeOf}
 use Rattle.protocol.specs.declared.table.Found.{Found}
@@ -48,7 +48,7 @@ pub record ReadAs (limit : ℕ) (bs : List ℕ) (r : TypeRow) : Type 0 where
   pub inside : dataFrom r (leAt 2 bs 2) bs ≤ length bs
   pub lengths : lengthsFit (r .shape) (fieldsIn (layout r) 4 bs) (length bs - dataFrom r (leAt 2 bs 2) bs) ≡ true
 
-pub read-as : (limit : ℕ) (bs : List ℕ) (r : TypeRow) → ReadAs limit bs r → readOf true limit bs ≡ Read.Packet (packetOf r (leAt 2 bs 2) bs)
+pub read-as : (limit : ℕ) (bs : List ℕ) (r : TypeRow) → ReadAs limit bs r → readOf everyRow limit bs ≡ Read.Packet (packetOf r (leAt 2 bs 2) bs)
 unfolding admit pick
 read-as limit bs r a =
     is-judged true limit bs
@@ -68,7 +68,7 @@ read-as limit bs r a =
     pass overLimit = le-ltb limit (length bs) (a .allowed)
     pass noBase = le-ltb (length bs) 4 (a .based)
     pass wrongVersion = ap not (eq-eqb (getD bs 1 0) 4 (a .version))
-    pass wrongType = ap (λ (o : Found). isUnknown (admit true o)) (a .row)
+    pass wrongType = ap (λ (o : Found). isUnknown (admit everyRow o)) (a .row)
     pass wrongFlags = row-at _ r (λ q. not (flagsFit q (leAt 2 bs 2))) (a .row) ∙ ap not (a .flags)
     pass headerCut = le-ltb (length bs) (headIn bs) (rw (row-head bs r (a .row) (a .flags)) at (a .inside))
     pass wrongLengths = row-at _ r (λ q. not (lengthsFit (q .shape) (fieldsTold bs k) (length bs - headIn bs))) (a .row) ∙ ap not fit
@@ -77,7 +77,7 @@ no-packet : (k : Refusal) (p : Packet) → Read.Refused k ≡ Read.Packet p → 
 no-packet k p e = let z : _≡_ {A = ℕ} 0 1 = cc in omega arith
 
 pub as-read : (limit : ℕ) (bs : List ℕ) (p : Packet)
-    → readOf true limit bs ≡ Read.Packet p
+    → readOf everyRow limit bs ≡ Read.Packet p
     → (r : TypeRow) × ReadAs limit bs r × (p ≡ packetOf r (leAt 2 bs 2) bs)
 as-read limit bs p e = accepted (of-row true (rowOf k) _ (row-out _ (pass wrongType) .1) .0)
   where

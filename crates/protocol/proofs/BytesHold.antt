@@ -170,7 +170,7 @@ module _ (limit : ℕ) (bs : List ℕ) (p : Packet) (r : TypeRow) (a : ReadAs li
 
 pub read-tells-its-bytes : ReadTellsItsBytes
 unfolding ReadTellsItsBytes
-read-tells-its-bytes all limit bs p e = let (r, a, q) = as-read limit bs p (any-read all limit bs p e) in told limit bs p r a q
+read-tells-its-bytes which limit bs p e = let (r, a, q) = as-read limit bs p (any-read which limit bs p e) in told limit bs p r a q
 
 -- ---- the values
 
@@ -210,7 +210,7 @@ module _ (bs : List ℕ) (p : Packet) (r : TypeRow) (row : rowOf (typeIn bs) ≡
 
 pub read-says-its-bytes : ReadSaysItsBytes
 unfolding ReadSaysItsBytes ReadTellsItsBytes
-read-says-its-bytes all limit bs v e =
+read-says-its-bytes which limit bs v e =
     let (p, y, same) = read-gives bs _ v e in
-    let (r, a, q) = as-read limit bs p (any-read all limit bs p y) in
-    sym same ∙ values-told bs p r (a .row) (read-tells-its-bytes all limit bs p y)
+    let (r, a, q) = as-read limit bs p (any-read which limit bs p y) in
+    sym same ∙ values-told bs p r (a .row) (read-tells-its-bytes which limit bs p y)

@@ -2,7 +2,6 @@
 use Prim.Native.Nat.{ℕ, _^_, _≤_, _<_}
 use borrow.Author.Tests.{le-leb}
 use lib.ListN.{take, replicate}
-use mathlib.Core.Bool.{true}
 use mathlib.Core.List.{List, []}
 use mathlib.Core.Path.{_≡_, refl, ap, subst}
 use native.Mathlib.Omega.{arith}
@@ -18,7 +17,7 @@ use Rattle.protocol.specs.Options.{connidOrZero}
 use Rattle.protocol.specs.Reading.{readOf}
 use Rattle.protocol.specs.RoundTrip.{Numbers}
 use Rattle.protocol.specs.Says.{readSays, writtenSays}
-use Rattle.protocol.specs.Types.{rowIn, rowOf}
+use Rattle.protocol.specs.Types.{everyRow, rowIn, rowOf}
 use Rattle.protocol.specs.Values.{ownNumbers, values}
 use Rattle.protocol.specs.Writing.{Outcome, baseBytes, mandatoryBytes, packetBytes, writeAs, writeBytes, writeOf, writeTyped}
 use Rattle.protocol.specs.declared.types.Written.{Written}
@@ -58,10 +57,10 @@ module _ (sendId recvId recvLength : ℕ) (s : sendId < 2 ^ 32) (r : recvId < 2 
   unfolding bytes ctsBytes writeOf writeTyped writeAs writeBytes rowOf rowIn optionsFit arrayAllowed arrayWhole countOf flagsOf lengthsFit pick storeAt packetBytes mandatoryBytes baseBytes fieldBytes layout sectionsOf connidOrZero leBytes
   written = rw (le-leb 1 recvLength some)
 
-  read-back : readSays bytes (readOf true 8192 bytes) ≡ gives (values (ctsHeader sendId recvId recvLength) [] [])
+  read-back : readSays bytes (readOf everyRow 8192 bytes) ≡ gives (values (ctsHeader sendId recvId recvLength) [] [])
   unfolding bytes ctsBytes packetBytes mandatoryBytes baseBytes leBytes fieldBytes layout pick sectionsOf
   read-back =
-      subst (λ (o : Outcome). readSays (take 24 (o .out)) (readOf true 8192 (take 24 (o .out))) ≡ gives (values (ctsHeader sendId recvId recvLength) [] [])) written
+      subst (λ (o : Outcome). readSays (take 24 (o .out)) (readOf everyRow 8192 (take 24 (o .out))) ≡ gives (values (ctsHeader sendId recvId recvLength) [] [])) written
       (reads-what-was-written (ctsHeader sendId recvId recvLength) [] [] (replicate 24 0) 8192 24 numbers (omega arith) (ap (λ (o : Outcome). writtenSays (o .answer)) written))
 
   cts-read : ReadsAsCts bytes sendId recvId recvLength

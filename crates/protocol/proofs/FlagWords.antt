@@ -14,7 +14,7 @@ use Rattle.protocol.specs.Flags.{flagsFit, hasFlag}
 use Rattle.protocol.specs.Optional.{Section, array, connid, cq-data, flagOf, flagged, isAmong, options, raw-address}
 use Rattle.protocol.specs.InWords.{TypesAreTheTables}
 use Rattle.protocol.specs.Rules.{Sound}
-use Rattle.protocol.specs.Types.{admit, rowOf}
+use Rattle.protocol.specs.Types.{admit, everyRow, rowOf}
 use Rattle.protocol.specs.declared.table.Found.the-variants.{Row}
 use Rattle.protocol.specs.declared.table.TypeRow.{TypeRow}
 use Rattle.laws.proofs.Choosing.{clashing, or-cases, or-left, or-right, pick-false, pick-true, tested}
@@ -154,7 +154,7 @@ module _ (f k : ℕ) (r : TypeRow) (e : rowOf k ≡ Row r) where
       let n = or-left (eqb k 3) (eqb k 4) x in
       let m = or-right (eqb k 3) (eqb k 4) x in
       ⊎-elim (λ y. clashing _ (eq-eqb k 3 (y .0)) n) (⊎-elim (λ y. clashing _ (eq-eqb k 4 y) m) (λ l. l))
-      (types-are-the-tables true k .0 (r, ap (admit true) e))
+      (types-are-the-tables true k .0 (r, ap (admit everyRow) e))
 
   rule-by-bits : ByBits (r .must) (r .may) f ↔ FlagRule k f
   rule-by-bits =

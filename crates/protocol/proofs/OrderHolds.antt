@@ -20,7 +20,7 @@ use Rattle.protocol.specs.Says.{readSays}
 use Rattle.protocol.specs.Optional.{connid, cq-data, raw-address}
 use Rattle.protocol.specs.Sections.{extentOf}
 use Rattle.protocol.specs.SectionsInTurn.{afterRaw, connidLength, cqDataLength, sectionsBehind, sectionsFrom}
-use Rattle.protocol.specs.Types.{admit, row, rowOf}
+use Rattle.protocol.specs.Types.{admit, readerRows, row, rowOf}
 use Rattle.protocol.specs.Values.{Values, valuesIn}
 use Rattle.protocol.specs.declared.sections.Extent.the-variants.{Cut}
 use Rattle.protocol.specs.declared.table.Found.{Found}
@@ -72,7 +72,7 @@ module _ (all : Bool) (limit : ℕ) (bs : List ℕ) where
   failsAs o overLimit = ltb limit (length bs)
   failsAs o noBase = ltb (length bs) 4
   failsAs o wrongVersion = not (eqb (getD bs 1 0) 4)
-  failsAs o wrongType = isUnknown (admit all o)
+  failsAs o wrongType = isUnknown (admit (readerRows all) o)
   failsAs o wrongFlags = ofRow o (λ r. not (flagsFit r f))
   failsAs o headerCut = ltb (length bs) (headIn bs)
   failsAs o wrongLengths = ofRow o (λ r. not (lengthsFit (r .shape) (fieldsTold bs k) (length bs - headIn bs)))
@@ -98,7 +98,7 @@ module _ (all : Bool) (limit : ℕ) (bs : List ℕ) where
           pick (ltb (length bs) m) (Read.Refused cutShort)
           (pick (lengthsFit (r .shape) v (length bs - m)) (Read.Packet (packetOf r f bs)) (Read.Refused badLength))
 
-  typed-judged : (o : Found) → rowOf k ≡ o → readTyped (admit all o) bs ≡ judgedAs o (wrongType ∷ wrongFlags ∷ headerCut ∷ wrongLengths ∷ [])
+  typed-judged : (o : Found) → rowOf k ≡ o → readTyped (admit (readerRows all) o) bs ≡ judgedAs o (wrongType ∷ wrongFlags ∷ headerCut ∷ wrongLengths ∷ [])
   unfolding admit readTyped readFlags
   typed-judged Unknown e = unfold pick in refl
   typed-judged (Row r) e = go (all || r .served)
@@ -110,7 +110,7 @@ module _ (all : Bool) (limit : ℕ) (bs : List ℕ) where
       go true = unfold pick in ⊎-elim (λ t. rw t (sections-judged r e t)) (λ t. rw t) (tested (flagsFit r f))
       go false = unfold pick in refl
 
-  pub is-judged : readOf all limit bs ≡ judgedAs (rowOf k) readerChecks
+  pub is-judged : readOf (readerRows all) limit bs ≡ judgedAs (rowOf k) readerChecks
   unfolding readOf
   is-judged =
       ap (λ (x : Read). pick (ltb limit (length bs)) (Read.Refused aboveLimit) (pick (ltb (length bs) 4) (Read.Refused cutShort) x))
@@ -128,7 +128,7 @@ module _ (all : Bool) (limit : ℕ) (bs : List ℕ) where
   holds wrongVersion e = eqb-false _ _ (not-true _ e)
   holds wrongType e =
       unfold TypesAreTheTables in
-      λ w. clashing (isUnknown (admit all (rowOf k))) e (ap isUnknown (types-are-the-tables all k .1 w .1))
+      λ w. clashing (isUnknown (admit (readerRows all) (rowOf k))) e (ap isUnknown (types-are-the-tables all k .1 w .1))
   holds wrongFlags e = let (r, x, t) = row-in _ _ e in λ w. clashing _ (flags-in-words k r f x .1 w) (not-true _ t)
   holds headerCut e = ltb-true _ _ e
   holds wrongLengths e = let (r, x, t) = row-in _ _ e in λ w. clashing _ (lengths-in-words (fieldsTold bs k) _ k r x .1 w) (not-true _ t)
@@ -155,7 +155,7 @@ module _ (all : Bool) (limit : ℕ) (bs : List ℕ) where
   abbrev passed : Values
   passed = valuesIn (passedAs (rowOf k)) bs
 
-  is-said : readSays bs (readOf all limit bs) ≡ judged failing (λ c. refused (refusedAs c)) (gives passed) readerChecks
+  is-said : readSays bs (readOf (readerRows all) limit bs) ≡ judged failing (λ c. refused (refusedAs c)) (gives passed) readerChecks
   is-said =
       ap (readSays bs) is-judged
       ∙ judged-ap (readSays bs) failing (λ c. Read.Refused (refusal (refusedAs c))) (Read.Packet (passedAs (rowOf k))) readerChecks
@@ -176,10 +176,10 @@ read-if-none-fails all limit bs = (given, asked)
     words = given-if-none wrongLengths (failing all limit bs) (Fails all limit bs) refusedAs (passed all limit bs) readerChecks
         (holds all limit bs) (passes all limit bs)
 
-    given : (v : Values) × (readSays bs (readOf all limit bs) ≡ gives v) → (c : Check) → Fails all limit bs c → ⊥
+    given : (v : Values) × (readSays bs (readOf (readerRows all) limit bs) ≡ gives v) → (c : Check) → Fails all limit bs c → ⊥
     given (v, e) c x =
         let (i, l, same) = placed c in
         words v .0 (sym (is-said all limit bs) ∙ e) .1 i l (subst (Fails all limit bs) (sym same) x)
 
-    asked : ((c : Check) → Fails all limit bs c → ⊥) → (v : Values) × (readSays bs (readOf all limit bs) ≡ gives v)
+    asked : ((c : Check) → Fails all limit bs c → ⊥) → (v : Values) × (readSays bs (readOf (readerRows all) limit bs) ≡ gives v)
     asked none-fails = (passed all limit bs, is-said all limit bs ∙ words _ .1 (refl, λ i l. none-fails (checkAt i)))

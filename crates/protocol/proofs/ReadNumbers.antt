@@ -2,7 +2,7 @@
 use Prim.Native.Nat.{ℕ, _+_, _^_, _<_}
 use lib.Dec.{lit<}
 use lib.ListN.{getD}
-use mathlib.Core.Bool.{Bool, true}
+use mathlib.Core.Bool.{Bool}
 use mathlib.Core.List.{List, [], _∷_}
 use mathlib.Core.Path.{_≡_}
 use Rattle.protocol.specs.FieldNumbers.{fieldsIn, numberAt, numberIn}
@@ -14,6 +14,7 @@ use Rattle.protocol.specs.declared.types.Connid.{Connid}
 use Rattle.protocol.specs.declared.types.CqData.{CqData}
 use Rattle.protocol.specs.declared.types.Packet.{Packet}
 use Rattle.protocol.specs.declared.types.Read.{Read}
+use Rattle.protocol.specs.Types.{everyRow}
 use Rattle.laws.proofs.Choosing.{pick-either}
 use Rattle.protocol.proofs.Accepted.{as-read}
 use Rattle.wire.proofs.Laws.{le-at-fits}
@@ -63,7 +64,7 @@ module _ (bs : List ℕ) (b : (i : ℕ) → getD bs i 0 < 256) where
   unfolding connidIn connidOrZero
   connid-small there at = pick-either (λ (q : Connid). connidOrZero q < 256 ^ 4) there (le-at-fits 4 bs at b) (lit< tt)
 
-  pub read-numbers : (limit : ℕ) (p : Packet) → readOf true limit bs ≡ Read.Packet p → Numbers (p .header)
+  pub read-numbers : (limit : ℕ) (p : Packet) → readOf everyRow limit bs ≡ Read.Packet p → Numbers (p .header)
   unfolding packetIn headerIn
   read-numbers limit p e =
       let (r, a, same) = as-read limit bs p e in

@@ -40,9 +40,9 @@ reads-what-was-written h raw body out limit n x l e =
 
 pub writes-what-was-read : WritesWhatWasRead
 unfolding valuesIn
-writes-what-was-read all limit bs h raw body out b small room e =
+writes-what-was-read which limit bs h raw body out b small room e =
     let (p, y, v) = read-gives bs _ (values h raw body) e in
-    let (r, a, q) = as-read limit bs p (any-read all limit bs p y) in
+    let (r, a, q) = as-read limit bs p (any-read which limit bs p y) in
     let again = write-back limit bs r a b out small room in
     let v : valuesIn (packetOf r (leAt 2 bs 2) bs) bs ≡ values h raw body = ap (λ (x : Packet). valuesIn x bs) (sym q) ∙ v in
     let w = same-written h (packetOf r (leAt 2 bs 2) bs .header) raw _ body _ (sym v) out ∙ again in

@@ -1,4 +1,4 @@
--- What the reader of the engine's types takes is what the reader of all types takes, of a type that the engine serves.
+-- What a reader of some types takes, the reader of all types takes alike.
 use Prim.Native.Nat.{ℕ}
 use lib.ListN.{getD}
 use mathlib.Core.Bool.{Bool, true, false}
@@ -8,8 +8,9 @@ use native.Mathlib.Omega.{arith}
 use Rattle.laws.specs.Choose.{pick}
 use Rattle.protocol.specs.Reading.{readFlags, readOf, readTyped}
 use Rattle.protocol.specs.Refusals.{badType}
-use Rattle.protocol.specs.Types.{admit, rowOf}
+use Rattle.protocol.specs.Types.{admit, everyRow, rowOf}
 use Rattle.protocol.specs.declared.table.Found.{Found}
+use Rattle.protocol.specs.declared.table.TypeRow.{TypeRow}
 use Rattle.protocol.specs.declared.table.Found.the-variants.{Row, Unknown}
 use Rattle.protocol.specs.declared.types.Packet.{Packet}
 use Rattle.protocol.specs.declared.types.Read.{Read}
@@ -19,24 +20,19 @@ use Rattle.laws.proofs.Choosing.{pick-false, pick-first, pick-second, pick-true
 no-packet : (k : Refusal) (p : Packet) → Read.Refused k ≡ Read.Packet p → ⊥
 no-packet k p e = let z : _≡_ {A = ℕ} 0 1 = cc in omega arith
 
-found-served : (o : Found) (bs : List ℕ) (p : Packet) → readTyped (admit false o) bs ≡ Read.Packet p → readTyped (admit true o) bs ≡ Read.Packet p
+found-any : (which : TypeRow → Bool) (o : Found) (bs : List ℕ) (p : Packet) → readTyped (admit which o) bs ≡ Read.Packet p → readTyped (admit everyRow o) bs ≡ Read.Packet p
 unfolding readTyped admit pick
-found-served Unknown bs p e = absurd (no-packet badType p e)
-found-served (Row r) bs p e = go (r .served) e
+found-any which Unknown bs p e = absurd (no-packet badType p e)
+found-any which (Row r) bs p e = go (which r) e
   where
     go : (t : Bool) → readTyped (pick t (Row r) Unknown) bs ≡ Read.Packet p → readFlags r bs ≡ Read.Packet p
     go true x = x
     go false x = absurd (no-packet badType p x)
 
-pub served-read : (limit : ℕ) (bs : List ℕ) (p : Packet) → readOf false limit bs ≡ Read.Packet p → readOf true limit bs ≡ Read.Packet p
+pub any-read : (which : TypeRow → Bool) (limit : ℕ) (bs : List ℕ) (p : Packet) → readOf which limit bs ≡ Read.Packet p → readOf everyRow limit bs ≡ Read.Packet p
 unfolding readOf
-served-read limit bs p e =
+any-read which limit bs p e =
     let (a, e) = pick-second _ _ _ _ (no-packet _ p) e in
     let (b, e) = pick-second _ _ _ _ (no-packet _ p) e in
     let (c, e) = pick-first _ _ _ _ (no-packet _ p) e in
-    pick-false _ _ a ∙ pick-false _ _ b ∙ pick-true _ _ c ∙ found-served (rowOf (getD bs 0 0)) bs p e
-
--- what is read by either reader is read by the reader of all types
-pub any-read : (all : Bool) (limit : ℕ) (bs : List ℕ) (p : Packet) → readOf all limit bs ≡ Read.Packet p → readOf true limit bs ≡ Read.Packet p
-any-read true limit bs p e = e
-any-read false limit bs p e = served-read limit bs p e
+    pick-false _ _ a ∙ pick-false _ _ b ∙ pick-true _ _ c ∙ found-any which (rowOf (getD bs 0 0)) bs p e

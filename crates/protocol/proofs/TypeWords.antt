@@ -14,7 +14,7 @@ use Rattle.protocol.specs.FieldNumbers.{fieldsIn, numberAt, numberIn}
 use Rattle.protocol.specs.InWords.{LengthsStandAsTold, TypesAreTheTables}
 use Rattle.protocol.specs.Layout.{Field, has, layout, msg-length, ownFields, recv-length, seg-length, seg-offset}
 use Rattle.protocol.specs.Lengths.{lengthsFit}
-use Rattle.protocol.specs.Types.{admit, rowOf}
+use Rattle.protocol.specs.Types.{admit, everyRow, rowOf}
 use Rattle.protocol.specs.declared.table.Found.the-variants.{Row, Unknown}
 use Rattle.protocol.specs.declared.table.Shape.{Shape}
 use Rattle.protocol.specs.declared.table.Shape.the-variants.{Cts, CtsData, Eager, LongCts, Medium}
@@ -67,7 +67,7 @@ pub unknown-type : (k : ℕ) → rowOf k ≡ Unknown → Known true k → ⊥
 unfolding TypesAreTheTables admit
 unknown-type k e w =
     let (r, x) = types-are-the-tables true k .1 w in
-    let y : Unknown ≡ Row r = ap (admit true) (sym e) ∙ x in
+    let y : Unknown ≡ Row r = ap (admit everyRow) (sym e) ∙ x in
     let z : _≡_ {A = ℕ} 0 1 = cc in
     omega arith
 

@@ -13,7 +13,7 @@ use Rattle.laws.specs.Choose.{pick}
 use Rattle.laws.specs.Parts.{part}
 use Rattle.protocol.specs.ByType.{Known}
 use Rattle.protocol.specs.InWords.{NumbersAreLittleEndian, TypesAreTheTables}
-use Rattle.protocol.specs.Types.{admit, rowIn, rowOf}
+use Rattle.protocol.specs.Types.{admit, readerRows, rowIn, rowOf}
 use Rattle.protocol.specs.declared.table.Found.{Found}
 use Rattle.protocol.specs.declared.table.Found.the-variants.{Row, Unknown}
 use Rattle.protocol.specs.declared.table.TypeRow.{TypeRow}
@@ -52,12 +52,12 @@ abbrev admitted : Bool → Found → Bool
 admitted all Unknown = false
 admitted all (Row r) = all || r .served
 
-row-of : (all : Bool) (o : Found) → admitted all o ≡ true → (r : TypeRow) × (admit all o ≡ Row r)
+row-of : (all : Bool) (o : Found) → admitted all o ≡ true → (r : TypeRow) × (admit (readerRows all) o ≡ Row r)
 unfolding admit
 row-of all Unknown e = absurd (false≢true e)
 row-of all (Row r) e = (r, pick-true (Row r) Unknown e)
 
-pub of-row : (all : Bool) (o : Found) (r : TypeRow) → admit all o ≡ Row r → (o ≡ Row r) × ((all || r .served) ≡ true)
+pub of-row : (all : Bool) (o : Found) (r : TypeRow) → admit (readerRows all) o ≡ Row r → (o ≡ Row r) × ((all || r .served) ≡ true)
 unfolding admit
 of-row all Unknown r e = let z : _≡_ {A = ℕ} 0 1 = cc in absurd (omega arith)
 of-row all (Row q) r e =

@@ -18,7 +18,7 @@ use Rattle.protocol.specs.Lengths.{lengthsFit}
 use Rattle.protocol.specs.Options.{connidBytes, cqDataBytes}
 use Rattle.protocol.specs.Refusals.{refusal}
 use Rattle.protocol.specs.Says.{writtenSays}
-use Rattle.protocol.specs.Types.{admit, rowOf}
+use Rattle.protocol.specs.Types.{admit, everyRow, rowOf}
 use Rattle.protocol.specs.WriterInWords.{Misplaced, RefusedWriteChangesNothing, WriteFails, WriteRefusedByFirstToFail, WriterCheck, WrittenIfNoneFails, brokenLengths, connidTakes, cqDataTakes, misplacedHeader, noType, overLongest, packetLength, shortBuffer, writeRefusedAs, writerCheckAt, writerChecks}
 use Rattle.protocol.specs.Writing.{Outcome, packetBytes, writeAs, writeBytes, writeOf, writeTyped}
 use Rattle.protocol.specs.declared.table.Found.{Found}
@@ -173,7 +173,7 @@ module _ (h : Header) (raw body out : List ℕ) where
 
   known : (r : TypeRow) → rowOf k ≡ Row r → Known true k
   unfolding TypesAreTheTables admit pick
-  known r e = types-are-the-tables true k .0 (r, ap (admit true) e)
+  known r e = types-are-the-tables true k .0 (r, ap (admit everyRow) e)
 
   holds : (c : WriterCheck) → write-failing c ≡ true → WriteFails h raw body out c
   holds noType e = unknown-type k (is-unknown (rowOf k) e)

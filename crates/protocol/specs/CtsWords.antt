@@ -1,7 +1,6 @@
 -- A grant's CTS as its receiver reads it (01: "a CTS in the first 24 reply bytes (flags and multiuse 0 ..)"). Proved in proofs/CtsRead.antt.
 use Prim.Native.Nat.{ℕ, _^_, _≤_, _<_}
 use lib.ListN.{length}
-use mathlib.Core.Bool.{true}
 use mathlib.Core.List.{List, [], _∷_}
 use mathlib.Core.Option.{none}
 use mathlib.Core.Path.{_≡_}
@@ -12,6 +11,7 @@ use Rattle.protocol.specs.Says.{readSays}
 use Rattle.protocol.specs.Values.{Values}
 use Rattle.protocol.specs.declared.types.Connid.{Connid}
 use Rattle.protocol.specs.declared.types.CqData.{CqData}
+use Rattle.protocol.specs.Types.{everyRow}
 use Rattle.wire.specs.LittleEndian.{leAt}
 
 -- the values of a CTS: type 3, its fields "send_id 4, recv_id 4, recv_length 8", no optional header and no data
@@ -29,7 +29,7 @@ ctsValues sendId recvId recvLength =
 -- 24 bytes that the reader reads as this CTS, with "flags and multiuse 0"
 pub record ReadsAsCts (bs : List ℕ) (sendId recvId recvLength : ℕ) : Type 0 where
   pub size : length bs ≡ 24
-  pub says : readSays bs (readOf true 8192 bs) ≡ gives (ctsValues sendId recvId recvLength)
+  pub says : readSays bs (readOf everyRow 8192 bs) ≡ gives (ctsValues sendId recvId recvLength)
   pub flags : leAt 2 bs 2 ≡ 0
   pub multiuse : leAt 4 bs 4 ≡ 0
 

@@ -15,7 +15,7 @@ use Rattle.protocol.specs.ByType.{FlagRule, LengthRule, column, connidHe
 use Rattle.protocol.specs.Checks.{First, gives, refused}
 use Rattle.protocol.specs.Reading.{readOf}
 use Rattle.protocol.specs.Says.{readSays}
-use Rattle.protocol.specs.Types.{admit, rowOf}
+use Rattle.protocol.specs.Types.{admit, readerRows, rowOf}
 use Rattle.protocol.specs.Values.{Values, bytesAt}
 use Rattle.protocol.specs.declared.table.Found.the-variants.{Row}
 use Rattle.protocol.specs.declared.table.TypeRow.{TypeRow}
@@ -37,7 +37,7 @@ NumbersAreLittleEndian =
 
 -- a row of the table is found for the types of 01's column "Type", and for no other
 unfoldable pub TypesAreTheTables : Type 0
-TypesAreTheTables = (all : Bool) (k : ℕ) → ((r : TypeRow) × (admit all (rowOf k) ≡ Row r)) ↔ Known all k
+TypesAreTheTables = (all : Bool) (k : ℕ) → ((r : TypeRow) × (admit (readerRows all) (rowOf k) ≡ Row r)) ↔ Known all k
 
 -- its row names the place of its length
 unfoldable pub LengthsStandAsTold : Type 0
@@ -108,12 +108,12 @@ FirstToFail all limit bs = First (Fails all limit bs) checkAt
 unfoldable pub RefusedByFirstToFail : Type 0
 RefusedByFirstToFail =
     (all : Bool) (limit : ℕ) (bs : List ℕ) (n : ℕ)
-    → (readSays bs (readOf all limit bs) ≡ refused n) ↔ ((i : ℕ) × (i < 7) × (refusedAs (checkAt i) ≡ n) × FirstToFail all limit bs i)
+    → (readSays bs (readOf (readerRows all) limit bs) ≡ refused n) ↔ ((i : ℕ) × (i < 7) × (refusedAs (checkAt i) ≡ n) × FirstToFail all limit bs i)
 
 unfoldable pub ReadIfNoneFails : Type 0
 ReadIfNoneFails =
     (all : Bool) (limit : ℕ) (bs : List ℕ)
-    → ((v : Values) × (readSays bs (readOf all limit bs) ≡ gives v)) ↔ ((c : Check) → Fails all limit bs c → ⊥)
+    → ((v : Values) × (readSays bs (readOf (readerRows all) limit bs) ≡ gives v)) ↔ ((c : Check) → Fails all limit bs c → ⊥)
 
 -- ---- what a packet that is read tells, by its bytes
 
@@ -140,7 +140,7 @@ pub record Told (bs : List ℕ) (k f : ℕ) (p : Packet) : Type 0 where
   pub rest : bytesAt bs (p .«data») ≡ drop (headersEnd k f bs) bs
 
 unfoldable pub ReadTellsItsBytes : Type 0
-ReadTellsItsBytes = (all : Bool) (limit : ℕ) (bs : List ℕ) (p : Packet) → readOf all limit bs ≡ Read.Packet p → Told bs (typeIn bs) (flagsIn bs) p
+ReadTellsItsBytes = (which : TypeRow → Bool) (limit : ℕ) (bs : List ℕ) (p : Packet) → readOf which limit bs ≡ Read.Packet p → Told bs (typeIn bs) (flagsIn bs) p
 
 -- "A packet's values are its type, that type's own fields (padding and multiuse are none; a flagged multiuse is the connid), the optional headers
 -- present and the data", each by its bytes
@@ -157,4 +157,4 @@ valuesTold k f bs =
 
 unfoldable pub ReadSaysItsBytes : Type 0
 ReadSaysItsBytes =
-    (all : Bool) (limit : ℕ) (bs : List ℕ) (v : Values) → readSays bs (readOf all limit bs) ≡ gives v → v ≡ valuesTold (typeIn bs) (flagsIn bs) bs
+    (which : TypeRow → Bool) (limit : ℕ) (bs : List ℕ) (v : Values) → readSays bs (readOf which limit bs) ≡ gives v → v ≡ valuesTold (typeIn bs) (flagsIn bs) bs

@@ -65,9 +65,9 @@ unfoldable pub readTyped : Found → List ℕ → Read
 readTyped Unknown bs = Read.Refused badType
 readTyped (Row r) bs = readFlags r bs
 
--- refusals 6, 7 and 8. With `all` every type of the table is read, without it those that the engine serves
-unfoldable pub readOf : Bool → ℕ → List ℕ → Read
-readOf all limit bs =
+-- refusals 6, 7 and 8, of the types whose rows are admitted
+unfoldable pub readOf : (TypeRow → Bool) → ℕ → List ℕ → Read
+readOf which limit bs =
     pick (ltb limit (length bs)) (Read.Refused aboveLimit)
     (pick (ltb (length bs) 4) (Read.Refused cutShort)
-    (pick (eqb (getD bs 1 0) 4) (readTyped (admit all (rowOf (getD bs 0 0))) bs) (Read.Refused badVersion)))
+    (pick (eqb (getD bs 1 0) 4) (readTyped (admit which (rowOf (getD bs 0 0))) bs) (Read.Refused badVersion)))

@@ -3,7 +3,7 @@
 use Prim.Native.Nat.{ℕ, _^_, _<_, _≤_}
 use lib.Dec.{eqb}
 use lib.ListN.{length, getD, take, drop, replicate}
-use mathlib.Core.Bool.{Bool, true}
+use mathlib.Core.Bool.{Bool}
 use mathlib.Core.List.{List, [], _∷_, map}
 use mathlib.Core.Option.{some, none}
 use mathlib.Core.Path.{_≡_}
@@ -18,7 +18,7 @@ use Rattle.protocol.specs.Options.{connidOrZero}
 use Rattle.protocol.specs.Reading.{readFlags, readLengths, readOf}
 use Rattle.protocol.specs.Rules.{Sound}
 use Rattle.protocol.specs.Says.{readSays, writtenSays}
-use Rattle.protocol.specs.Types.{rowOf}
+use Rattle.protocol.specs.Types.{everyRow, rowOf}
 use Rattle.protocol.specs.Values.{bytesAt, values}
 use Rattle.protocol.specs.Writing.{packetBytes, writeAs, writeOf}
 use Rattle.protocol.specs.declared.table.Found.the-variants.{Row}
@@ -44,7 +44,7 @@ ReadsWhatWasWritten =
     → Numbers h
     → n ≤ limit
     → writtenSays (writeOf h raw body out .answer) ≡ gives n
-    → readSays (take n (writeOf h raw body out .out)) (readOf true limit (take n (writeOf h raw body out .out))) ≡ gives (values h raw body)
+    → readSays (take n (writeOf h raw body out .out)) (readOf everyRow limit (take n (writeOf h raw body out .out))) ≡ gives (values h raw body)
 
 -- the bytes bs of a packet of type k with the flags f, with zero for those that no value is read from: with 0x8000 CTSDATA's padding, bytes 28 to
 -- 31, without it a CTS's multiuse, bytes 4 to 7
@@ -59,11 +59,11 @@ blanked bs = blankedAs (typeIn bs) (flagsIn bs) bs
 -- values, of a packet that either reader takes
 abbrev pub WritesWhatWasRead : Type 0
 WritesWhatWasRead =
-    (all : Bool) (limit : ℕ) (bs : List ℕ) (h : Header) (raw body out : List ℕ)
+    (which : TypeRow → Bool) (limit : ℕ) (bs : List ℕ) (h : Header) (raw body out : List ℕ)
     → ((i : ℕ) → getD bs i 0 < 256)
     → length bs ≤ 8192
     → length bs ≤ length out
-    → readSays bs (readOf all limit bs) ≡ gives (values h raw body)
+    → readSays bs (readOf which limit bs) ≡ gives (values h raw body)
     → (writtenSays (writeOf h raw body out .answer) ≡ gives (length bs)) × (writeOf h raw body out .out ≡ storeAt out 0 (blanked bs))
 
 -- the length answered is the packet's; the packet stands at the buffer's start, and the bytes past it stay

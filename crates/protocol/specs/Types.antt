@@ -55,7 +55,17 @@ rowIn (r ∷ rs) k = pick (eqb (r .kind) k) (Row r) (rowIn rs k)
 unfoldable pub rowOf : ℕ → Found
 rowOf k = rowIn rows k
 
--- what is found among all types, or only among those that the engine serves (01, refusal 9: "type not in the table; in the engine, CTS too")
-unfoldable pub admit : Bool → Found → Found
-admit all Unknown = Unknown
-admit all (Row r) = pick (all || r .served) (Row r) Unknown
+-- which rows a reader admits: every one, or those that the engine serves (01, refusal 9: "type not in the table; in the engine, CTS too")
+abbrev pub everyRow : TypeRow → Bool
+everyRow r = true
+
+abbrev pub servedRow : TypeRow → Bool
+servedRow r = r .served
+
+abbrev pub readerRows : Bool → TypeRow → Bool
+readerRows all r = all || r .served
+
+-- what is found among the rows that are admitted
+unfoldable pub admit : (TypeRow → Bool) → Found → Found
+admit which Unknown = Unknown
+admit which (Row r) = pick (which r) (Row r) Unknown

@@ -3,7 +3,7 @@ use Prim.Native.Nat.{ℕ, _+_, _-_, _*_, _≤_, _<_, min, max}
 use borrow.Author.Tests.{leb-true, eqb-false}
 use lib.Dec.{leb}
 use lib.ListN.{length}
-use mathlib.Core.Bool.{true, false}
+use mathlib.Core.Bool.{true}
 use mathlib.Core.List.{List, []}
 use mathlib.Core.Path.{_≡_, refl, sym, ap, subst}
 use native.Mathlib.Nat.{mul-le-mul}
@@ -13,6 +13,7 @@ use Rattle.protocol.specs.Reading.{packetIn, readOf}
 use Rattle.protocol.specs.declared.table.TypeRow.{TypeRow}
 use Rattle.protocol.specs.declared.types.Packet.{Packet}
 use Rattle.protocol.specs.declared.types.Read.{Read}
+use Rattle.protocol.specs.Types.{servedRow}
 use Rattle.receiving.specs.Preconditions.{Beginning, Carrying, Granting, Judging, Limited, Placed, Storing}
 use Rattle.peer.specs.Effects.{grantOf, opened, progressOf, quiet, withPhase}
 use Rattle.peer.specs.Incomings.{isRtm}
@@ -34,7 +35,7 @@ use Rattle.bitmap.proofs.BitLaws.{first-clear-le}
 use Rattle.laws.proofs.Choosing.{pick-first, pick-second}
 use Rattle.laws.proofs.Storing.{store-nothing}
 use Rattle.protocol.proofs.Accepted.{ReadAs, as-read, packetOf}
-use Rattle.protocol.proofs.Served.{served-read}
+use Rattle.protocol.proofs.Served.{any-read}
 use Rattle.peer.proofs.Kept.{begun-standing, continued-standing}
 use Rattle.peer.proofs.Valid.{Valid, Within, fits-valid}
 use Rattle.peer.proofs.Verdicts.{Judged, again-inside, chosen-at, continued-at, found-within, judged}
@@ -162,8 +163,8 @@ begun-stores limit r h n area words words′ reply b whole =
 -- ---- a packet that was read
 
 -- its data lie in its bytes
-pub data-inside : (limit : ℕ) (bs : List ℕ) (q : Packet) → readOf false limit bs ≡ Read.Packet q → q .«data» .at + q .«data» .size ≤ length bs
-data-inside limit bs q e = go (as-read limit bs q (served-read limit bs q e))
+pub data-inside : (limit : ℕ) (bs : List ℕ) (q : Packet) → readOf servedRow limit bs ≡ Read.Packet q → q .«data» .at + q .«data» .size ≤ length bs
+data-inside limit bs q e = go (as-read limit bs q (any-read servedRow limit bs q e))
   where
     go : (r : TypeRow) × ReadAs limit bs r × (q ≡ packetOf r (leAt 2 bs 2) bs) → q .«data» .at + q .«data» .size ≤ length bs
     go w =

@@ -3,13 +3,13 @@ use Prim.Native.Nat.{ℕ}
 use borrow.Author.Needs.{needs}
 use borrow.Author.Tests.{lt-ltb, le-ltb, eq-eqb, ne-eqb}
 use lib.ListN.{getD}
-use mathlib.Core.Bool.{Bool, _||_}
+use mathlib.Core.Bool.{Bool}
 use mathlib.Core.Logic.{⊎-elim}
 use mathlib.Core.Path.{_≡_, sym, _∙_}
 use native.Mathlib.Omega.{arith}
 use Rattle.laws.specs.Choose.{pick}
 use Rattle.protocol.specs.Reading.{readOf, readTyped}
-use Rattle.protocol.specs.Types.{admit, rowOf}
+use Rattle.protocol.specs.Types.{admit, readerRows, rowOf}
 use Rattle.protocol.specs.declared.table.Found.{Found}
 use Rattle.protocol.specs.declared.table.Found.the-variants.{Row, Unknown}
 use Rattle.protocol.specs.declared.table.TypeRow.{TypeRow}
@@ -19,16 +19,16 @@ use Rattle.packet.proofs.reader.among.Statement.{statement}
 use Rattle.packet.proofs.reader.among.Tie as tie
 
 -- what is admitted was found
-admitted : (all : Bool) (f : Found) (r : TypeRow) → admit all f ≡ Row r → f ≡ Row r
+admitted : (which : TypeRow → Bool) (f : Found) (r : TypeRow) → admit which f ≡ Row r → f ≡ Row r
 unfolding admit
-admitted all Unknown r e = e
-admitted all (Row q) r e =
+admitted which Unknown r e = e
+admitted which (Row q) r e =
     ⊎-elim (λ w. w .1) (λ w. let z : _≡_ {A = ℕ} 0 1 = cc in absurd (omega arith))
-    (pick-cases (all || q .served) (Row q) Unknown (Row r) e)
+    (pick-cases (which q) (Row q) Unknown (Row r) e)
 
 -- past the tests of length and version, the type is looked for
 passed : (c : tie.After-shared-slice-known3) → let a = c .before .before .before .before .before .before .args in
-    readOf (a .all) (a .limit) (a .bytes .now) ≡ readTyped (admit (a .all) (rowOf (getD (a .bytes .now) 0 0))) (a .bytes .now)
+    readOf (readerRows (a .all)) (a .limit) (a .bytes .now) ≡ readTyped (admit (readerRows (a .all)) (rowOf (getD (a .bytes .now) 0 0))) (a .bytes .now)
 unfolding readOf pick
 passed c =
     let t = c .before .before .before in

@@ -1,16 +1,16 @@
 -- `packet_words::reading::read` meets its contract.
 use borrow.Author.Needs.{needs}
 use borrow.Author.Tests.{lt-leb, le-leb}
-use mathlib.Core.Bool.{true}
 use mathlib.Core.Path.{_≡_}
 use Rattle.laws.specs.Choose.{pick}
 use Rattle.packet_words.specs.Values.{readInto, valueCount}
 use Rattle.protocol.specs.Reading.{readOf}
+use Rattle.protocol.specs.Types.{everyRow}
 use Rattle.packet_words.proofs.reading.read.Statement.{statement}
 use Rattle.packet_words.proofs.reading.read.Tie as tie
 
 -- what the packet reader answers, with its own limit
-answer : (c : tie.After-read) → c .read .result ≡ readOf true 8192 (c .before .before .before .before .args .bytes .now)
+answer : (c : tie.After-read) → c .read .result ≡ readOf everyRow 8192 (c .before .before .before .before .args .bytes .now)
 answer c = c .read .ensures
 
 returns : tie.Need-returns
