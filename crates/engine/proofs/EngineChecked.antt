@@ -19,7 +19,7 @@ use Rattle.peer.specs.Claims.{AreBytes}
 use Rattle.peer.specs.Says.{Saying, said, say}
 use Rattle.peer.specs.State.{freshPeer, peerFits}
 use Rattle.peer.specs.declared.types.Peer.{Peer}
-use Rattle.engine.specs.Checks.{Fails, WithIds, Outside, SetUpFails, SetUpIsChecked, TurnsAreChecked, WrongLengths, cannotBe, checksAt, highLimit, longArea, lowLimit, manyPeers, noPeer, numberOf, own, readySays, shortArea, unevenArea}
+use Rattle.engine.specs.Checks.{TurnFails, WithIds, Outside, SetUpFails, SetUpIsChecked, TurnsAreChecked, WrongLengths, cannotBe, checksAt, highLimit, longArea, lowLimit, manyPeers, noPeer, turnRefusedAs, own, readySays, shortArea, unevenArea}
 use Rattle.engine.specs.SetUp.{Prepared, allPeersFit, engineFits, lentFits, numbersFit, peerAt, setUp}
 use Rattle.engine.specs.Steps.{World, callTurn, peerTurn, putBack, wordsOf}
 use Rattle.laws.proofs.Choosing.{and-left, and-right, branch, tested}
@@ -169,11 +169,11 @@ module _ (w : World) (p : ℕ) (c : Call) (held : WithIds (w .engine)) (b : AreB
   peer-there : (q : ℕ) → q < n → getD peers q freshPeer ≡ peerAt (w .engine) q
   peer-there q l = getD-take n (w .engine .peers) q freshPeer l
 
-  cannot : engineFits (w .engine) ≡ false → Fails w p cannotBe
+  cannot : engineFits (w .engine) ≡ false → TurnFails w p cannotBe
   unfolding engineFits CannotBeIfAClauseIsBroken
   cannot e = go (tested (numbersFit n area limit))
     where
-      go : (numbersFit n area limit ≡ true) ⊎ (numbersFit n area limit ≡ false) → Fails w p cannotBe
+      go : (numbersFit n area limit ≡ true) ⊎ (numbersFit n area limit ≡ false) → TurnFails w p cannotBe
       go (inr x) = inl (outside n area limit x)
       go (inl x) =
           let rest : allPeersFit area peers ≡ false =
@@ -197,14 +197,14 @@ module _ (w : World) (p : ℕ) (c : Call) (held : WithIds (w .engine)) (b : AreB
         absurd (true≢false (sym (and-right (numbersFit n area limit) (allPeersFit area peers) fit) ∙ unfit)))
         (tested (peerFits area (peerAt (w .engine) q)))
 
-    can : Fails w p cannotBe → ⊥
+    can : TurnFails w p cannotBe → ⊥
     unfolding CannotBeIfAClauseIsBroken
     can (inl x) = within n area limit numbers x
     can (inr (q, l, k, x)) = true≢false (sym (peer-fits q l) ∙ cannot-be-if-a-clause-is-broken area (peerAt (w .engine) q) .1 (k, x))
 
-    own-gone : p < n → Gone (Fails w p) numberOf (map own (checksOf c)) (said (peerStep area limit (peerAt (w .engine) p) (wordsOf w p) c .answer))
+    own-gone : p < n → Gone (TurnFails w p) turnRefusedAs (map own (checksOf c)) (said (peerStep area limit (peerAt (w .engine) p) (wordsOf w p) c .answer))
     own-gone l =
-        gone-as (Fails w p) numberOf own (checksOf c) _
+        gone-as (TurnFails w p) turnRefusedAs own (checksOf c) _
         (step-checked area limit (peerAt (w .engine) p) (wordsOf w p) c (peer-fits p l) (held .eights .slots p l) (held .ids p l) b)
 
   -- "2, 3, 4, ..": by its tests, whether the state can be, the lent lengths are right, and the peer is below n
@@ -223,11 +223,11 @@ module _ (w : World) (p : ℕ) (c : Call) (held : WithIds (w .engine)) (b : AreB
   turn-says true true false x y z = simp (x, y, z)
   turn-says true true true x y z = simp (x, y, z)
 
-  turn-gone : Gone (Fails w p) numberOf (checksAt c) (said (callTurn w p c .answer))
-  turn-gone = subst (Gone (Fails w p) numberOf (checksAt c)) (sym (turn-says _ _ _ refl refl refl)) (go _ _ _ refl refl refl)
+  turn-gone : Gone (TurnFails w p) turnRefusedAs (checksAt c) (said (callTurn w p c .answer))
+  turn-gone = subst (Gone (TurnFails w p) turnRefusedAs (checksAt c)) (sym (turn-says _ _ _ refl refl refl)) (go _ _ _ refl refl refl)
     where
       go : (fits lent below : Bool) → engineFits (w .engine) ≡ fits → lentFits n area (length (w .arena)) (length (w .map)) ≡ lent → ltb p n ≡ below
-          → Gone (Fails w p) numberOf (checksAt c) (turnSays fits lent below)
+          → Gone (TurnFails w p) turnRefusedAs (checksAt c) (turnSays fits lent below)
       go false lent below x y z = inl (cannot x, refl)
       go true false below x y z = inr (can x, inl (wrong n area limit (whole n area limit (numbers x)) _ _ y, refl))
       go true true false x y z =
@@ -237,4 +237,4 @@ module _ (w : World) (p : ℕ) (c : Call) (held : WithIds (w .engine)) (b : AreB
 
 pub turns-are-checked : TurnsAreChecked
 unfolding TurnsAreChecked
-turns-are-checked w p c held b = gone-refused (Fails w p) numberOf (checksAt c) (said (callTurn w p c .answer)) (turn-gone w p c held b)
+turns-are-checked w p c held b = gone-refused (TurnFails w p) turnRefusedAs (checksAt c) (said (callTurn w p c .answer)) (turn-gone w p c held b)

@@ -5,4 +5,4 @@ pub mod OthersHold
 pub mod WorldTurns
 pub mod EngineChecked
 pub mod PutBack
-pub mod WordsHold
+pub mod SentencesHold

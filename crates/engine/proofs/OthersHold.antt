@@ -1,4 +1,4 @@
--- "No peer uses another's slots, area or bits": OthersKept of specs/InWords.antt, from what a peer's call writes and where its part lies.
+-- "No peer uses another's slots, area or bits": OthersKept of specs/Sentences.antt, from what a peer's call writes and where its part lies.
 use Prim.Native.Nat.{ℕ, _+_, _*_, _/_, _%_, _^_, _≤_, _<_}
 use borrow.Author.Tests.{ltb-true}
 use lib.Dec.{ltb}
@@ -10,7 +10,7 @@ use mathlib.Core.Path.{_≡_, refl, ap}
 use native.Mathlib.Omega.{arith}
 use Rattle.bitmap.specs.Map.{bit, bitAt}
 use Rattle.protocol.specs.Refusals.{badLent, badPeer, badState}
-use Rattle.engine.specs.InWords.{Eights, OthersKept, SameFor}
+use Rattle.engine.specs.Sentences.{Eights, OthersKept, SameFor}
 use Rattle.engine.specs.SetUp.{engineFits, lentFits, peerAt}
 use Rattle.engine.specs.Steps.{Turn, World, callTurn, peerTurn, putBack, refusedTurn, wordsOf}
 use Rattle.peer.specs.Calls.{Call}

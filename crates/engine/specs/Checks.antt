@@ -9,12 +9,12 @@ use Rattle.bitmap.specs.Map.{bitAt}
 use Rattle.protocol.specs.Checks.{Result, gives, refused}
 use Rattle.peer.specs.Calls.{Call}
 use Rattle.peer.specs.CannotBe.{Breaks, Clause}
-use Rattle.peer.specs.Checks.{checksOf}
+use Rattle.peer.specs.Checks.{CallCheck, CallFails, callRefusedAs, checksOf}
 use Rattle.peer.specs.Claims.{AreBytes}
 use Rattle.peer.specs.Firsts.{RefusedByFirst}
 use Rattle.peer.specs.Says.{said}
 use Rattle.peer.specs.View.{viewOf}
-use Rattle.engine.specs.InWords.{Eights}
+use Rattle.engine.specs.Sentences.{Eights}
 use Rattle.engine.specs.SetUp.{peerAt, setUp}
 use Rattle.engine.specs.Steps.{World, callTurn, wordsOf}
 use Rattle.engine.specs.declared.types.Engine.{Engine}
@@ -55,33 +55,33 @@ SetUpIsChecked =
 
 -- ---- a call
 
-pub data Check : Type 0 where
-  cannotBe wrongLent unknownPeer : Check
-  own : Rattle.peer.specs.Checks.Check → Check
+pub data TurnCheck : Type 0 where
+  cannotBe wrongLent unknownPeer : TurnCheck
+  own : CallCheck → TurnCheck
 
 -- "Packet order: 2, 3, 4, ..", "Post: 2, 3, 4, ..", "Cancel and report: 2, 3, 4, .."
-abbrev pub checksAt : Call → List Check
+abbrev pub checksAt : Call → List TurnCheck
 checksAt c = cannotBe ∷ wrongLent ∷ unknownPeer ∷ map own (checksOf c)
 
-abbrev pub numberOf : Check → ℕ
-numberOf cannotBe = 2
-numberOf wrongLent = 3
-numberOf unknownPeer = 4
-numberOf (own c) = Rattle.peer.specs.Checks.numberOf c
+abbrev pub turnRefusedAs : TurnCheck → ℕ
+turnRefusedAs cannotBe = 2
+turnRefusedAs wrongLent = 3
+turnRefusedAs unknownPeer = 4
+turnRefusedAs (own c) = callRefusedAs c
 
 -- the check of a call of peer p fails
-abbrev pub Fails : World → ℕ → Check → Type 0
+abbrev pub TurnFails : World → ℕ → TurnCheck → Type 0
 -- 2: "a state that can't be: set-up numbers outside limits; within one peer below n" a clause of specs/CannotBe.antt of the crate peer
-Fails w p cannotBe =
+TurnFails w p cannotBe =
     Outside (w .engine .n) (w .engine .area) (w .engine .limit)
     ⊎ ((q : ℕ) × (q < w .engine .n) × (c : Clause) × Breaks (w .engine .area) (peerAt (w .engine) q) c)
 -- 3: "arena or map has the wrong length"
-Fails w p wrongLent = WrongLengths (w .engine .n) (w .engine .area) (length (w .arena)) (length (w .map))
+TurnFails w p wrongLent = WrongLengths (w .engine .n) (w .engine .area) (length (w .arena)) (length (w .map))
 -- 4: "peer not below n"
-Fails w p unknownPeer = w .engine .n ≤ p
+TurnFails w p unknownPeer = w .engine .n ≤ p
 -- from 5 on, the peer's own, by its state and its words of the map
-Fails w p (own c) =
-    Rattle.peer.specs.Checks.Fails (w .engine .area) (w .engine .limit) (viewOf (peerAt (w .engine) p) (wordsOf w p)) c
+TurnFails w p (own c) =
+    CallFails (w .engine .area) (w .engine .limit) (viewOf (peerAt (w .engine) p) (wordsOf w p)) c
 
 -- an engine as the code holds it, with ids of 4 bytes
 pub record WithIds (e : Engine) : Type 0 where
@@ -91,7 +91,7 @@ pub record WithIds (e : Engine) : Type 0 where
 -- of every world, also one that no run reaches
 unfoldable pub TurnsAreChecked : Type 0
 TurnsAreChecked =
-    (w : World) (p : ℕ) (c : Call) → WithIds (w .engine) → AreBytes c → RefusedByFirst (Fails w p) numberOf (checksAt c) (said (callTurn w p c .answer))
+    (w : World) (p : ℕ) (c : Call) → WithIds (w .engine) → AreBytes c → RefusedByFirst (TurnFails w p) turnRefusedAs (checksAt c) (said (callTurn w p c .answer))
 
 -- the words by which the peer's own checks go: bit x of them is that of byte x of the peer's area ("Peer p owns bytes p×A to p×A+A−1"; "byte i is
 -- bit i mod 64 of word i/64, lowest first")

@@ -2,5 +2,5 @@ pub mod SetUp
 pub mod Steps
 pub mod Gates
 pub mod Leaves
-pub mod InWords
+pub mod Sentences
 pub mod Checks

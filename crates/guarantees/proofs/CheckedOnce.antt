@@ -17,7 +17,7 @@ use Rattle.engine.proofs.OthersHold.{checked-good}
 use Rattle.engine.proofs.WorldTurns.{good-called}
 use Rattle.engine.proofs.Worlds.{Good, good-fits}
 use Rattle.protocol.specs.declared.types.Refusal.{Refusal}
-use Rattle.engine.specs.InWords.{Eights}
+use Rattle.engine.specs.Sentences.{Eights}
 
 pub record CheckedOnce (good : Bool) (e : Engine) : Type 0 where
   pub eights : Eights e

@@ -11,7 +11,7 @@ use Rattle.peer.specs.Expected.{enter, expected, targetOfCall}
 use Rattle.peer.specs.Origins.{AcceptedFromOrigin, GrantIsACts, Origin, noOrigins, noteOrigin, originsFrom, originsOf}
 use Rattle.peer.specs.Plain.{Plain, freshPlain}
 use Rattle.peer.specs.declared.types.Answer.{Answer}
-use Rattle.engine.proofs.WordsHold.{ready-fits}
+use Rattle.engine.proofs.SentencesHold.{ready-fits}
 use Rattle.engine.proofs.Worlds.{sized}
 use Rattle.guarantees.proofs.Seeing.{seen-by-history}
 use Rattle.peer.proofs.HistoryBytes.{bytes-by-segments, done-when-covered}

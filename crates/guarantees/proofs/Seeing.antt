@@ -16,7 +16,7 @@ use Rattle.guarantees.specs.Runs.{Request, Seen, callsOf, freshWorld, no
 use Rattle.peer.specs.Plain.{Plain, freshPlain}
 use Rattle.peer.specs.State.{freeSlot, freshPeer, isFree, phaseAt, slotCount}
 use Rattle.peer.specs.declared.types.Peer.{Peer}
-use Rattle.engine.proofs.WordsHold.{fresh-peer}
+use Rattle.engine.proofs.SentencesHold.{fresh-peer}
 use Rattle.engine.proofs.Worlds.{byteIn}
 use Rattle.guarantees.proofs.SetUps.{fresh-good, fresh-is}
 use Rattle.guarantees.proofs.Tracking.{Stays, Tracks, other-stays, own-seen, own-stays}

@@ -13,7 +13,7 @@ use Rattle.lending.specs.Acts.{callOf}
 use Rattle.guarantees.specs.Runs.{Request, freshWorld, turnOf, worldAfter}
 use Rattle.peer.specs.State.{freeSlot, freshPeer, slotCount}
 use Rattle.peer.specs.declared.types.Peer.{Peer}
-use Rattle.engine.proofs.WordsHold.{fresh-peer, ready-fits}
+use Rattle.engine.proofs.SentencesHold.{fresh-peer, ready-fits}
 use Rattle.engine.proofs.WorldTurns.{good-called}
 use Rattle.engine.proofs.Worlds.{Good}
 use Rattle.laws.proofs.Choosing.{branch}

@@ -16,7 +16,7 @@ use Rattle.guarantees.proofs.RunInvariant.{CallMade, RunInvariant, ended, run-e
 use Rattle.packed.specs.Answers.{answerWords}
 use Rattle.packed.specs.Calls.{requestAt}
 use Rattle.packed.specs.Running.{budgetOf, decode, ranFrom}
-use Rattle.packed.specs.declared.types.Found.{Found}
+use Rattle.packed.specs.declared.types.FoundRequest.{FoundRequest}
 use Rattle.packed.proofs.DecodeLaws.{calls-few, decode-bad, decode-request, request-inside}
 use Rattle.packed.proofs.EightWords.{length-answer}
 
@@ -66,10 +66,10 @@ module _ {calls bytes buffers : List ℕ} {most : ℕ} {all : RunLeaves} {w : Wo
     pub batch-words : at + 8 ≤ length calls
     batch-words = omega (arith, g .words, g .place)
 
-    pub batch-bad : requestAt calls (length bytes) (length replies) at ≡ Found.Bad → all ≡ here
+    pub batch-bad : requestAt calls (length bytes) (length replies) at ≡ FoundRequest.Bad → all ≡ here
     batch-bad f = rw (g .place) at (run-end (rw (more, decode-bad (most - (taken + 1)) calls bytes buffers at (rw (g .run .lent) at f)) at (g .run)))
 
-    module _ (q : Request) (f : requestAt calls (length bytes) (length replies) at ≡ Found.Request q) where
+    module _ (q : Request) (f : requestAt calls (length bytes) (length replies) at ≡ FoundRequest.Request q) where
       pub batch-inside : Inside (length bytes) (length replies) (q .call)
       batch-inside = request-inside calls (length bytes) (length replies) at q f
 

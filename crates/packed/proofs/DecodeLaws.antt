@@ -11,15 +11,15 @@ use Rattle.peer.specs.declared.types.Request.{Request}
 use Rattle.lending.specs.Acts.{Inside}
 use Rattle.packed.specs.Calls.{packetAt, postAt, requestAt}
 use Rattle.packed.specs.Running.{decode, onFound}
-use Rattle.packed.specs.declared.types.Found.{Found}
+use Rattle.packed.specs.declared.types.FoundRequest.{FoundRequest}
 
 module _ (k : ℕ) (w bytes replies : List ℕ) (at : ℕ) where
-  pub decode-request : (q : Request) → requestAt w (length bytes) (length replies) at ≡ Found.Request q
+  pub decode-request : (q : Request) → requestAt w (length bytes) (length replies) at ≡ FoundRequest.Request q
       → decode (suc k) w bytes replies at ≡ q ∷ decode k w bytes replies (at + 8)
   unfolding decode
   decode-request q e = rw e
 
-  pub decode-bad : requestAt w (length bytes) (length replies) at ≡ Found.Bad → decode (suc k) w bytes replies at ≡ []
+  pub decode-bad : requestAt w (length bytes) (length replies) at ≡ FoundRequest.Bad → decode (suc k) w bytes replies at ≡ []
   unfolding decode
   decode-bad e = rw e
 
@@ -28,25 +28,25 @@ unfolding decode
 calls-few zero w bytes replies at = omega arith
 calls-few (suc k) w bytes replies at = found (requestAt w (length bytes) (length replies) at) (calls-few k w bytes replies (at + 8))
   where
-    found : (f : Found) → length (decode k w bytes replies (at + 8)) ≤ k → length (onFound f [] (λ q. q ∷ decode k w bytes replies (at + 8))) ≤ suc k
-    found Found.Bad l = omega arith
-    found (Found.Request q) l = omega arith
+    found : (f : FoundRequest) → length (decode k w bytes replies (at + 8)) ≤ k → length (onFound f [] (λ q. q ∷ decode k w bytes replies (at + 8))) ≤ suc k
+    found FoundRequest.Bad l = omega arith
+    found (FoundRequest.Request q) l = omega arith
 
 -- ---- packet and reply buffer lie in what is lent
 
-abbrev InsideFound : ℕ → ℕ → Found → Type 0
-InsideFound bytes replies Found.Bad = Unit {0}
-InsideFound bytes replies (Found.Request q) = Inside bytes replies (q .call)
+abbrev InsideFound : ℕ → ℕ → FoundRequest → Type 0
+InsideFound bytes replies FoundRequest.Bad = Unit {0}
+InsideFound bytes replies (FoundRequest.Request q) = Inside bytes replies (q .call)
 
 found-inside : (w : List ℕ) (bytes replies at : ℕ) → InsideFound bytes replies (requestAt w bytes replies at)
 unfolding requestAt postAt packetAt
 found-inside w bytes replies at =
-    let P : Found → Type 0 = InsideFound bytes replies in
+    let P : FoundRequest → Type 0 = InsideFound bytes replies in
     branch P (eqb (getD w at 0) 1) _ _ (λ h. branch P (leb (getD w (at + 2) 0) 1) _ _ (λ g. tt) (λ g. tt))
     (λ h. branch P (eqb (getD w at 0) 2) _ _
     (λ h. branch P (leb (getD w (at + 2) 0 + getD w (at + 3) 0) bytes) _ _
     (λ g. branch P (leb (getD w (at + 4) 0 + getD w (at + 5) 0) replies) _ _ (λ l. (leb-true _ _ g, leb-true _ _ l)) (λ l. tt)) (λ g. tt))
     (λ h. branch P (eqb (getD w at 0) 3) _ _ (λ h. tt) (λ h. branch P (eqb (getD w at 0) 4) _ _ (λ h. tt) (λ h. tt))))
 
-pub request-inside : (w : List ℕ) (bytes replies at : ℕ) (q : Request) → requestAt w bytes replies at ≡ Found.Request q → Inside bytes replies (q .call)
+pub request-inside : (w : List ℕ) (bytes replies at : ℕ) (q : Request) → requestAt w bytes replies at ≡ FoundRequest.Request q → Inside bytes replies (q .call)
 request-inside w bytes replies at q e = subst (InsideFound bytes replies) e (found-inside w bytes replies at)

@@ -39,7 +39,7 @@ use Rattle.engine.proofs.Worlds.{Good, sized}
 use Rattle.lending.specs.Acts.{actOf, callOf}
 use Rattle.guarantees.specs.Outputs.{requestsOf}
 use Rattle.guarantees.specs.Runs.{turnOf, worldAfter}
-use Rattle.engine.proofs.WordsHold.{fresh-peer}
+use Rattle.engine.proofs.SentencesHold.{fresh-peer}
 use Rattle.state_words.specs.RoundTrip.{Held, MessageHeld, PeerHeld}
 use Rattle.peer.specs.declared.types.Call as code
 use Rattle.peer.specs.declared.types.Request.{Request}

@@ -18,7 +18,7 @@ use Rattle.state_words.specs.declared.types.Loaded.{Loaded}
 use Rattle.state_words.proofs.FlatLaws.{getD-tabulate, length-tabulate}
 use Rattle.state_words.proofs.Sizes.{not-state}
 use Rattle.packed.specs.Running.{Kept, ranFrom, runOf}
-use Rattle.engine.specs.InWords.{Eights}
+use Rattle.engine.specs.Sentences.{Eights}
 use Rattle.guarantees.specs.Outputs.{RunLeaves}
 
 -- ---- the engine of a state's words

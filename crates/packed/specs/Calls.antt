@@ -5,14 +5,14 @@ use lib.ListN.{getD}
 use lib.Dec.{leb, eqb}
 use Rattle.laws.specs.Choose.{pick}
 use Rattle.peer.specs.declared.types.Call.{Call}
-use Rattle.packed.specs.declared.types.Found.{Found}
+use Rattle.packed.specs.declared.types.FoundRequest.{FoundRequest}
 
 -- a call of the peer whose number is the second word
-abbrev pub requestWith : List ℕ → ℕ → Call → Found
-requestWith w at c = Found.Request (record { peer = getD w (at + 1) 0; call = c })
+abbrev pub requestWith : List ℕ → ℕ → Call → FoundRequest
+requestWith w at c = FoundRequest.Request (record { peer = getD w (at + 1) 0; call = c })
 
 -- 1, peer, 0 plain or 1 tagged, tag, ignore, start, capacity
-unfoldable pub postAt : List ℕ → ℕ → Found
+unfoldable pub postAt : List ℕ → ℕ → FoundRequest
 postAt w at =
     pick (leb (getD w (at + 2) 0) 1)
     (requestWith w at (Call.Post (record {
@@ -22,22 +22,22 @@ postAt w at =
       start = getD w (at + 5) 0;
       capacity = getD w (at + 6) 0;
     })))
-    Found.Bad
+    FoundRequest.Bad
 
 -- 2, peer, place and length of the packet, place and length of the reply buffer
-unfoldable pub packetAt : List ℕ → ℕ → ℕ → ℕ → Found
+unfoldable pub packetAt : List ℕ → ℕ → ℕ → ℕ → FoundRequest
 packetAt w bytes replies at =
     pick (leb (getD w (at + 2) 0 + getD w (at + 3) 0) bytes)
     (pick (leb (getD w (at + 4) 0 + getD w (at + 5) 0) replies)
     (requestWith w at
     (Call.Packet (record { at = getD w (at + 2) 0; size = getD w (at + 3) 0 }) (record { at = getD w (at + 4) 0; size = getD w (at + 5) 0 })))
-    Found.Bad)
-    Found.Bad
+    FoundRequest.Bad)
+    FoundRequest.Bad
 
 -- the call of the words from `at` on, where so many bytes and reply bytes are lent; 3 is a cancel and 4 a report, of peer and slot
-unfoldable pub requestAt : List ℕ → ℕ → ℕ → ℕ → Found
+unfoldable pub requestAt : List ℕ → ℕ → ℕ → ℕ → FoundRequest
 requestAt w bytes replies at =
     pick (eqb (getD w at 0) 1) (postAt w at)
     (pick (eqb (getD w at 0) 2) (packetAt w bytes replies at)
     (pick (eqb (getD w at 0) 3) (requestWith w at (Call.Cancel (getD w (at + 2) 0)))
-    (pick (eqb (getD w at 0) 4) (requestWith w at (Call.Report (getD w (at + 2) 0))) Found.Bad)))
+    (pick (eqb (getD w at 0) 4) (requestWith w at (Call.Report (getD w (at + 2) 0))) FoundRequest.Bad)))

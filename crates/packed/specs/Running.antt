@@ -7,15 +7,15 @@ use Rattle.engine.specs.Leaves.{world}
 use Rattle.engine.specs.Steps.{World}
 use Rattle.guarantees.specs.Outputs.{RunLeaves, runLeaves}
 use Rattle.state_words.specs.Loading.{stateOf, stateAfter}
-use Rattle.packed.specs.declared.types.Found.{Found}
+use Rattle.packed.specs.declared.types.FoundRequest.{FoundRequest}
 use Rattle.packed.specs.Calls.{requestAt}
 use Rattle.packed.specs.Answers.{answerWords}
 
 -- ---- the calls
 
-abbrev pub onFound : {A : Type 0} → Found → A → (Request → A) → A
-onFound Found.Bad bad f = bad
-onFound (Found.Request q) bad f = f q
+abbrev pub onFound : {A : Type 0} → FoundRequest → A → (Request → A) → A
+onFound FoundRequest.Bad bad f = bad
+onFound (FoundRequest.Request q) bad f = f q
 
 -- at most k calls of the words from `at` on, up to the first that is none
 unfoldable pub decode : ℕ → List ℕ → List ℕ → List ℕ → ℕ → List Request

@@ -1,5 +1,5 @@
 // A call, read from its eight words.
-use crate::types::Found;
+use crate::types::FoundRequest;
 use peer::Call;
 use peer::Receive;
 use peer::Request;
@@ -9,13 +9,13 @@ ghost use Prim.Native.Nat.{_+_, _≤_};
 ghost use lib.ListN.{length};
 ghost use Rattle.packed.specs.Calls.{postAt, packetAt, requestAt};
 
-fn post_at(calls: &[u64], at: usize) -> Found
+fn post_at(calls: &[u64], at: usize) -> FoundRequest
     requires { ⌜ at + 8 ≤ length (now calls) ⌝ }
     ensures { λ r. ⌜ r ≡ postAt (now (calls .entry)) at ⌝ }
 {
     let kind = calls[at + 2];
     if 1 < kind {
-        return Found::Bad;
+        return FoundRequest::Bad;
     }
     let peer = calls[at + 1] as usize;
     let tag = calls[at + 3];
@@ -30,10 +30,10 @@ fn post_at(calls: &[u64], at: usize) -> Found
         capacity,
     };
     let call = Call::Post(receive);
-    Found::Request(Request { peer, call })
+    FoundRequest::Request(Request { peer, call })
 }
 
-fn packet_at(calls: &[u64], at: usize, bytes: usize, replies: usize) -> Found
+fn packet_at(calls: &[u64], at: usize, bytes: usize, replies: usize) -> FoundRequest
     requires { ⌜ at + 8 ≤ length (now calls) ⌝ }
     ensures { λ r. ⌜ r ≡ packetAt (now (calls .entry)) bytes replies at ⌝ }
 {
@@ -43,10 +43,10 @@ fn packet_at(calls: &[u64], at: usize, bytes: usize, replies: usize) -> Found
     let start = calls[at + 4] as usize;
     let room = calls[at + 5] as usize;
     if !wire::ends_by(place, size, bytes) {
-        return Found::Bad;
+        return FoundRequest::Bad;
     }
     if !wire::ends_by(start, room, replies) {
-        return Found::Bad;
+        return FoundRequest::Bad;
     }
     let sent = Span { at: place, size };
     let reply = Span {
@@ -54,11 +54,11 @@ fn packet_at(calls: &[u64], at: usize, bytes: usize, replies: usize) -> Found
         size: room,
     };
     let call = Call::Packet(sent, reply);
-    Found::Request(Request { peer, call })
+    FoundRequest::Request(Request { peer, call })
 }
 
 // The call of the words from `at` on, where so many bytes and reply bytes are lent.
-pub(crate) fn request_at(calls: &[u64], at: usize, bytes: usize, replies: usize) -> Found
+pub(crate) fn request_at(calls: &[u64], at: usize, bytes: usize, replies: usize) -> FoundRequest
     requires { ⌜ at + 8 ≤ length (now calls) ⌝ }
     ensures { λ r. ⌜ r ≡ requestAt (now (calls .entry)) bytes replies at ⌝ }
 {
@@ -73,11 +73,11 @@ pub(crate) fn request_at(calls: &[u64], at: usize, bytes: usize, replies: usize)
     let slot = calls[at + 2] as usize;
     if number == 3 {
         let call = Call::Cancel(slot);
-        return Found::Request(Request { peer, call });
+        return FoundRequest::Request(Request { peer, call });
     }
     if number == 4 {
         let call = Call::Report(slot);
-        return Found::Request(Request { peer, call });
+        return FoundRequest::Request(Request { peer, call });
     }
-    Found::Bad
+    FoundRequest::Bad
 }

@@ -9,5 +9,5 @@ mod types;
 
 pub use running::run;
 pub use starting::set_up;
-pub use types::Found;
+pub use types::FoundRequest;
 pub use types::Ran;

@@ -3,7 +3,7 @@
 use crate::answers;
 use crate::calls;
 use crate::gates;
-use crate::types::Found;
+use crate::types::FoundRequest;
 use crate::types::Ran;
 use engine::Engine;
 use engine::Gate;
@@ -12,7 +12,7 @@ ghost use mathlib.Core.Path.{_≡_};
 ghost use Prim.Native.Nat.{_*_};
 ghost use Rattle.engine.specs.Leaves.{world};
 ghost use Rattle.packed.specs.Running.{budgetOf, ranFrom, runOf};
-ghost use Rattle.engine.specs.InWords.{Eights};
+ghost use Rattle.engine.specs.Sentences.{Eights};
 
 // How many calls there are words for, and for their answers.
 fn budget(calls: usize, answers: usize) -> usize
@@ -42,7 +42,7 @@ fn run_calls(
     let mut taken: usize = 0;
     while taken < most {
         let found = calls::request_at(calls, at, bytes.len(), replies.len());
-        let Found::Request(request) = found else {
+        let FoundRequest::Request(request) = found else {
             return Ran { engine, taken };
         };
         let p = request.peer;

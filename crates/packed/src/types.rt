@@ -3,7 +3,7 @@ use engine::Engine;
 use peer::Request;
 
 // A packet lies in the lent bytes, and its reply buffer in the lent replies.
-pub enum Found {
+pub enum FoundRequest {
     Request(Request),
     Bad,
 }

@@ -15,7 +15,7 @@ use protocol::BAD_VERSION;
 use protocol::CONNID;
 use protocol::CUT_SHORT;
 use protocol::Extent;
-use protocol::Found;
+use protocol::FoundRow;
 use protocol::Header;
 use protocol::Packet;
 use protocol::Read;
@@ -118,10 +118,10 @@ fn among(bytes: &[u8], limit: usize, all: bool) -> Read
         return refused(BAD_VERSION);
     }
     match table::find_among(bytes[0], all) {
-        Found::Unknown => {
+        FoundRow::Unknown => {
             return refused(BAD_TYPE);
         }
-        Found::Row(row) => {
+        FoundRow::Row(row) => {
             return typed(row, bytes);
         }
     }

@@ -1,6 +1,6 @@
 // The table of packet types, which reader and writer share.
 use protocol::CREDIT_REQUEST;
-use protocol::Found;
+use protocol::FoundRow;
 use protocol::MSG_ID;
 use protocol::MSG_LENGTH;
 use protocol::MULTIUSE;
@@ -144,7 +144,7 @@ const TYPES: [TypeRow; 8] = [
 ];
 
 // The row of a packet type.
-pub fn find(kind: u8) -> Found
+pub fn find(kind: u8) -> FoundRow
     ensures { λ r. ⌜ r ≡ rowOf kind ⌝ }
 {
     // once, and not at each turn: a constant is made anew wherever it is named
@@ -153,27 +153,27 @@ pub fn find(kind: u8) -> Found
     while i < 8 {
         let row = types[i];
         if row.kind == kind {
-            return Found::Row(row);
+            return FoundRow::Row(row);
         }
         i += 1;
     }
-    Found::Unknown
+    FoundRow::Unknown
 }
 
 // The same, of all types or only of those that the engine serves.
-pub(crate) fn find_among(kind: u8, all: bool) -> Found
+pub(crate) fn find_among(kind: u8, all: bool) -> FoundRow
     ensures { λ r. ⌜ r ≡ admit (readerRows all) (rowOf kind) ⌝ }
 {
     match find(kind) {
-        Found::Unknown => Found::Unknown,
-        Found::Row(row) => {
+        FoundRow::Unknown => FoundRow::Unknown,
+        FoundRow::Row(row) => {
             if all {
-                return Found::Row(row);
+                return FoundRow::Row(row);
             }
             if row.served {
-                return Found::Row(row);
+                return FoundRow::Row(row);
             }
-            Found::Unknown
+            FoundRow::Unknown
         }
     }
 }

@@ -12,7 +12,7 @@ use protocol::ABOVE_LIMIT;
 use protocol::BAD_FLAGS;
 use protocol::BAD_LENGTH;
 use protocol::BAD_TYPE;
-use protocol::Found;
+use protocol::FoundRow;
 use protocol::Header;
 use protocol::Length;
 use protocol::NO_ROOM;
@@ -187,7 +187,7 @@ pub fn write(header: Header, raw_address: &[u8], data: &[u8], out: &mut [u8]) ->
 {
     let kind = header.kind;
     match table::find(kind) {
-        Found::Unknown => refused(BAD_TYPE),
-        Found::Row(row) => typed(row, header, &[], raw_address, data, out),
+        FoundRow::Unknown => refused(BAD_TYPE),
+        FoundRow::Row(row) => typed(row, header, &[], raw_address, data, out),
     }
 }

@@ -12,7 +12,7 @@ use native.Mathlib.Omega.{arith}
 use Rattle.laws.specs.Choose.{pick}
 use Rattle.protocol.specs.Checks.{gives, refused}
 use Rattle.protocol.specs.FieldNumbers.{numberIn}
-use Rattle.protocol.specs.InWords.{ReadTellsItsBytes}
+use Rattle.protocol.specs.Sentences.{ReadTellsItsBytes}
 use Rattle.protocol.specs.Layout.{Field, width}
 use Rattle.protocol.specs.Optional.{optionsFit}
 use Rattle.protocol.specs.Options.{connidOrZero}
@@ -21,9 +21,9 @@ use Rattle.protocol.specs.Says.{writtenSays}
 use Rattle.protocol.specs.Types.{everyRow, rowOf}
 use Rattle.protocol.specs.Values.{Values, valuesIn}
 use Rattle.protocol.specs.Values as packets
-use Rattle.protocol.specs.WriterInWords.{writerChecks}
+use Rattle.protocol.specs.WriterSentences.{writerChecks}
 use Rattle.protocol.specs.Writing.{Outcome, writeOf}
-use Rattle.protocol.specs.declared.table.Found.the-variants.{Row}
+use Rattle.protocol.specs.declared.table.FoundRow.the-variants.{Row}
 use Rattle.protocol.specs.declared.table.TypeRow.{TypeRow}
 use Rattle.protocol.specs.declared.types.Connid.{Connid}
 use Rattle.protocol.specs.declared.types.CqData.{CqData}
@@ -42,10 +42,10 @@ use Rattle.protocol.proofs.RoundTrips.{length-is-packets, reads-what-was-writte
 use Rattle.protocol.proofs.Sayings.{read-gives, written-gives}
 use Rattle.protocol.proofs.WriterHolds.{refusing, write-failing, write-judged, written}
 use Rattle.packet_words.specs.Order.{fewWords, wrongNumbers, wrongOption, wrongType}
-use Rattle.packet_words.specs.ReaderInWords.{ReadsIntoWords}
+use Rattle.packet_words.specs.ReaderSentences.{ReadsIntoWords}
 use Rattle.packet_words.specs.RoundTrip.{ReadsWordsWritten, WritesWordsRead}
 use Rattle.packet_words.specs.Says.{ownFields, putSays, wordsSay}
-use Rattle.packet_words.specs.Writing.{connidFits, connidNumber, connidWord, cqDataWord, fieldsFit, fieldsIn, headerIn, numberOf, putAs, rawAddressWord, typeWord, writeFrom, writeTyped}
+use Rattle.packet_words.specs.Writing.{connidFits, connidNumber, connidWord, cqDataWord, fieldsFit, fieldsIn, headerIn, fieldWord, putAs, rawAddressWord, typeWord, writeFrom, writeTyped}
 use Rattle.packet_words.proofs.OrderHolds.{given, held, numbers-held, put, row-said}
 use Rattle.packet_words.proofs.Rows.{row-small}
 use Rattle.packet_words.proofs.WordsTold.{own-numbers, reads-into-words, same-values}
@@ -53,7 +53,7 @@ use Rattle.packet_words.proofs.WordsTold.{own-numbers, reads-into-words
 -- ---- the header that the words say has their values
 
 -- a field that holds its number says it
-number-said : (v : List ℕ) (f : Field) → numberOf v f < 256 ^ width f → numberIn (fieldsIn v) f ≡ numberOf v f
+number-said : (v : List ℕ) (f : Field) → fieldWord v f < 256 ^ width f → numberIn (fieldsIn v) f ≡ fieldWord v f
 number-said v Field.msg-id h = mod-eq-of-lt h
 number-said v Field.recv-id h = mod-eq-of-lt h
 number-said v Field.send-id h = mod-eq-of-lt h
@@ -67,12 +67,12 @@ number-said v Field.multiuse h = refl
 number-said v Field.padding h = refl
 number-said v Field.count h = refl
 
-own-said : (v : List ℕ) (fs : List Field) → fieldsFit v fs ≡ true → map (numberIn (fieldsIn v)) fs ≡ map (numberOf v) fs
+own-said : (v : List ℕ) (fs : List Field) → fieldsFit v fs ≡ true → map (numberIn (fieldsIn v)) fs ≡ map (fieldWord v) fs
 unfolding fieldsFit
 own-said v [] e = refl
 own-said v (f ∷ fs) e =
-    ap₂ (λ (n : ℕ) (ns : List ℕ). n ∷ ns) (number-said v f (ltb-true (numberOf v f) (256 ^ width f) (and-left _ (fieldsFit v fs) e)))
-    (own-said v fs (and-right (ltb (numberOf v f) (256 ^ width f)) _ e))
+    ap₂ (λ (n : ℕ) (ns : List ℕ). n ∷ ns) (number-said v f (ltb-true (fieldWord v f) (256 ^ width f) (and-left _ (fieldsFit v fs) e)))
+    (own-said v fs (and-right (ltb (fieldWord v f) (256 ^ width f)) _ e))
 
 connid-said : (t : Bool) (d : ℕ) → pick t true (ltb d (2 ^ 32)) ≡ true
     → pick t Connid.Absent (Connid.Present (d % 2 ^ 32)) ≡ pick t Connid.Absent (Connid.Present d)
@@ -173,14 +173,14 @@ reads-words-written v raw body out values size n words enough z =
 
 -- fields with numbers that are read hold them
 fields-held : (v : List ℕ) (a : Fields) → ((f : Field) → numberIn a f < 256 ^ width f) → (fs : List Field)
-    → map (numberOf v) fs ≡ map (numberIn a) fs
+    → map (fieldWord v) fs ≡ map (numberIn a) fs
     → fieldsFit v fs ≡ true
 unfolding fieldsFit
 fields-held v a small [] e = refl
 fields-held v a small (f ∷ fs) e =
-    let first : numberOf v f ≡ numberIn a f = cc in
-    let rest : map (numberOf v) fs ≡ map (numberIn a) fs = cc in
-    and-intro _ (fieldsFit v fs) (lt-ltb (numberOf v f) (256 ^ width f) (rw first (small f))) (fields-held v a small fs rest)
+    let first : fieldWord v f ≡ numberIn a f = cc in
+    let rest : map (fieldWord v) fs ≡ map (numberIn a) fs = cc in
+    and-intro _ (fieldsFit v fs) (lt-ltb (fieldWord v f) (256 ^ width f) (rw first (small f))) (fields-held v a small fs rest)
 
 connid-held : (t : Bool) (d : ℕ) (q : Connid) → connidOrZero q < 256 ^ 4 → pick t Connid.Absent (Connid.Present d) ≡ q
     → pick t true (ltb d (2 ^ 32)) ≡ true

@@ -14,7 +14,7 @@ use Rattle.protocol.specs.Layout.{Field, count, credit-request, has, isOwn, lay
 use Rattle.protocol.specs.Optional.{hasCqData, optionsFit}
 use Rattle.protocol.specs.Rules.{Sound}
 use Rattle.protocol.specs.declared.table.TypeRow.{TypeRow}
-use Rattle.packet_words.specs.Writing.{cqDataWord, cqIn, fieldsFit, headerIn, holds, numberOf, rawAddressWord}
+use Rattle.packet_words.specs.Writing.{cqDataWord, cqIn, fieldsFit, headerIn, holds, fieldWord, rawAddressWord}
 use Rattle.laws.proofs.Choosing.{and-intro, and-left, and-right, pick-false, pick-true, tested}
 use Rattle.protocol.proofs.FlagLaws.{options-tested}
 use Rattle.protocol.proofs.LayoutLaws.{has-place, place-has, same-field}
@@ -39,7 +39,7 @@ options-said v r s = rw (options-tested r (headerIn v) s, cq-said v, not-not (eq
 
 module _ (v : List ℕ) where
   abbrev fits : Field → Bool
-  fits f = ltb (numberOf v f) (256 ^ width f)
+  fits f = ltb (fieldWord v f) (256 ^ width f)
 
   -- the own fields among gs hold their numbers exactly if each does
   each-fits : (gs : List Field) → fieldsFit v (select isOwn gs) ≡ true → (f : Field) → has f gs ≡ true → isOwn f ≡ true → fits f ≡ true
@@ -77,7 +77,7 @@ module _ (v : List ℕ) where
 
     -- a field of 32 bits
     abbrev narrow : Field → Bool
-    narrow f = holds (digit f) (numberOf v f)
+    narrow f = holds (digit f) (fieldWord v f)
 
     narrow-fits : (f : Field) → width f ≡ 4 → narrow f ≡ true → has f (layout r) ≡ true → fits f ≡ true
     narrow-fits f w e m = rw w (sym (pick-false true _ (ne-eqb (digit f) 0 (has-digit f m))) ∙ e)

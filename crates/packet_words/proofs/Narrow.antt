@@ -17,17 +17,17 @@ use Rattle.protocol.specs.Optional.{optionsFit}
 use Rattle.protocol.specs.Types.{rowOf}
 use Rattle.protocol.specs.Writing as packets
 use Rattle.protocol.specs.Writing.{Outcome, writeAs, writeOf}
-use Rattle.protocol.specs.declared.table.Found.{Found}
-use Rattle.protocol.specs.declared.table.Found.the-variants.{Row, Unknown}
+use Rattle.protocol.specs.declared.table.FoundRow.{FoundRow}
+use Rattle.protocol.specs.declared.table.FoundRow.the-variants.{Row, Unknown}
 use Rattle.protocol.specs.declared.table.TypeRow.{TypeRow}
-use Rattle.packet_words.specs.Writing.{allNarrow, connidFits, connidWord, fieldsFit, headerIn, numberOf, numbersFit, putOf, typeWord, writeTyped}
+use Rattle.packet_words.specs.Writing.{allNarrow, connidFits, connidWord, fieldsFit, headerIn, fieldWord, numbersFit, putOf, typeWord, writeTyped}
 
 module _ (v : List ℕ) (words : (i : ℕ) → getD v i 0 < 2 ^ 64) (narrow : allNarrow v ≡ true) where
   -- word i is a number of 32 bits
   abbrev is : ℕ → Bool
   is i = ltb (getD v i 0) (2 ^ 32)
 
-  fits : (f : Field) → ltb (numberOf v f) (256 ^ width f) ≡ true
+  fits : (f : Field) → ltb (fieldWord v f) (256 ^ width f) ≡ true
   unfolding allNarrow
   fits msg-id = and-left (is 1) _ narrow
   fits recv-id = and-left (is 2) _ (and-right (is 1) _ narrow)
@@ -63,13 +63,13 @@ module _ (v : List ℕ) (words : (i : ℕ) → getD v i 0 < 2 ^ 64) (narrow : al
   unfolding writeTyped writeOf packets.writeTyped writeAs pick
   written-at-once raw body out size small = go (rowOf (typeWord v)) refl
     where
-      of-row : Found → Outcome
+      of-row : FoundRow → Outcome
       of-row o = packets.writeTyped o (headerIn v) [] raw body out
 
-      as-row : (o : Found) → rowOf (typeWord v) ≡ o → writeOf (headerIn v) raw body out ≡ of-row o
+      as-row : (o : FoundRow) → rowOf (typeWord v) ≡ o → writeOf (headerIn v) raw body out ≡ of-row o
       as-row o e = ap (λ (n : ℕ). of-row (rowOf n)) (mod-eq-of-lt (omega arith)) ∙ ap of-row e
 
-      go : (o : Found) → rowOf (typeWord v) ≡ o → writeTyped o v raw body out size ≡ putOf size (writeOf (headerIn v) raw body out)
+      go : (o : FoundRow) → rowOf (typeWord v) ≡ o → writeTyped o v raw body out size ≡ putOf size (writeOf (headerIn v) raw body out)
       go Unknown e = ap (putOf size) (sym (as-row Unknown e))
       go (Row r) e =
           rw (numbers-fit r)

@@ -14,26 +14,26 @@ use Rattle.laws.specs.Parts.{storeAt}
 use Rattle.protocol.specs.ByType.{Known, LengthRule}
 use Rattle.protocol.specs.Checks.{Result, gives, refused}
 use Rattle.protocol.specs.Optional.{optionsFit}
-use Rattle.protocol.specs.InWords.{TypesAreTheTables}
+use Rattle.protocol.specs.Sentences.{TypesAreTheTables}
 use Rattle.protocol.specs.Layout.{Field, width}
 use Rattle.protocol.specs.Lengths.{lengthsFit}
 use Rattle.protocol.specs.Types.{admit, everyRow, rowOf}
-use Rattle.protocol.specs.WriterInWords.{connidTakes, cqDataTakes}
-use Rattle.protocol.specs.WriterInWords as packet
+use Rattle.protocol.specs.WriterSentences.{connidTakes, cqDataTakes}
+use Rattle.protocol.specs.WriterSentences as packet
 use Rattle.protocol.specs.Writing.{Outcome, writeOf}
-use Rattle.protocol.specs.declared.table.Found.{Found}
-use Rattle.protocol.specs.declared.table.Found.the-variants.{Row, Unknown}
+use Rattle.protocol.specs.declared.table.FoundRow.{FoundRow}
+use Rattle.protocol.specs.declared.table.FoundRow.the-variants.{Row, Unknown}
 use Rattle.protocol.specs.declared.table.TypeRow.{TypeRow}
 use Rattle.protocol.specs.declared.types.Header.{Header}
-use Rattle.packet_words.specs.Order.{Check, Fails, RefusedByFirstToFail, RefusedWriteChangesNothing, TooLarge, WrittenIfNoneFails, checkAt, fewWords, fieldsSaid, noRoom, overLimit, packetLength, refusedAs, writerChecks, wrongNumbers, wrongOption, wrongType}
+use Rattle.packet_words.specs.Order.{PutCheck, PutFails, RefusedByFirstToFail, RefusedWriteChangesNothing, TooLarge, WrittenIfNoneFails, checkAt, fewWords, fieldsSaid, noRoom, overLimit, packetLength, refusedAs, writerChecks, wrongNumbers, wrongOption, wrongType}
 use Rattle.packet_words.specs.Says.{ownFields, putSays}
-use Rattle.packet_words.specs.Writing.{Put, connidFits, connidNumber, connidWord, cqDataWord, fieldsFit, fieldsIn, headerIn, numberOf, numbersFit, putAs, rawAddressWord, refusedPut, typeWord, writeFrom, writeTyped}
+use Rattle.packet_words.specs.Writing.{Put, connidFits, connidNumber, connidWord, cqDataWord, fieldsFit, fieldsIn, headerIn, fieldWord, numbersFit, putAs, rawAddressWord, refusedPut, typeWord, writeFrom, writeTyped}
 use Rattle.laws.proofs.Choosing.{and-left, and-right, clashing, or-cases, or-left, or-right, pick-ap, pick-cases, pick-false, pick-true, tested}
 use Rattle.laws.proofs.Comparing.{beyond, not-beyond}
 use Rattle.protocol.proofs.FirstFailing.{FirstIn, all-pass, first-or-none, given-if-none, judged, judged-ap, none-of, of-first, refused-by-first}
 use Rattle.protocol.proofs.FoundRow.{is-unknown, isUnknown, ofRow, pick-not, row-in, row-out}
-use Rattle.protocol.proofs.TypeWords.{lengths-in-words, unknown-lengths, unknown-type}
-use Rattle.protocol.proofs.WordsHold.{types-are-the-tables}
+use Rattle.protocol.proofs.TypeSentences.{lengths-in-words, unknown-lengths, unknown-type}
+use Rattle.protocol.proofs.SentencesHold.{types-are-the-tables}
 use Rattle.protocol.proofs.WriterHolds.{bytesAs, options-refused, options-taken, refusing, write-failing, write-judged, written}
 use Rattle.packet_words.proofs.Fitting.{cq-said}
 use Rattle.packet_words.proofs.Rows.{own-fields, ownOf, row-small}
@@ -46,20 +46,20 @@ and-cases false b e = inl refl
 module _ (v : List ℕ) where
   -- ---- numbers
 
-  too-large : (fs : List Field) → fieldsFit v fs ≡ false → (f : Field) × List·Memᴰ f fs × (256 ^ width f ≤ numberOf v f)
+  too-large : (fs : List Field) → fieldsFit v fs ≡ false → (f : Field) × List·Memᴰ f fs × (256 ^ width f ≤ fieldWord v f)
   unfolding fieldsFit
   too-large [] e = absurd (true≢false e)
   too-large (g ∷ fs) e =
       ⊎-elim (λ x. (g, List·Memᴰ·head refl, ltb-false _ _ x)) (λ x. let (f, m, n) = too-large fs x in (f, List·Memᴰ·tail m, n))
-      (and-cases (ltb (numberOf v g) (256 ^ width g)) (fieldsFit v fs) e)
+      (and-cases (ltb (fieldWord v g) (256 ^ width g)) (fieldsFit v fs) e)
 
-  each-fits : (fs : List Field) → fieldsFit v fs ≡ true → (f : Field) → List·Memᴰ f fs → numberOf v f < 256 ^ width f
+  each-fits : (fs : List Field) → fieldsFit v fs ≡ true → (f : Field) → List·Memᴰ f fs → fieldWord v f < 256 ^ width f
   unfolding fieldsFit
   each-fits [] e f m = absurd (List·Memᴰ·not-nil m)
   each-fits (g ∷ fs) e f m =
       ⊎-elim
-      (λ x. rw x (ltb-true (numberOf v g) (256 ^ width g) (and-left _ (fieldsFit v fs) e)))
-      (each-fits fs (and-right (ltb (numberOf v g) (256 ^ width g)) (fieldsFit v fs) e) f)
+      (λ x. rw x (ltb-true (fieldWord v g) (256 ^ width g) (and-left _ (fieldsFit v fs) e)))
+      (each-fits fs (and-right (ltb (fieldWord v g) (256 ^ width g)) (fieldsFit v fs) e) f)
       (List·Memᴰ·cases-cons m)
 
   -- by the type's number
@@ -98,7 +98,7 @@ module _ (v : List ℕ) where
     -- ---- optional headers
 
     abbrev Misplaced : Type 0
-    Misplaced = Fails v [] [] [] wrongOption
+    Misplaced = PutFails v [] [] [] wrongOption
 
     options-out : optionsFit r (headerIn v) ≡ false → Misplaced
     options-out x =
@@ -132,7 +132,7 @@ unfolding TypesAreTheTables admit pick
 known-row k r e = types-are-the-tables true k .0 (r, ap (admit everyRow) e)
 
 -- each check stands in the list
-placed : (c : Check) → (i : ℕ) × (i < 6) × (checkAt i ≡ c)
+placed : (c : PutCheck) → (i : ℕ) × (i < 6) × (checkAt i ≡ c)
 placed fewWords = (0, lit< tt, refl)
 placed wrongType = (1, lit< tt, refl)
 placed wrongOption = (2, lit< tt, refl)
@@ -150,10 +150,10 @@ module _ (v raw body out : List ℕ) (size : ℕ) where
   -- ---- the writer is a list of checks
 
   -- with the type's row o
-  abbrev broken : Found → Bool
+  abbrev broken : FoundRow → Bool
   broken o = ofRow o (λ r. not (lengthsFit (r .shape) (fieldsIn v) (length body)))
 
-  abbrev failsAs : Found → Check → Bool
+  abbrev failsAs : FoundRow → PutCheck → Bool
   failsAs o fewWords = ltb (length v) 19
   failsAs o wrongType = isUnknown o
   failsAs o wrongOption = ofRow o (λ r. not (optionsFit r (headerIn v)))
@@ -161,13 +161,13 @@ module _ (v raw body out : List ℕ) (size : ℕ) where
   failsAs o overLimit = ltb 8192 n
   failsAs o noRoom = ltb (length out) n
 
-  abbrev refuse : Check → Put
+  abbrev refuse : PutCheck → Put
   refuse c = refusedPut (refusedAs c) out size
 
-  abbrev passedAs : Found → Put
+  abbrev passedAs : FoundRow → Put
   passedAs o = record { refusal = 0; out = storeAt out 0 (bytesAs (headerIn v) raw body out o); size = n }
 
-  abbrev judgedAs : Found → List Check → Put
+  abbrev judgedAs : FoundRow → List PutCheck → Put
   judgedAs o = judged (failsAs o) refuse (passedAs o)
 
   -- what the packet writer leaves, as the writer from words says it
@@ -181,7 +181,7 @@ module _ (v raw body out : List ℕ) (size : ℕ) where
   passed-on r e x =
       ap put (write-judged h raw body out)
       ∙ judged-ap put (write-failing h raw body out) (refusing h raw body out) (written h raw body out (rowOf (h .kind))) packet.writerChecks
-      ∙ ap₂ (λ (o : Found) (m : ℕ). tests o m) (row-said v r e) (length-said v r e (length raw) (length body))
+      ∙ ap₂ (λ (o : FoundRow) (m : ℕ). tests o m) (row-said v r e) (length-said v r e (length raw) (length body))
       ∙ pick-false _ _ refl
       ∙ pick-false _ _ (ap not x)
     where
@@ -189,7 +189,7 @@ module _ (v raw body out : List ℕ) (size : ℕ) where
       h = headerIn v
 
       -- for the row o, with a packet of m bytes
-      tests : Found → ℕ → Put
+      tests : FoundRow → ℕ → Put
       tests o m =
           pick (isUnknown o) (refuse wrongType)
           (pick (ofRow o (λ q. not (optionsFit q h))) (refuse wrongOption)
@@ -219,25 +219,25 @@ module _ (v raw body out : List ℕ) (size : ℕ) where
       pick-beyond 19 (length v) _ _
       ∙ ap (λ (p : Put). pick (ltb (length v) 19) (refuse fewWords) p) (go (rowOf k) refl)
     where
-      go : (o : Found) → rowOf k ≡ o
+      go : (o : FoundRow) → rowOf k ≡ o
           → writeTyped o v raw body out size ≡ judgedAs o (wrongType ∷ wrongOption ∷ wrongNumbers ∷ overLimit ∷ noRoom ∷ [])
       go Unknown e = unfold writeTyped in unfold pick in refl
       go (Row r) e = row-judged r e ∙ sym (pick-false (refuse wrongType) _ refl)
 
   -- ---- a test that fails is a check that fails
 
-  abbrev failing : Check → Bool
+  abbrev failing : PutCheck → Bool
   failing = failsAs (rowOf k)
 
-  rule-passes : (o : Found) → rowOf k ≡ o → broken o ≡ false → LengthRule k (fieldsSaid v) (length body)
+  rule-passes : (o : FoundRow) → rowOf k ≡ o → broken o ≡ false → LengthRule k (fieldsSaid v) (length body)
   rule-passes Unknown e t = unknown-lengths k (fieldsSaid v) (length body) e
   rule-passes (Row r) e t = rule-said v (length body) (lengths-in-words (fieldsIn v) (length body) k r e .0 (not-false _ t))
 
-  options-pass : (o : Found) → rowOf k ≡ o → failsAs o wrongOption ≡ false → Fails v raw body out wrongOption → ⊥
+  options-pass : (o : FoundRow) → rowOf k ≡ o → failsAs o wrongOption ≡ false → PutFails v raw body out wrongOption → ⊥
   options-pass Unknown e t w = unknown-type k e (⊎-elim (λ y. inl (y, refl)) (λ y. inr (inl y)) (w .0))
   options-pass (Row r) e t w = options-in v r e (not-false _ t) w
 
-  holds : (c : Check) → failing c ≡ true → Fails v raw body out c
+  holds : (c : PutCheck) → failing c ≡ true → PutFails v raw body out c
   holds fewWords e = ltb-true _ _ e
   holds wrongType e = unknown-type k (is-unknown (rowOf k) e)
   holds wrongOption e = let (r, x, t) = row-in _ _ e in options-out v r x (not-true _ t)
@@ -250,7 +250,7 @@ module _ (v raw body out : List ℕ) (size : ℕ) where
   holds overLimit e = ltb-true _ _ e
   holds noRoom e = ltb-true _ _ e
 
-  passes : (c : Check) → failing c ≡ false → Fails v raw body out c → ⊥
+  passes : (c : PutCheck) → failing c ≡ false → PutFails v raw body out c → ⊥
   passes fewWords e w = omega (arith, ltb-false (length v) 19 e)
   passes wrongType e w = let (r, x) = row-out _ e in w (known-row k r x)
   passes wrongOption e w = options-pass (rowOf k) refl e w
@@ -261,7 +261,7 @@ module _ (v raw body out : List ℕ) (size : ℕ) where
 
   -- ---- in words
 
-  abbrev refuse-said : Check → Result ℕ
+  abbrev refuse-said : PutCheck → Result ℕ
   refuse-said c = refused (refusedAs c)
 
   is-said : putSays (writeFrom v raw body out size) ≡ judged failing refuse-said (gives n) writerChecks
@@ -269,7 +269,7 @@ module _ (v raw body out : List ℕ) (size : ℕ) where
   is-said = ap putSays is-judged ∙ judged-ap putSays failing refuse (passedAs (rowOf k)) writerChecks
 
   -- a writer that gives a length: its tests pass, and the packet writer is left to write
-  pub given : (m : ℕ) → putSays (writeFrom v raw body out size) ≡ gives m → (c : Check) → failing c ≡ false
+  pub given : (m : ℕ) → putSays (writeFrom v raw body out size) ≡ gives m → (c : PutCheck) → failing c ≡ false
   given m e c =
       let (i, l, at) = placed c in
       ap failing (sym at)
@@ -278,18 +278,18 @@ module _ (v raw body out : List ℕ) (size : ℕ) where
 pub refused-by-first-to-fail : RefusedByFirstToFail
 unfolding RefusedByFirstToFail
 refused-by-first-to-fail v raw body out size m =
-    let w = refused-by-first noRoom (failing v raw body out size) (Fails v raw body out) refusedAs (n v raw body out size) writerChecks
+    let w = refused-by-first noRoom (failing v raw body out size) (PutFails v raw body out) refusedAs (n v raw body out size) writerChecks
     (holds v raw body out size) (passes v raw body out size) m in
     (λ e. w .0 (sym (is-said v raw body out size) ∙ e), λ x. is-said v raw body out size ∙ w .1 x)
 
 pub written-if-none-fails : WrittenIfNoneFails
 unfolding WrittenIfNoneFails
 written-if-none-fails v raw body out size m =
-    let w = given-if-none noRoom (failing v raw body out size) (Fails v raw body out) refusedAs (n v raw body out size) writerChecks
+    let w = given-if-none noRoom (failing v raw body out size) (PutFails v raw body out) refusedAs (n v raw body out size) writerChecks
     (holds v raw body out size) (passes v raw body out size) m in (
       λ e.
           let (same, none) = w .0 (sym (is-said v raw body out size) ∙ e) in
-          (sym same, λ c x. let (i, l, at) = placed c in none i l (subst (Fails v raw body out) (sym at) x)),
+          (sym same, λ c x. let (i, l, at) = placed c in none i l (subst (PutFails v raw body out) (sym at) x)),
       λ x. is-said v raw body out size ∙ w .1 (sym (x .0), λ i l. x .1 (checkAt i)),
     )
 
@@ -298,7 +298,7 @@ unfolding RefusedWriteChangesNothing
 refused-write-changes-nothing v raw body out size m e =
     go (first-or-none noRoom fails (refuse v raw body out size) passed writerChecks)
   where
-    fails : Check → Bool
+    fails : PutCheck → Bool
     fails = failing v raw body out size
 
     passed : Put

@@ -10,8 +10,8 @@ use Rattle.protocol.specs.ByType.{column}
 use Rattle.protocol.specs.Layout as table
 use Rattle.protocol.specs.Layout.{Field, layout}
 use Rattle.protocol.specs.Types.{rowIn, rowOf, rows}
-use Rattle.protocol.specs.declared.table.Found.{Found}
-use Rattle.protocol.specs.declared.table.Found.the-variants.{Row, Unknown}
+use Rattle.protocol.specs.declared.table.FoundRow.{FoundRow}
+use Rattle.protocol.specs.declared.table.FoundRow.the-variants.{Row, Unknown}
 use Rattle.protocol.specs.declared.table.TypeRow.{TypeRow}
 use Rattle.packet_words.specs.Says.{ownFields}
 use Rattle.laws.proofs.Choosing.{pick-ap}
@@ -24,13 +24,13 @@ row-small k r e = omega (arith, row-kind k r e, leb-true (r .kind) 255 (row-pass
 pub no-type : (k : ℕ) → 255 < k → rowOf k ≡ Unknown
 no-type k h = go (rowOf k) refl
   where
-    go : (o : Found) → rowOf k ≡ o → rowOf k ≡ Unknown
+    go : (o : FoundRow) → rowOf k ≡ o → rowOf k ≡ Unknown
     go Unknown e = e
     go (Row r) e = absurd (omega (arith, row-small k r e))
 
 -- ---- own fields
 
-abbrev pub ownOf : Found → List Field
+abbrev pub ownOf : FoundRow → List Field
 ownOf Unknown = []
 ownOf (Row r) = table.ownFields r
 

@@ -1,4 +1,4 @@
--- The reader into words says what the packet reader says: what specs/ReaderInWords.antt states.
+-- The reader into words says what the packet reader says: what specs/ReaderSentences.antt states.
 use Prim.Native.Nat.{ℕ, _≤_, _<_}
 use borrow.Author.Tests.{le-leb, lt-leb, ne-eqb}
 use lib.Dec.{eqb, lit<}
@@ -13,16 +13,16 @@ use Rattle.laws.specs.Choose.{pick}
 use Rattle.laws.specs.Parts.{part, storeAt}
 use Rattle.protocol.specs.Checks.{gives, refused}
 use Rattle.protocol.specs.FieldNumbers.{numberIn}
-use Rattle.protocol.specs.InWords.{RefusedByFirstToFail}
-use Rattle.protocol.specs.InWords as reader
+use Rattle.protocol.specs.Sentences.{RefusedByFirstToFail}
+use Rattle.protocol.specs.Sentences as reader
 use Rattle.protocol.specs.Layout.{Field}
 use Rattle.protocol.specs.Reading.{readOf}
 use Rattle.protocol.specs.Says.{readSays}
 use Rattle.protocol.specs.Types.{everyRow, rowOf}
 use Rattle.protocol.specs.Values.{Values, ownNumbers, valuesIn}
 use Rattle.protocol.specs.Values as packets
-use Rattle.protocol.specs.declared.table.Found.{Found}
-use Rattle.protocol.specs.declared.table.Found.the-variants.{Row, Unknown}
+use Rattle.protocol.specs.declared.table.FoundRow.{FoundRow}
+use Rattle.protocol.specs.declared.table.FoundRow.the-variants.{Row, Unknown}
 use Rattle.protocol.specs.declared.types.Connid.{Connid}
 use Rattle.protocol.specs.declared.types.CqData.{CqData}
 use Rattle.protocol.specs.declared.types.Fields.{Fields}
@@ -35,10 +35,10 @@ use Rattle.laws.proofs.Storing.{store-start}
 use Rattle.protocol.proofs.OrderHolds.{refused-by-first-to-fail}
 use Rattle.words.specs.Presence.{bitOf, cqBit, cqValue}
 use Rattle.packet_words.specs.Presence.{connidBit, connidValue}
-use Rattle.packet_words.specs.ReaderInWords.{ReadsIntoWords, RefusedReadChangesNothing}
+use Rattle.packet_words.specs.ReaderSentences.{ReadsIntoWords, RefusedReadChangesNothing}
 use Rattle.packet_words.specs.Says.{dataAt, ownFields, rawAddressAt, tookSays, wordsSay}
 use Rattle.packet_words.specs.Values.{readInto, tookAs, valueWords}
-use Rattle.packet_words.specs.Writing.{numberOf, typeWord}
+use Rattle.packet_words.specs.Writing.{fieldWord, typeWord}
 use Rattle.packet_words.proofs.Rows.{own-fields, ownOf}
 
 -- ---- values
@@ -54,7 +54,7 @@ same-values a b k o r q c d = λ i. record { kind = k i; own = o i; rawAddress =
 pub own-numbers : (k : ℕ) (v : Fields) → ownNumbers (rowOf k) v ≡ map (numberIn v) (ownFields k)
 own-numbers k v = go (rowOf k) ∙ ap (map (numberIn v)) (own-fields k)
   where
-    go : (o : Found) → ownNumbers o v ≡ map (numberIn v) (ownOf o)
+    go : (o : FoundRow) → ownNumbers o v ≡ map (numberIn v) (ownOf o)
     go Unknown = unfold ownNumbers in refl
     go (Row r) = unfold ownNumbers in refl
 
@@ -84,7 +84,7 @@ module _ (values : List ℕ) (p : Packet) where
       rw (← store-start values (valueWords p) (length (valueWords p)) refl)
       (List·getD-append (valueWords p) (drop (length (valueWords p)) values) 0 i (unfold valueWords in h))
 
-  field-word : (f : Field) → numberOf wordsOf f ≡ numberIn (p .header .fields) f
+  field-word : (f : Field) → fieldWord wordsOf f ≡ numberIn (p .header .fields) f
   unfolding valueWords
   field-word Field.msg-id = word-at 1 (lit< tt)
   field-word Field.recv-id = word-at 2 (lit< tt)
@@ -99,7 +99,7 @@ module _ (values : List ℕ) (p : Packet) where
   field-word Field.padding = refl
   field-word Field.count = refl
 
-  own-words : (fs : List Field) → map (numberOf wordsOf) fs ≡ map (numberIn (p .header .fields)) fs
+  own-words : (fs : List Field) → map (fieldWord wordsOf) fs ≡ map (numberIn (p .header .fields)) fs
   own-words [] = refl
   own-words (f ∷ fs) = ap₂ (λ (n : ℕ) (ns : List ℕ). n ∷ ns) (field-word f) (own-words fs)
 
@@ -119,7 +119,7 @@ module _ (values : List ℕ) (p : Packet) where
 
 -- ---- refusals
 
-some-number : (c : reader.Check) → 0 < reader.refusedAs c
+some-number : (c : reader.ReaderCheck) → 0 < reader.refusedAs c
 some-number reader.overLimit = lit< tt
 some-number reader.noBase = lit< tt
 some-number reader.wrongVersion = lit< tt

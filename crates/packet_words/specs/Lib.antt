@@ -3,5 +3,5 @@ pub mod Values
 pub mod Writing
 pub mod Says
 pub mod Order
-pub mod ReaderInWords
+pub mod ReaderSentences
 pub mod RoundTrip

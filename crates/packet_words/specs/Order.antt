@@ -13,7 +13,7 @@ use Rattle.protocol.specs.Checks.{First, gives, refused}
 use Rattle.protocol.specs.Layout.{Field, credit-request, msg-id, msg-length, recv-id, recv-length, seg-length, seg-offset, send-id, tag, width}
 use Rattle.protocol.specs.declared.types.Fields.{Fields}
 use Rattle.packet_words.specs.Says.{ownFields, putSays}
-use Rattle.packet_words.specs.Writing.{connidNumber, connidWord, cqDataWord, numberOf, rawAddressWord, refusedPut, typeWord, writeFrom}
+use Rattle.packet_words.specs.Writing.{connidNumber, connidWord, cqDataWord, fieldWord, rawAddressWord, refusedPut, typeWord, writeFrom}
 
 -- ---- the packet's length
 
@@ -32,14 +32,14 @@ packetLength v raw body =
 
 -- ---- the checks
 
-pub data Check : Type 0 where
-  fewWords wrongType wrongOption wrongNumbers overLimit noRoom : Check
+pub data PutCheck : Type 0 where
+  fewWords wrongType wrongOption wrongNumbers overLimit noRoom : PutCheck
 
 -- "9, 10 (an optional header its type can't have), 11, 6, 21", after the words themselves
-abbrev pub writerChecks : List Check
+abbrev pub writerChecks : List PutCheck
 writerChecks = fewWords ∷ wrongType ∷ wrongOption ∷ wrongNumbers ∷ overLimit ∷ noRoom ∷ []
 
-abbrev pub refusedAs : Check → ℕ
+abbrev pub refusedAs : PutCheck → ℕ
 refusedAs fewWords = 21
 refusedAs wrongType = 9
 refusedAs wrongOption = 10
@@ -50,27 +50,27 @@ refusedAs noRoom = 21
 -- a number that its place in the packet cannot hold: of an own field, or of a connid that is there
 abbrev pub TooLarge : List ℕ → Type 0
 TooLarge v =
-    ((f : Field) × List·Memᴰ f (ownFields (typeWord v)) × (256 ^ width f ≤ numberOf v f))
+    ((f : Field) × List·Memᴰ f (ownFields (typeWord v)) × (256 ^ width f ≤ fieldWord v f))
     ⊎ ((connidWord v ≡ 0 → ⊥) × (2 ^ 32 ≤ connidNumber v))
 
 -- the words' numbers by field
 abbrev pub fieldsSaid : List ℕ → Fields
 fieldsSaid v =
-    fieldsOf (numberOf v msg-id) (numberOf v recv-id) (numberOf v send-id) (numberOf v msg-length) (numberOf v seg-length) (numberOf v recv-length)
-    (numberOf v seg-offset) (numberOf v credit-request) (numberOf v tag)
+    fieldsOf (fieldWord v msg-id) (fieldWord v recv-id) (fieldWord v send-id) (fieldWord v msg-length) (fieldWord v seg-length) (fieldWord v recv-length)
+    (fieldWord v seg-offset) (fieldWord v credit-request) (fieldWord v tag)
 
 -- the check fails for the words v, the raw address, the data and the buffer `out`. A packet's values are 19 words; "Types 3 and 4 may have 0x8000
 -- only"; "packet above L (reader and writer alone: 8,192)"
-abbrev pub Fails : List ℕ → List ℕ → List ℕ → List ℕ → Check → Type 0
-Fails v raw body out fewWords = length v < 19
-Fails v raw body out wrongType = Known true (typeWord v) → ⊥
-Fails v raw body out wrongOption = CtsOrData (typeWord v) × ((rawAddressWord v ≡ 0 → ⊥) ⊎ (cqDataWord v ≡ 0 → ⊥))
-Fails v raw body out wrongNumbers = TooLarge v ⊎ (LengthRule (typeWord v) (fieldsSaid v) (length body) → ⊥)
-Fails v raw body out overLimit = 8192 < packetLength v (length raw) (length body)
-Fails v raw body out noRoom = length out < packetLength v (length raw) (length body)
+abbrev pub PutFails : List ℕ → List ℕ → List ℕ → List ℕ → PutCheck → Type 0
+PutFails v raw body out fewWords = length v < 19
+PutFails v raw body out wrongType = Known true (typeWord v) → ⊥
+PutFails v raw body out wrongOption = CtsOrData (typeWord v) × ((rawAddressWord v ≡ 0 → ⊥) ⊎ (cqDataWord v ≡ 0 → ⊥))
+PutFails v raw body out wrongNumbers = TooLarge v ⊎ (LengthRule (typeWord v) (fieldsSaid v) (length body) → ⊥)
+PutFails v raw body out overLimit = 8192 < packetLength v (length raw) (length body)
+PutFails v raw body out noRoom = length out < packetLength v (length raw) (length body)
 
 -- the check at place i of the list
-abbrev pub checkAt : ℕ → Check
+abbrev pub checkAt : ℕ → PutCheck
 checkAt i = getD writerChecks i noRoom
 
 -- ---- the statements
@@ -80,14 +80,14 @@ unfoldable pub RefusedByFirstToFail : Type 0
 RefusedByFirstToFail =
     (v raw body out : List ℕ) (size n : ℕ)
     → (putSays (writeFrom v raw body out size) ≡ refused n)
-    ↔ ((i : ℕ) × (i < 6) × (refusedAs (checkAt i) ≡ n) × First (Fails v raw body out) checkAt i)
+    ↔ ((i : ℕ) × (i < 6) × (refusedAs (checkAt i) ≡ n) × First (PutFails v raw body out) checkAt i)
 
 -- written exactly if none fails, and then the length is the packet's
 unfoldable pub WrittenIfNoneFails : Type 0
 WrittenIfNoneFails =
     (v raw body out : List ℕ) (size n : ℕ)
     → (putSays (writeFrom v raw body out size) ≡ gives n)
-    ↔ ((n ≡ packetLength v (length raw) (length body)) × ((c : Check) → Fails v raw body out c → ⊥))
+    ↔ ((n ≡ packetLength v (length raw) (length body)) × ((c : PutCheck) → PutFails v raw body out c → ⊥))
 
 -- "Each refusal returns its number alone and changes nothing lent": buffer and length are as they were
 unfoldable pub RefusedWriteChangesNothing : Type 0

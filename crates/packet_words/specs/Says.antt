@@ -14,7 +14,7 @@ use Rattle.protocol.specs.Values.{Values}
 use Rattle.protocol.specs.declared.types.Connid.{Connid}
 use Rattle.protocol.specs.declared.types.CqData.{CqData}
 use Rattle.packet_words.specs.Values.{Took}
-use Rattle.packet_words.specs.Writing.{Put, connidNumber, connidWord, cqDataNumber, cqDataWord, numberOf, rawAddressWord, typeWord}
+use Rattle.packet_words.specs.Writing.{Put, connidNumber, connidWord, cqDataNumber, cqDataWord, fieldWord, rawAddressWord, typeWord}
 
 -- the fields that type k has of its own (column "Fields after type 1, version 1, flags 2"); none for a type that is not in the table
 abbrev pub ownFields : ℕ → List Field
@@ -35,7 +35,7 @@ unfoldable pub wordsSay : List ℕ → List ℕ → List ℕ → Values
 wordsSay v raw body =
     record {
       kind = typeWord v;
-      own = map (numberOf v) (ownFields (typeWord v));
+      own = map (fieldWord v) (ownFields (typeWord v));
       rawAddress = pick (eqb (rawAddressWord v) 0) none (some raw);
       cqData = pick (eqb (cqDataWord v) 0) CqData.Absent (CqData.Present (cqDataNumber v));
       connid = pick (eqb (connidWord v) 0) Connid.Absent (Connid.Present (connidNumber v));

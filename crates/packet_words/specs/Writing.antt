@@ -7,8 +7,8 @@ use lib.ListN.{length, getD}
 use lib.Dec.{leb, ltb, eqb}
 use Rattle.laws.specs.Choose.{pick}
 use Rattle.protocol.specs.Refusals.{badFlags, badLength, badType, noRoom}
-use Rattle.protocol.specs.declared.table.Found.{Found}
-use Rattle.protocol.specs.declared.table.Found.the-variants.{Row, Unknown}
+use Rattle.protocol.specs.declared.table.FoundRow.{FoundRow}
+use Rattle.protocol.specs.declared.table.FoundRow.the-variants.{Row, Unknown}
 use Rattle.protocol.specs.declared.table.TypeRow.{TypeRow}
 use Rattle.protocol.specs.declared.types.Connid.{Connid}
 use Rattle.protocol.specs.declared.types.CqData.{CqData}
@@ -24,19 +24,19 @@ use Rattle.packet_words.specs.Values.{valueCount}
 -- ---- the words of the values
 
 -- the number that the words give an own field; padding, multiuse and count have none
-abbrev pub numberOf : List ℕ → Field → ℕ
-numberOf v Field.msg-id = getD v 1 0
-numberOf v Field.recv-id = getD v 2 0
-numberOf v Field.send-id = getD v 3 0
-numberOf v Field.msg-length = getD v 4 0
-numberOf v Field.seg-length = getD v 5 0
-numberOf v Field.recv-length = getD v 6 0
-numberOf v Field.seg-offset = getD v 7 0
-numberOf v Field.credit-request = getD v 8 0
-numberOf v Field.tag = getD v 9 0
-numberOf v Field.multiuse = 0
-numberOf v Field.padding = 0
-numberOf v Field.count = 0
+abbrev pub fieldWord : List ℕ → Field → ℕ
+fieldWord v Field.msg-id = getD v 1 0
+fieldWord v Field.recv-id = getD v 2 0
+fieldWord v Field.send-id = getD v 3 0
+fieldWord v Field.msg-length = getD v 4 0
+fieldWord v Field.seg-length = getD v 5 0
+fieldWord v Field.recv-length = getD v 6 0
+fieldWord v Field.seg-offset = getD v 7 0
+fieldWord v Field.credit-request = getD v 8 0
+fieldWord v Field.tag = getD v 9 0
+fieldWord v Field.multiuse = 0
+fieldWord v Field.padding = 0
+fieldWord v Field.count = 0
 
 abbrev pub typeWord : List ℕ → ℕ
 typeWord v = getD v 0 0
@@ -63,15 +63,15 @@ connidNumber v = getD v 16 0
 abbrev pub fieldsIn : List ℕ → Fields
 fieldsIn v =
     record {
-      «msg_id» = numberOf v Field.msg-id % 2 ^ 32;
-      «recv_id» = numberOf v Field.recv-id % 2 ^ 32;
-      «send_id» = numberOf v Field.send-id % 2 ^ 32;
-      «msg_length» = numberOf v Field.msg-length;
-      «seg_length» = numberOf v Field.seg-length;
-      «recv_length» = numberOf v Field.recv-length;
-      «seg_offset» = numberOf v Field.seg-offset;
-      «credit_request» = numberOf v Field.credit-request % 2 ^ 32;
-      tag = numberOf v Field.tag;
+      «msg_id» = fieldWord v Field.msg-id % 2 ^ 32;
+      «recv_id» = fieldWord v Field.recv-id % 2 ^ 32;
+      «send_id» = fieldWord v Field.send-id % 2 ^ 32;
+      «msg_length» = fieldWord v Field.msg-length;
+      «seg_length» = fieldWord v Field.seg-length;
+      «recv_length» = fieldWord v Field.recv-length;
+      «seg_offset» = fieldWord v Field.seg-offset;
+      «credit_request» = fieldWord v Field.credit-request % 2 ^ 32;
+      tag = fieldWord v Field.tag;
     }
 
 abbrev pub cqIn : List ℕ → CqData
@@ -95,7 +95,7 @@ headerIn v =
 -- each of these fields can hold its number
 unfoldable pub fieldsFit : List ℕ → List Field → Bool
 fieldsFit v [] = true
-fieldsFit v (f ∷ fs) = ltb (numberOf v f) (256 ^ width f) && fieldsFit v fs
+fieldsFit v (f ∷ fs) = ltb (fieldWord v f) (256 ^ width f) && fieldsFit v fs
 
 -- a number of 32 bits, if it is there
 abbrev pub holds : ℕ → ℕ → Bool
@@ -107,9 +107,9 @@ connidFits v = holds (connidWord v) (connidNumber v)
 -- every number of 32 bits is one, whatever fields the type has
 unfoldable pub allNarrow : List ℕ → Bool
 allNarrow v =
-    ltb (numberOf v Field.msg-id) (2 ^ 32)
-    && (ltb (numberOf v Field.recv-id) (2 ^ 32)
-    && (ltb (numberOf v Field.send-id) (2 ^ 32) && (ltb (numberOf v Field.credit-request) (2 ^ 32) && ltb (connidNumber v) (2 ^ 32))))
+    ltb (fieldWord v Field.msg-id) (2 ^ 32)
+    && (ltb (fieldWord v Field.recv-id) (2 ^ 32)
+    && (ltb (fieldWord v Field.send-id) (2 ^ 32) && (ltb (fieldWord v Field.credit-request) (2 ^ 32) && ltb (connidNumber v) (2 ^ 32))))
 
 -- the type's own fields, and a connid that is there
 unfoldable pub numbersFit : TypeRow → List ℕ → Bool
@@ -136,7 +136,7 @@ refusedPut k out size = record { refusal = k; out = out; size = size }
 
 -- 9; then 10 (an optional header its type can't have); then a number that its field cannot hold, the first cause of 11; then the packet
 -- writer's own checks: lengths 11, 6, 21
-unfoldable pub writeTyped : Found → List ℕ → List ℕ → List ℕ → List ℕ → ℕ → Put
+unfoldable pub writeTyped : FoundRow → List ℕ → List ℕ → List ℕ → List ℕ → ℕ → Put
 writeTyped Unknown v raw body out size = refusedPut (badType .number) out size
 writeTyped (Row r) v raw body out size =
     pick (optionsFit r (headerIn v))

@@ -9,7 +9,7 @@ use protocol::CREDIT_REQUEST;
 use protocol::Connid;
 use protocol::CqData;
 use protocol::Fields;
-use protocol::Found;
+use protocol::FoundRow;
 use protocol::Header;
 use protocol::MSG_ID;
 use protocol::RECV_ID;
@@ -187,7 +187,7 @@ fn write_as(
 ) -> usize
     requires { ⌜ Sound row ⌝ }
     requires { ⌜ 19 ≤ length (now values) ⌝ }
-    ensures { λ r. ⌜ record { refusal = r; out = now (out .exit); size = now (size .exit) } ≡ writeTyped (Found.Row row) (now (values .entry)) (now («raw_address» .entry)) (now («data» .entry)) (now (out .entry)) (now (size .entry)) ⌝ }
+    ensures { λ r. ⌜ record { refusal = r; out = now (out .exit); size = now (size .exit) } ≡ writeTyped (FoundRow.Row row) (now (values .entry)) (now («raw_address» .entry)) (now («data» .entry)) (now (out .entry)) (now (size .entry)) ⌝ }
 {
     if !options_fit(row, values) {
         return BAD_OPTION;
@@ -221,7 +221,7 @@ pub fn write(
         return write_header(values, raw_address, data, out, size);
     }
     match packet::find(kind as u8) {
-        Found::Unknown => BAD_TYPE,
-        Found::Row(row) => write_as(row, values, raw_address, data, out, size),
+        FoundRow::Unknown => BAD_TYPE,
+        FoundRow::Row(row) => write_as(row, values, raw_address, data, out, size),
     }
 }

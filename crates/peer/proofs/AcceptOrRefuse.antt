@@ -14,7 +14,7 @@ use Rattle.bitmap.specs.Map.{bit, bitAt}
 use Rattle.laws.specs.Choose.{pick}
 use Rattle.peer.specs.Calls.{Call, peerStep}
 use Rattle.peer.specs.CannotBe.{CanBeIfNoClauseIsBroken, oneId}
-use Rattle.peer.specs.Checks.{CallsAreChecked, Fails, checksOf, numberOf}
+use Rattle.peer.specs.Checks.{CallsAreChecked, CallFails, checksOf, callRefusedAs}
 use Rattle.peer.specs.Claims.{AreBytes}
 use Rattle.peer.specs.Coverage.{Segment, covers, inside}
 use Rattle.peer.specs.Expected.{expected}
@@ -148,11 +148,11 @@ module _ (area limit : ℕ) (p : Peer) (ws : List ℕ) where
       go : {a d : Answer} → Alike (area ≤ 64 * length ws) a d → GoneFor area limit (viewOf p ws) (checksOf c) d
           → GoneFor area limit (viewOf p ws) (checksOf c) a
       go (same a) g = g
-      go (taken a d x y e) g = gone-unrefused (Fails area limit (viewOf p ws)) numberOf (checksOf c) (said d) (said a) (takes-unrefused d y) (takes-unrefused a x) g
+      go (taken a d x y e) g = gone-unrefused (CallFails area limit (viewOf p ws)) callRefusedAs (checksOf c) (said d) (said a) (takes-unrefused d y) (takes-unrefused a x) g
 
 -- ---- the statement
 
 pub calls-are-checked : CallsAreChecked
 unfolding CallsAreChecked
 calls-are-checked area limit p ws c fit eight small b =
-    gone-refused (Fails area limit (viewOf p ws)) numberOf (checksOf c) (said (peerStep area limit p ws c .answer)) (step-checked area limit p ws c fit eight small b)
+    gone-refused (CallFails area limit (viewOf p ws)) callRefusedAs (checksOf c) (said (peerStep area limit p ws c .answer)) (step-checked area limit p ws c fit eight small b)

@@ -31,7 +31,7 @@ use Rattle.peer.specs.State.{phaseAt, phaseFits, slotCount}
 use Rattle.peer.specs.View.{roleOf, rolesOf}
 use Rattle.peer.specs.declared.types.Answer.{Answer}
 use Rattle.peer.specs.declared.types.Fit.{Fit}
-use Rattle.peer.specs.declared.types.Found.{Found}
+use Rattle.peer.specs.declared.types.FoundOpen.{FoundOpen}
 use Rattle.peer.specs.declared.types.Inbound.{Inbound}
 use Rattle.peer.specs.declared.types.Incoming.{Incoming}
 use Rattle.peer.specs.declared.types.Peer.{Peer}
@@ -183,7 +183,7 @@ module _ (area limit : ℕ) (p : Peer) (ws : List ℕ) (l : Plain) (v : Valid ar
     refused-ruled k = (same _, refl)
 
     -- for the open message o in slot i
-    more-ruled : (i : ℕ) (o : Inbound) → findOpen (h .id) 0 (p .slots) ≡ Found.At i o → h .offset + h .size ≤ o .message .length
+    more-ruled : (i : ℕ) (o : Inbound) → findOpen (h .id) 0 (p .slots) ≡ FoundOpen.At i o → h .offset + h .size ≤ o .message .length
         → Ruled (judgeMore ws i o h) (expectMore limit l h bytes i o)
     unfolding judgeMore expectMore
     more-ruled i o e fit =
@@ -204,13 +204,13 @@ module _ (area limit : ℕ) (p : Peer) (ws : List ℕ) (l : Plain) (v : Valid ar
         within : Within area o
         within = found-within area p (h .id) i o v e
 
-    again-ruled : (i : ℕ) (o : Inbound) → findOpen (h .id) 0 (p .slots) ≡ Found.At i o → isRtm (h .shape) ≡ true
+    again-ruled : (i : ℕ) (o : Inbound) → findOpen (h .id) 0 (p .slots) ≡ FoundOpen.At i o → isRtm (h .shape) ≡ true
         → Ruled (judgeAgain ws i o h) (expectAgain limit l h bytes i o)
     unfolding judgeAgain expectAgain
     again-ruled i o e rtm =
         beside Ruled _ _ _ _ refl (λ x. more-ruled i o e (again-inside p ws h (length bytes) form o rtm x .0)) (λ x. refused-ruled differs)
 
-    data-ruled : (i : ℕ) (o : Inbound) → findOpen (h .id) 0 (p .slots) ≡ Found.At i o → Ruled (judgeData ws i o h) (expectData limit l h bytes i o)
+    data-ruled : (i : ℕ) (o : Inbound) → findOpen (h .id) 0 (p .slots) ≡ FoundOpen.At i o → Ruled (judgeData ws i o h) (expectData limit l h bytes i o)
     unfolding judgeData expectData
     data-ruled i o e =
         beside Ruled _ _ _ _ refl
@@ -253,15 +253,15 @@ module _ (area limit : ℕ) (p : Peer) (ws : List ℕ) (l : Plain) (v : Valid ar
         alike : ahead (h .id) (p .next) ≡ ahead (h .id) (l .next)
         alike = ap (ahead (h .id)) (m .next)
 
-    found-ruled : (f : Found) → findOpen (h .id) 0 (p .slots) ≡ f → Ruled (judgeFound p ws h f) (expectFound limit l h bytes f)
+    found-ruled : (f : FoundOpen) → findOpen (h .id) 0 (p .slots) ≡ f → Ruled (judgeFound p ws h f) (expectFound limit l h bytes f)
     unfolding judgeFound expectFound
-    found-ruled (Found.At i o) e = beside Ruled _ _ _ _ refl (λ x. again-ruled i o e x) (λ x. data-ruled i o e)
-    found-ruled Found.Nothing e = beside Ruled _ _ _ _ refl (λ x. new-ruled x) (λ x. refused-ruled late)
+    found-ruled (FoundOpen.At i o) e = beside Ruled _ _ _ _ refl (λ x. again-ruled i o e x) (λ x. data-ruled i o e)
+    found-ruled FoundOpen.Nothing e = beside Ruled _ _ _ _ refl (λ x. new-ruled x) (λ x. refused-ruled late)
 
     packet-ruled : Ruled (judge p ws h) (expectFound limit l h bytes (openIn (h .id) 0 (roles (l .entries))))
     unfolding judge
     packet-ruled =
-        subst (λ (f : Found). Ruled (judge p ws h) (expectFound limit l h bytes f)) (open-same (h .id) 0 (p .slots) ∙ ap (openIn (h .id) 0) (m .same))
+        subst (λ (f : FoundOpen). Ruled (judge p ws h) (expectFound limit l h bytes f)) (open-same (h .id) 0 (p .slots) ∙ ap (openIn (h .id) 0) (m .same))
         (found-ruled (findOpen (h .id) 0 (p .slots)) refl)
 
   -- ---- each call

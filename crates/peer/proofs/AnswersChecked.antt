@@ -9,7 +9,7 @@ use borrow.Author.Tests.{ltb-false, ltb-true}
 use lib.Dec.{leb}
 use mathlib.Core.Logic.{inl, inr, ⊎-elim}
 use native.Mathlib.Omega.{arith}
-use Rattle.protocol.specs.InWords.{ReadIfNoneFails, RefusedByFirstToFail, readerChecks, wrongLengths}
+use Rattle.protocol.specs.Sentences.{ReadIfNoneFails, RefusedByFirstToFail, readerChecks, wrongLengths}
 use Rattle.protocol.specs.Reading.{readOf}
 use Rattle.protocol.specs.Refusals.{badSlot, beyondGrant, differs, early, late, noReceive, repeated}
 use Rattle.protocol.specs.Says.{readSays}
@@ -18,19 +18,19 @@ use Rattle.protocol.specs.declared.types.Packet.{Packet}
 use Rattle.protocol.specs.declared.types.Read.{Read}
 use Rattle.protocol.specs.Types.{servedRow}
 use Rattle.peer.specs.Calls.{Call, cancel, packet, post, report}
-use Rattle.peer.specs.Checks.{AnswersAreChecked, Check, Fails, checksOf, judgedChecks, numberOf, unread}
+use Rattle.peer.specs.Checks.{AnswersAreChecked, CallCheck, CallFails, checksOf, judgedChecks, callRefusedAs, unread}
 use Rattle.peer.specs.Claims.{AreBytes}
 use Rattle.peer.specs.Coverage.{Segment}
 use Rattle.peer.specs.Effects.{opened}
 use Rattle.peer.specs.Expected.{Ruling, expectCancel, expectPacket, expectPost, expectRead, expectReport, expected, accepting}
-use Rattle.peer.specs.InWords.{FoundIsTheLowestOpen, NothingFoundIsNoneOpen, RtmIs64To69, UnfitIsNoneWaiting}
+use Rattle.peer.specs.Sentences.{FoundIsTheLowestOpen, NothingFoundIsNoneOpen, RtmIs64To69, UnfitIsNoneWaiting}
 use Rattle.peer.specs.Incomings.{incomingOf, isRtm}
 use Rattle.peer.specs.PacketBytes.{Rtm, idIn, typeIn}
 use Rattle.peer.specs.Plain.{Plain, Role, entryAt, idle, openIn, receiving, roles, segmentOf, waiting, Target, begunAt, moreAt}
 use Rattle.peer.specs.Says.{refused, said, say}
 use Rattle.peer.specs.View.{OneEach, OpenIn, View, viewIn}
 use Rattle.peer.specs.declared.types.Answer.{Answer}
-use Rattle.peer.specs.declared.types.Found.{Found}
+use Rattle.peer.specs.declared.types.FoundOpen.{FoundOpen}
 use Rattle.peer.specs.declared.types.Inbound.{Inbound}
 use Rattle.peer.specs.declared.types.Incoming.{Incoming}
 use Rattle.peer.specs.declared.types.Receive.{Receive}
@@ -43,7 +43,7 @@ use Rattle.peer.proofs.HistoryFacts.{Belongs, Ruled, accepted, again, b
 use Rattle.peer.proofs.PacketChecked.{Sole, data-beyond, data-more, data-repeats, data-short, data-shut, new-early, new-fits, new-late, new-unfit, open-differs, open-more, open-repeats}
 use Rattle.peer.proofs.PostChecked.{GoneFor, Unrefused, cancel-free, cancel-used, post-gone, report-open, report-shut, slot-beyond}
 use Rattle.peer.proofs.Roles.{role-of-entry}
-use Rattle.peer.proofs.WordsHold.{found-is-the-lowest-open, nothing-found-is-none-open, rtm-is-64-to-69, unfit-is-none-waiting}
+use Rattle.peer.proofs.SentencesHold.{found-is-the-lowest-open, nothing-found-is-none-open, rtm-is-64-to-69, unfit-is-none-waiting}
 
 -- ---- the type of a packet
 
@@ -62,7 +62,7 @@ module _ (area limit : ℕ) (l : Plain) where
   abbrev v : View
   v = viewIn l
 
-  abbrev G : List Check → Answer → Type 0
+  abbrev G : List CallCheck → Answer → Type 0
   G = GoneFor area limit (viewIn l)
 
   -- ---- post, cancel and report
@@ -115,7 +115,7 @@ module _ (area limit : ℕ) (l : Plain) where
     J x = G (judgedChecks bs) (x .answer)
 
     -- the one message that is open under the packet's id, or none
-    sole : (i : ℕ) (o : Inbound) → openIn (h .id) 0 (roles (l .entries)) ≡ Found.At i o → Sole v (idIn bs) i o
+    sole : (i : ℕ) (o : Inbound) → openIn (h .id) 0 (roles (l .entries)) ≡ FoundOpen.At i o → Sole v (idIn bs) i o
     unfolding FoundIsTheLowestOpen
     sole i o e = subst (λ (id : ℕ). Sole v id i o) (says .id) (record { here = here; only = only })
       where
@@ -128,7 +128,7 @@ module _ (area limit : ℕ) (l : Plain) where
             let role : receiving m ≡ receiving o = sym (x .0) ∙ ap (v .role) place ∙ here .0 in
             (place, cc)
 
-    none : openIn (h .id) 0 (roles (l .entries)) ≡ Found.Nothing → (i : ℕ) (o : Inbound) → OpenIn v (idIn bs) i o → ⊥
+    none : openIn (h .id) 0 (roles (l .entries)) ≡ FoundOpen.Nothing → (i : ℕ) (o : Inbound) → OpenIn v (idIn bs) i o → ⊥
     unfolding NothingFoundIsNoneOpen
     none e i o (r, x) = nothing-found-is-none-open (roles (l .entries)) (h .id) .0 e i o (role-of-entry (l .entries) i ∙ r, x ∙ sym (says .id))
 
@@ -173,10 +173,10 @@ module _ (area limit : ℕ) (l : Plain) where
       read : (d : Read) → readOf servedRow limit bs ≡ d → G (map (unread bs) readerChecks ++ judgedChecks bs) (expectRead limit l bs d .answer)
       read (Read.Refused k) e =
           let (i, w, n, (x, b)) = refused-by-first-to-fail false limit bs (k .number) .0 (ap (readSays bs) e) in
-          gone-at (Fails area limit v) numberOf (unread bs) readerChecks (judgedChecks bs) wrongLengths (said (Answer.Refused k)) i w x b
+          gone-at (CallFails area limit v) callRefusedAs (unread bs) readerChecks (judgedChecks bs) wrongLengths (said (Answer.Refused k)) i w x b
           (ap (λ (m : ℕ). say refused (m ∷ [])) (sym n))
       read (Read.Packet q) e =
-          gone-past (Fails area limit v) numberOf (unread bs) readerChecks (judgedChecks bs) (said (expectRead limit l bs (Read.Packet q) .answer))
+          gone-past (CallFails area limit v) callRefusedAs (unread bs) readerChecks (judgedChecks bs) (said (expectRead limit l bs (Read.Packet q) .answer))
           (read-if-none-fails false limit bs .0 (valuesIn q bs, ap (readSays bs) e)) (judged one small bs octets q e (ruled limit l (incomingOf q) (bytesAt bs (q .«data»))))
 
   pub answer-checked : (c : Call) → OneEach (viewIn l) → length (l .entries) ≡ 8 → l .next < 2 ^ 32 → AreBytes c → G (checksOf c) (expected area limit l c)
@@ -188,4 +188,4 @@ module _ (area limit : ℕ) (l : Plain) where
 pub answers-are-checked : AnswersAreChecked
 unfolding AnswersAreChecked
 answers-are-checked area limit l c one eight small b =
-    gone-refused (Fails area limit (viewIn l)) numberOf (checksOf c) (said (expected area limit l c)) (answer-checked area limit l c one eight small b)
+    gone-refused (CallFails area limit (viewIn l)) callRefusedAs (checksOf c) (said (expected area limit l c)) (answer-checked area limit l c one eight small b)

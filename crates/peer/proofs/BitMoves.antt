@@ -12,7 +12,7 @@ use Rattle.bitmap.specs.Map.{bitAt, cleared, countSet, firstClear, marked}
 use Rattle.bitmap.specs.Offsets.{countOf, firstNot}
 use Rattle.peer.specs.Checks.{Long}
 use Rattle.peer.specs.Effects.{progressOf}
-use Rattle.peer.specs.InWords.{CountOfIsHowMany, Falling, FirstNotIsTheLowest, LongIs68And69}
+use Rattle.peer.specs.Sentences.{CountOfIsHowMany, Falling, FirstNotIsTheLowest, LongIs68And69}
 use Rattle.peer.specs.Incomings.{isLong}
 use Rattle.peer.specs.Moves.{AllIn, MatchBits, MoreBits, SomeMissing}
 use Rattle.peer.specs.PacketBytes.{offsetIn, sizeIn}
@@ -24,7 +24,7 @@ use Rattle.bitmap.proofs.CoverLaws.{count-cover, first-cover}
 use Rattle.laws.proofs.Choosing.{branch, clashing}
 use Rattle.laws.proofs.Comparing.{le-or-lt}
 use Rattle.peer.proofs.OffsetsHold.{count-of-is-how-many, first-not-is-the-lowest}
-use Rattle.peer.proofs.WordsHold.{long-is-68-and-69}
+use Rattle.peer.proofs.SentencesHold.{long-is-68-and-69}
 
 -- ---- a segment's bits
 

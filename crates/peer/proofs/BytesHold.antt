@@ -10,18 +10,18 @@ use mathlib.Core.Path.{_≡_, refl, sym, ap, _∙_}
 use native.Mathlib.Omega.{arith}
 use Rattle.laws.specs.Choose.{pick}
 use Rattle.protocol.specs.ByType.{taggedTold}
-use Rattle.protocol.specs.InWords as words
-use Rattle.protocol.specs.InWords.{ReadTellsItsBytes, flagsIn, headIn}
+use Rattle.protocol.specs.Sentences as words
+use Rattle.protocol.specs.Sentences.{ReadTellsItsBytes, flagsIn, headIn}
 use Rattle.protocol.specs.Reading.{readOf, readTyped}
 use Rattle.protocol.specs.Refusals.{badType}
 use Rattle.protocol.specs.Types.{admit, rowOf, servedRow}
-use Rattle.protocol.specs.declared.table.Found.{Found}
-use Rattle.protocol.specs.declared.table.Found.the-variants.{Row, Unknown}
+use Rattle.protocol.specs.declared.table.FoundRow.{FoundRow}
+use Rattle.protocol.specs.declared.table.FoundRow.the-variants.{Row, Unknown}
 use Rattle.protocol.specs.declared.table.TypeRow.{TypeRow}
 use Rattle.protocol.specs.declared.types.Packet.{Packet}
 use Rattle.protocol.specs.declared.types.Read.{Read}
 use Rattle.protocol.specs.declared.types.Refusal.{Refusal}
-use Rattle.peer.specs.InWords.{ReadAsTheTableSays, Told}
+use Rattle.peer.specs.Sentences.{ReadAsTheTableSays, Told}
 use Rattle.peer.specs.Incomings.{incomingOf}
 use Rattle.peer.specs.PacketBytes.{Rtm, idIn, lengthAs, lengthIn, offsetAs, offsetIn, sizeIn, tagAs, tagIn, typeIn, typeSaid}
 use Rattle.peer.specs.declared.types.Incoming.{Incoming}
@@ -47,7 +47,7 @@ pub record Says (bs : List ℕ) (h : Incoming) : Type 0 where
 no-packet : (k : Refusal) (p : Packet) → Read.Refused k ≡ Read.Packet p → ⊥
 no-packet k p e = let z : _≡_ {A = ℕ} 0 1 = cc in omega arith
 
-row-served : (o : Found) (bs : List ℕ) (p : Packet) → readTyped (admit servedRow o) bs ≡ Read.Packet p → (r : TypeRow) × (o ≡ Row r) × (r .served ≡ true)
+row-served : (o : FoundRow) (bs : List ℕ) (p : Packet) → readTyped (admit servedRow o) bs ≡ Read.Packet p → (r : TypeRow) × (o ≡ Row r) × (r .served ≡ true)
 unfolding readTyped admit pick
 row-served Unknown bs p e = absurd (no-packet badType p e)
 row-served (Row r) bs p e = (r, refl, go (r .served) e)

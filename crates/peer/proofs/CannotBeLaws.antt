@@ -9,7 +9,7 @@ use mathlib.Core.Logic.{_⊎_, _↔_, _≢_, inl, inr, ⊎-elim}
 use mathlib.Core.Path.{_≡_, refl, sym, ap, ap₂, _∙_, subst}
 use native.Mathlib.Omega.{arith}
 use Rattle.peer.specs.CannotBe.{Breaks, CanBeIfNoClauseIsBroken, CannotBeIfAClauseIsBroken, Clause, Uses, grantedAbove, lengthAbove, oneAge, oneId, rangeOutside, rangesOverlap}
-use Rattle.peer.specs.InWords.{HasByte, OverlapIsASharedByte}
+use Rattle.peer.specs.Sentences.{HasByte, OverlapIsASharedByte}
 use Rattle.peer.specs.State.{allFit, clash, isFree, noneClash, overlap, pairsApart, peerFits, phaseAt, phaseFits}
 use Rattle.peer.specs.View.{UsesRange, roleOf}
 use Rattle.peer.specs.declared.types.Inbound.{Inbound}
@@ -20,7 +20,7 @@ use Rattle.peer.specs.declared.types.Slot.{Slot}
 use Rattle.laws.proofs.Choosing.{or-cases, or-right, tested}
 use Rattle.peer.proofs.Slots.{used-slot}
 use Rattle.peer.proofs.Valid.{Valid, Within, fits-valid, open-within, posted-within}
-use Rattle.peer.proofs.WordsHold.{overlap-is-a-shared-byte}
+use Rattle.peer.proofs.SentencesHold.{overlap-is-a-shared-byte}
 
 -- ---- from the test that fails to a slot, or to two
 

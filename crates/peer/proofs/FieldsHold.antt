@@ -1,4 +1,4 @@
--- What a packet that was read says stands where 01's table puts it: the statement of specs/InWords.antt on a packet's fields.
+-- What a packet that was read says stands where 01's table puts it: the statement of specs/Sentences.antt on a packet's fields.
 use Prim.Native.Nat.{ℕ, _-_}
 use borrow.Author.Tests.{eqb-true}
 use lib.Dec.{leb, eqb}
@@ -14,12 +14,12 @@ use Rattle.protocol.specs.Layout.{layout, placeOf, tag}
 use Rattle.protocol.specs.Lengths.{lengthsFit}
 use Rattle.protocol.specs.Reading.{headerIn, packetIn, readOf}
 use Rattle.protocol.specs.Types.{row, rowIn, rowOf, rows, servedRow}
-use Rattle.protocol.specs.declared.table.Found.the-variants.{Row}
+use Rattle.protocol.specs.declared.table.FoundRow.the-variants.{Row}
 use Rattle.protocol.specs.declared.table.Shape.the-variants.{Cts}
 use Rattle.protocol.specs.declared.table.TypeRow.{TypeRow}
 use Rattle.protocol.specs.declared.types.Packet.{Packet}
 use Rattle.protocol.specs.declared.types.Read.{Read}
-use Rattle.peer.specs.InWords.{ReadAsTheTableSays, Told}
+use Rattle.peer.specs.Sentences.{ReadAsTheTableSays, Told}
 use Rattle.peer.specs.Incomings.{incomingOf}
 use Rattle.peer.specs.PacketBytes.{typeNumber, typeSaid}
 use Rattle.peer.specs.declared.types.Incoming.{Incoming}
@@ -29,7 +29,7 @@ use Rattle.protocol.proofs.Accepted.{ReadAs, as-read, dataFrom, packetOf}
 use Rattle.protocol.proofs.RowLaws.{number-none}
 use Rattle.protocol.proofs.Served.{any-read}
 use Rattle.protocol.proofs.TableRule.{row-passes, rows-say, sound}
-use Rattle.protocol.proofs.TypeWords.{tagged-in-words}
+use Rattle.protocol.proofs.TypeSentences.{tagged-in-words}
 
 -- a type that is not tagged has no tag
 plain-untagged : (k : ℕ) (r : TypeRow) → rowOf k ≡ Row r → r .tagged ≡ false → placeOf r tag ≡ 0

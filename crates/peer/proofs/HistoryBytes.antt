@@ -13,7 +13,7 @@ use Rattle.peer.specs.Calls.{Call}
 use Rattle.peer.specs.Claims.{ByteFrom, BytesBySegments, BytesClaim, DoneClaim, DoneWhenCovered, Unfinished, history, segmentAt}
 use Rattle.peer.specs.Coverage.{Segment, byteOf, covers, inside}
 use Rattle.peer.specs.Expected.{expected, targetOfCall}
-use Rattle.peer.specs.InWords.{SomeOfIsSomeOffset}
+use Rattle.peer.specs.Sentences.{SomeOfIsSomeOffset}
 use Rattle.peer.specs.Plain.{Entry, Plain, Target, entryAt, segmentOf}
 use Rattle.peer.specs.declared.types.Answer.{Answer}
 use Rattle.peer.specs.declared.types.Inbound.{Inbound}

@@ -6,7 +6,7 @@ use mathlib.Core.List.{List, [], _∷_}
 use mathlib.Core.Path.{_≡_, refl, sym, ap, _∙_, subst}
 use native.Mathlib.Omega.{arith}
 use Rattle.laws.specs.Choose.{pick}
-use Rattle.protocol.specs.InWords.{NumbersAreLittleEndian}
+use Rattle.protocol.specs.Sentences.{NumbersAreLittleEndian}
 use Rattle.peer.specs.Calls.{Call}
 use Rattle.peer.specs.Claims.{AllBytes, AreBytes, MatchedByCount, answersOf, idAt, idsOf, isMatch, numbersOf, takes}
 use Rattle.peer.specs.Expected.{enter, expected, targetOfCall}
@@ -17,7 +17,7 @@ use Rattle.peer.specs.declared.types.Inbound.{Inbound}
 use Rattle.peer.specs.declared.types.Incoming.{Incoming}
 use Rattle.wire.specs.LittleEndian.{leAt}
 use Rattle.laws.proofs.Choosing.{branch, pick-first}
-use Rattle.protocol.proofs.WordsHold.{numbers-are-little-endian}
+use Rattle.protocol.proofs.SentencesHold.{numbers-are-little-endian}
 use Rattle.peer.proofs.BytesHold.{read-says}
 use Rattle.peer.proofs.HistoryFacts.{Aims, Entered, asBefore, begins, entered, goesOn, outcome, taken-by, withCancel, withEnd, withGrant, withPost, withSegment}
 

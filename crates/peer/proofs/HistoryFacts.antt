@@ -23,7 +23,7 @@ use Rattle.peer.specs.Claims.{history, plainAfter, takes}
 use Rattle.peer.specs.Coverage.{allOf, covers}
 use Rattle.peer.specs.Effects.{grantOf, opened}
 use Rattle.peer.specs.Expected.{Ruling, accepting, anyOverlap, enter, expectAgain, expectCancel, expectData, expectFit, expectFound, expectMore, expectNew, expectPacket, expectPlace, expectPost, expectRead, expectReport, expectTaken, expected, lowestIdle, refusing, targetOfCall}
-use Rattle.peer.specs.InWords.{FoundIsTheLowestOpen}
+use Rattle.peer.specs.Sentences.{FoundIsTheLowestOpen}
 use Rattle.peer.specs.Incomings.{incomingOf, isLong, isRtm}
 use Rattle.peer.specs.Matching.{ahead, sameMessage}
 use Rattle.peer.specs.Origins.{Origin, noteOrigin}
@@ -31,7 +31,7 @@ use Rattle.peer.specs.Plain.{Entry, Plain, Role, Target, begunAt, enterA
 use Rattle.peer.specs.State.{slotCount}
 use Rattle.peer.specs.declared.types.Answer.{Answer}
 use Rattle.peer.specs.declared.types.Fit.{Fit}
-use Rattle.peer.specs.declared.types.Found.{Found}
+use Rattle.peer.specs.declared.types.FoundOpen.{FoundOpen}
 use Rattle.peer.specs.declared.types.Inbound.{Inbound}
 use Rattle.peer.specs.declared.types.Incoming.{Incoming}
 use Rattle.peer.specs.declared.types.Receive.{Receive}
@@ -42,7 +42,7 @@ use Rattle.peer.proofs.AnswerLaws.{claim-from, claim-taken}
 use Rattle.peer.proofs.EntrySearch.{Foremost, foremost}
 use Rattle.peer.proofs.Roles.{role-of-entry}
 use Rattle.peer.proofs.Verdicts.{medium-only}
-use Rattle.peer.proofs.WordsHold.{found-is-the-lowest-open}
+use Rattle.peer.proofs.SentencesHold.{found-is-the-lowest-open}
 
 -- the call brings a packet that is read
 pub record Brings (limit : ℕ) (c : Call) : Type 0 where
@@ -62,10 +62,10 @@ bytesOf b = bytesAt (b .text) (b .read .«data»)
 
 -- the message o that is open under the packet's id, in entry i, or none is
 abbrev pub Open : Plain → Incoming → ℕ → Inbound → Type 0
-Open l h i o = openIn (h .id) 0 (roles (l .entries)) ≡ Found.At i o
+Open l h i o = openIn (h .id) 0 (roles (l .entries)) ≡ FoundOpen.At i o
 
 abbrev pub Unopened : Plain → Incoming → Type 0
-Unopened l h = openIn (h .id) 0 (roles (l .entries)) ≡ Found.Nothing
+Unopened l h = openIn (h .id) 0 (roles (l .entries)) ≡ FoundOpen.Nothing
 
 -- a segment of the open message o: one more RTM of it, or CTSDATA that was granted
 pub data Belongs (h : Incoming) (o : Inbound) : Type 0 where
@@ -243,10 +243,10 @@ module _ (limit : ℕ) (l : Plain) (h : Incoming) (body : List ℕ) where
       (λ y. shut early (tooSoon n rtm (omega (arith, ltb-false 2147483647 (ahead (h .id) (l .next)) x)) (ltb-true _ _ y)))
       (λ y. fitted _ refl n rtm (omega (arith, ltb-false 0 (ahead (h .id) (l .next)) y))))
 
-  ruled-found : (f : Found) → openIn (h .id) 0 (roles (l .entries)) ≡ f → R (expectFound limit l h body f)
+  ruled-found : (f : FoundOpen) → openIn (h .id) 0 (roles (l .entries)) ≡ f → R (expectFound limit l h body f)
   unfolding expectFound
-  ruled-found (Found.At i o) e = branch R _ _ _ (λ x. further i o e x) (λ x. ctsData i o e x)
-  ruled-found Found.Nothing e = branch R _ _ _ (λ x. fresh e x) (λ x. shut late (notOpen e x))
+  ruled-found (FoundOpen.At i o) e = branch R _ _ _ (λ x. further i o e x) (λ x. ctsData i o e x)
+  ruled-found FoundOpen.Nothing e = branch R _ _ _ (λ x. fresh e x) (λ x. shut late (notOpen e x))
 
   pub ruled : Ruled limit l h body (expectFound limit l h body (openIn (h .id) 0 (roles (l .entries))))
   ruled = ruled-found (openIn (h .id) 0 (roles (l .entries))) refl

@@ -1,7 +1,7 @@
 pub mod AnswerLaws
 pub mod Roles
 pub mod EntrySearch
-pub mod WordsHold
+pub mod SentencesHold
 pub mod Slots
 pub mod Valid
 pub mod Verdicts

@@ -7,8 +7,8 @@ use mathlib.Core.Path.{_≡_, refl, sym, ap, _∙_, subst}
 use native.Mathlib.Omega.{arith}
 use mathlib.Core.Logic.{_⊎_, inl, inr, ⊎-elim}
 use Rattle.bitmap.specs.Map.{cleared, marked}
-use Rattle.protocol.specs.CtsWords.{CtsReadBack}
-use Rattle.protocol.specs.InWords.{headIn}
+use Rattle.protocol.specs.CtsSentences.{CtsReadBack}
+use Rattle.protocol.specs.Sentences.{headIn}
 use Rattle.protocol.specs.Reading.{readOf}
 use Rattle.protocol.specs.Values.{bytesAt}
 use Rattle.protocol.specs.declared.types.Packet.{Packet}
@@ -18,7 +18,7 @@ use Rattle.peer.specs.Calls.{Call, countPosted, missingIn, packet, place
 use Rattle.peer.specs.Coverage.{Segment}
 use Rattle.peer.specs.Effects.{Effect, accept, advance, begun, extended, grantOf, inSlot, opened, progressOf, quiet, settledAs, truncatedAt, withPhase}
 use Rattle.peer.specs.Formed.{Formed}
-use Rattle.peer.specs.InWords.{NothingFoundIsNoneOpen}
+use Rattle.peer.specs.Sentences.{NothingFoundIsNoneOpen}
 use Rattle.peer.specs.Incomings.{incomingOf}
 use Rattle.peer.specs.Matching.{oldest, vacancy}
 use Rattle.peer.specs.Moves.{AllIn, Beginning, GoingOn, Moved, MovesAreAsSaid, SomeMissing, Taking}
@@ -55,7 +55,7 @@ use Rattle.peer.proofs.Slots.{entries-oldest, entriesOf, entry-at, entr
 use Rattle.peer.proofs.StepCases.{StepCase, begins, cancelled, continues, posted, refused, reported, step-case, truncated}
 use Rattle.peer.proofs.Valid.{Valid, fits-valid}
 use Rattle.peer.proofs.Verdicts.{Begins, Continues, CutOff, Matched, chosen-at, continued-at}
-use Rattle.peer.proofs.WordsHold.{nothing-found-is-none-open}
+use Rattle.peer.proofs.SentencesHold.{nothing-found-is-none-open}
 
 -- ---- one slot replaced
 

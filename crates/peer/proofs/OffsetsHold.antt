@@ -1,4 +1,4 @@
--- What is said of ranges of offsets and of what segments cover is what 01 says: the statements of specs/InWords.antt on offsets.
+-- What is said of ranges of offsets and of what segments cover is what 01 says: the statements of specs/Sentences.antt on offsets.
 use Prim.Native.Nat.{ℕ, zero, suc, _+_, _-_, _≤_, _<_}
 use borrow.Author.Tests.{eqb-true, le-leb, lt-leb}
 use lib.ListN.{length}
@@ -12,7 +12,7 @@ use native.Mathlib.Omega.{arith}
 use Rattle.bitmap.specs.Offsets.{countOf, firstNot, someOf}
 use Rattle.laws.specs.Choose.{pick}
 use Rattle.peer.specs.Coverage.{Segment, allOf, covers, inside}
-use Rattle.peer.specs.InWords.{AllOfIsEveryOffset, CountIsFullIfEvery, CountOfIsHowMany, CoversIsSomeSegment, Falling, FirstNotIsTheLowest, LowestNot, SomeOfIsSomeOffset}
+use Rattle.peer.specs.Sentences.{AllOfIsEveryOffset, CountIsFullIfEvery, CountOfIsHowMany, CoversIsSomeSegment, Falling, FirstNotIsTheLowest, LowestNot, SomeOfIsSomeOffset}
 use Rattle.laws.proofs.Choosing.{and-intro, clashing, or-cases, pick-false, pick-small, pick-true, tested}
 use Rattle.peer.proofs.CoverageLaws.{all-at, all-before, at-all, first-whole, inside-end, inside-in}
 

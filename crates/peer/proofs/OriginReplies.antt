@@ -8,8 +8,8 @@ use mathlib.Core.Path.{_≡_, sym, ap, _∙_, subst, subst₂}
 use native.Mathlib.Nat.{mul-le-mul}
 use native.Mathlib.Omega.{arith}
 use Rattle.protocol.specs.Cts.{ctsBytes}
-use Rattle.protocol.specs.CtsWords.{CtsReadBack, ReadsAsCts}
-use Rattle.protocol.specs.InWords.{NumbersAreLittleEndian}
+use Rattle.protocol.specs.CtsSentences.{CtsReadBack, ReadsAsCts}
+use Rattle.protocol.specs.Sentences.{NumbersAreLittleEndian}
 use Rattle.peer.specs.Answers.{onAccepted}
 use Rattle.peer.specs.Calls.{Call}
 use Rattle.peer.specs.Claims.{SegmentIn, WriteClaim, history}
@@ -17,7 +17,7 @@ use Rattle.peer.specs.Coverage.{Segment}
 use Rattle.peer.specs.Effects.{grantOf}
 use Rattle.peer.specs.Expected.{expected, expectedReply, messageIn, messageOf}
 use Rattle.laws.specs.Choose.{pick}
-use Rattle.peer.specs.InWords.{LongIs68And69}
+use Rattle.peer.specs.Sentences.{LongIs68And69}
 use Rattle.peer.specs.Incomings.{isLong}
 use Rattle.peer.specs.Origins.{AcceptedFromOrigin, Comes, GrantIsACts, Origin, OriginClaim, OwnClaim, OwnSegment, ReplyClaim, originOfCall, originsOf}
 use Rattle.peer.specs.PacketBytes.{idIn, lengthAs, lengthIn, offsetIn, typeIn}
@@ -29,12 +29,12 @@ use Rattle.peer.specs.declared.types.Message.{Message}
 use Rattle.peer.specs.declared.types.Receive.{Receive}
 use Rattle.wire.specs.LittleEndian.{leAt}
 use Rattle.protocol.proofs.CtsRead.{cts-read-back}
-use Rattle.protocol.proofs.WordsHold.{numbers-are-little-endian}
+use Rattle.protocol.proofs.SentencesHold.{numbers-are-little-endian}
 use Rattle.peer.proofs.AnswerLaws.{claim-both, untaken-is}
 use Rattle.peer.proofs.BytesHold.{bytes-told, read-says}
 use Rattle.peer.proofs.HistoryFacts.{Aims, Granting, Outcome, Taken, begins, bytesOf, goesOn, headOf, outcome, same-message, taken-role}
 use Rattle.peer.proofs.OriginsHold.{accepted-from-origin}
-use Rattle.peer.proofs.WordsHold.{long-is-68-and-69}
+use Rattle.peer.proofs.SentencesHold.{long-is-68-and-69}
 
 -- ---- a grant
 

@@ -8,9 +8,9 @@ use mathlib.Core.Path.{_∙_, _≡_, ap, refl, subst, sym}
 use native.Mathlib.Omega.{arith}
 use Rattle.bitmap.specs.Offsets.{someOf}
 use Rattle.protocol.specs.ByType.{taggedTold}
-use Rattle.protocol.specs.InWords.{bitOf}
-use Rattle.peer.specs.Checks.{Ahead, Check, Differs, Fails, FitsIn, Long, NotOpen, Repeats, dataBeyond, dataLate, dataRepeats, judgedChecks, rtmDiffers, rtmEarly, rtmLate, rtmRepeats, rtmUnmatched}
-use Rattle.peer.specs.InWords.{AheadIsTheDistance, LongIs68And69, OtherMessageDiffers, PlainFitsPlain, SameMessageIsAllEqual, SomeOfIsSomeOffset, TaggedFitsOutsideIgnore}
+use Rattle.protocol.specs.Sentences.{bitOf}
+use Rattle.peer.specs.Checks.{Ahead, CallCheck, Differs, CallFails, FitsIn, Long, NotOpen, Repeats, dataBeyond, dataLate, dataRepeats, judgedChecks, rtmDiffers, rtmEarly, rtmLate, rtmRepeats, rtmUnmatched}
+use Rattle.peer.specs.Sentences.{AheadIsTheDistance, LongIs68And69, OtherMessageDiffers, PlainFitsPlain, SameMessageIsAllEqual, SomeOfIsSomeOffset, TaggedFitsOutsideIgnore}
 use Rattle.peer.specs.Incomings.{isLong}
 use Rattle.peer.specs.Matching.{ahead, fits, sameMessage}
 use Rattle.peer.specs.Says.{refused, said, say}
@@ -25,7 +25,7 @@ use Rattle.peer.specs.declared.types.Receive.{Receive}
 use Rattle.peer.proofs.BytesHold.{Says}
 use Rattle.peer.proofs.OffsetsHold.{some-of-is-some-offset}
 use Rattle.peer.proofs.PostChecked.{GoneFor, Unrefused}
-use Rattle.peer.proofs.WordsHold.{ahead-is-the-distance, long-is-68-and-69, other-message-differs, plain-fits-plain, same-message-is-all-equal, tagged-fits-outside-ignore}
+use Rattle.peer.proofs.SentencesHold.{ahead-is-the-distance, long-is-68-and-69, other-message-differs, plain-fits-plain, same-message-is-all-equal, tagged-fits-outside-ignore}
 use Rattle.wire.proofs.Laws.{le-at-fits}
 
 -- one message alone is open under the id
@@ -89,7 +89,7 @@ module _ (v : View) (bs : List ℕ) (h : Incoming) (s : Says bs h) where
 -- ---- each way through the tests
 
 module _ (area limit : ℕ) (v : View) (bs : List ℕ) (h : Incoming) (s : Says bs h) (a : Answer) where
-  abbrev G : List Check → Type 0
+  abbrev G : List CallCheck → Type 0
   G cs = GoneFor area limit v cs a
 
   abbrev Refuses : ℕ → Type 0
@@ -111,7 +111,7 @@ module _ (area limit : ℕ) (v : View) (bs : List ℕ) (h : Incoming) (s : Says 
     open-differs x e = inl ((w, (i, o, sole .here, differs-words v bs h s w (o .message) x)), e)
 
     module _ (x : sameMessage (o .message) h ≡ true) where
-      not-other : Fails area limit v (rtmDiffers bs) → ⊥
+      not-other : CallFails area limit v (rtmDiffers bs) → ⊥
       not-other (r, (j, m, y, d)) = same-words v bs h s w (o .message) x (subst (λ (n : Inbound). Differs bs (n .message)) (sole .only j m y .1) d)
 
       pub open-repeats : someOf (v .taken i) (h .offset) (h .size) ≡ true → Refuses 16 → G (judgedChecks bs)
@@ -120,7 +120,7 @@ module _ (area limit : ℕ) (v : View) (bs : List ℕ) (h : Incoming) (s : Says 
       pub open-more : someOf (v .taken i) (h .offset) (h .size) ≡ false → Unrefused a → G (judgedChecks bs)
       open-more y u = inr (not-other, inr (fresh, inr (λ z. z .1 i o (sole .here), inr (λ z. z .1 i o (sole .here), inr (λ z. z .1 i o (sole .here), past-data w u)))))
         where
-          fresh : Fails area limit v (rtmRepeats bs) → ⊥
+          fresh : CallFails area limit v (rtmRepeats bs) → ⊥
           fresh (r, (j, m, z, t)) = true≢false (sym (repeats-words v bs h s i .1 (subst (Repeats v bs) (sole .only j m z .0) t)) ∙ y)
 
   -- "if not open, 15, 12, 13"
@@ -146,7 +146,7 @@ module _ (area limit : ℕ) (v : View) (bs : List ℕ) (h : Incoming) (s : Says 
     new-late l e = past-open (inl ((w, n, (d, distance .0, l)), e))
 
     module _ (l : ahead (h .id) (v .next) < 2 ^ 31) where
-      not-late : Fails area limit v (rtmLate bs) → ⊥
+      not-late : CallFails area limit v (rtmLate bs) → ⊥
       unfolding d
       not-late x = let (k, y, m) = x .2 in omega (arith, distance .1 k y, m, l)
 
@@ -155,7 +155,7 @@ module _ (area limit : ℕ) (v : View) (bs : List ℕ) (h : Incoming) (s : Says 
       new-early m e = past-open (inr (not-late, inl ((w, n, (d, distance .0, m, l)), e)))
 
       module _ (z : ahead (h .id) (v .next) ≡ 0) where
-        not-early : Fails area limit v (rtmEarly bs) → ⊥
+        not-early : CallFails area limit v (rtmEarly bs) → ⊥
         unfolding d
         not-early x = let (k, y, m, t) = x .2 in omega (arith, distance .1 k y, m, z)
 
@@ -189,14 +189,14 @@ module _ (area limit : ℕ) (v : View) (bs : List ℕ) (h : Incoming) (s : Says 
         is-long : Long (o .message)
         is-long = long-words (o .message) .0 long
 
-        found : Fails area limit v (dataLate bs) → ⊥
+        found : CallFails area limit v (dataLate bs) → ⊥
         found x = x .1 i o (sole .here) is-long
 
         pub data-beyond : o .message .granted < h .offset + h .size → Refuses 17 → G (judgedChecks bs)
         data-beyond l e = past-rtm t (inr (found, inl ((t, (i, o, sole .here, is-long, omega (arith, s .offset, s .size, l))), e)))
 
         module _ (l : h .offset + h .size ≤ o .message .granted) where
-          inside : Fails area limit v (dataBeyond bs) → ⊥
+          inside : CallFails area limit v (dataBeyond bs) → ⊥
           inside (k, (j, m, x, y, z)) = omega (arith, s .offset, s .size, l, ap (λ (q : Inbound). q .message .granted) (sole .only j m x .1))
 
           pub data-repeats : someOf (v .taken i) (h .offset) (h .size) ≡ true → Refuses 16 → G (judgedChecks bs)
@@ -205,5 +205,5 @@ module _ (area limit : ℕ) (v : View) (bs : List ℕ) (h : Incoming) (s : Says 
           pub data-more : someOf (v .taken i) (h .offset) (h .size) ≡ false → Unrefused a → G (judgedChecks bs)
           data-more x u = past-rtm t (inr (found, inr (inside, inr (fresh, u))))
             where
-              fresh : Fails area limit v (dataRepeats bs) → ⊥
+              fresh : CallFails area limit v (dataRepeats bs) → ⊥
               fresh (k, (j, m, y, z, r)) = true≢false (sym (repeats-words v bs h s i .1 (subst (Repeats v bs) (sole .only j m y .0) r)) ∙ x)

@@ -15,7 +15,7 @@ use Rattle.protocol.specs.Lengths.{lengthsFit}
 use Rattle.protocol.specs.Reading.{headerIn, packetIn, readOf}
 use Rattle.protocol.specs.Types.{rowOf, servedRow}
 use Rattle.protocol.specs.Values.{bytesAt}
-use Rattle.protocol.specs.declared.table.Found.the-variants.{Row}
+use Rattle.protocol.specs.declared.table.FoundRow.the-variants.{Row}
 use Rattle.protocol.specs.declared.table.Shape.{Shape}
 use Rattle.protocol.specs.declared.table.Shape.the-variants.{Cts, CtsData, Eager, LongCts, Medium}
 use Rattle.protocol.specs.declared.table.TypeRow.{TypeRow}

@@ -11,9 +11,9 @@ use native.Mathlib.Omega.{arith}
 use Rattle.protocol.specs.Refusals.{badLength, overlaps}
 use Rattle.peer.specs.Calls.{cancel, post, report}
 use Rattle.laws.specs.Choose.{pick}
-use Rattle.peer.specs.Checks.{Check, Fails, checksOf, inUse, noneFree, numberOf}
+use Rattle.peer.specs.Checks.{CallCheck, CallFails, checksOf, inUse, noneFree, callRefusedAs}
 use Rattle.peer.specs.Expected.{anyOverlap, expectPlace, lowestIdle}
-use Rattle.peer.specs.InWords.{HasByte}
+use Rattle.peer.specs.Sentences.{HasByte}
 use Rattle.peer.specs.Says.{refused, said, say}
 use Rattle.peer.specs.Plain.{Role, idle, receiving, waiting}
 use Rattle.peer.specs.State.{overlap}
@@ -30,8 +30,8 @@ use Rattle.peer.proofs.FirstLaws.{Gone}
 abbrev pub Unrefused : Answer → Type 0
 Unrefused a = said a .word ≡ refused → ⊥
 
-abbrev pub GoneFor : ℕ → ℕ → View → List Check → Answer → Type 0
-GoneFor area limit v cs a = Gone (Fails area limit v) numberOf cs (said a)
+abbrev pub GoneFor : ℕ → ℕ → View → List CallCheck → Answer → Type 0
+GoneFor area limit v cs a = Gone (CallFails area limit v) callRefusedAs cs (said a)
 
 -- ---- 19
 
@@ -94,10 +94,10 @@ module _ (area limit : ℕ) (v : View) where
     place-gone Vacancy.Full w = inl (λ i l e. w i (omega (arith, eight)) (sym (same i) ∙ e), refl)
     place-gone (Vacancy.Slot j) (i, l, e) = inr (λ n. n i (omega (arith, eight)) (same i ∙ e), λ x. let z : _≡_ {A = ℕ} 0 1 = cc in omega arith)
 
-    used : (r : Receive) → anyOverlap r us ≡ true → Fails area limit v (inUse r)
+    used : (r : Receive) → anyOverlap r us ≡ true → CallFails area limit v (inUse r)
     used r y = let (i, s, u, w) = overlap-given r us y in (i, s, subst (λ (x : Role). UsesRange x s) (sym (same i)) u, w)
 
-    unused : (r : Receive) → anyOverlap r us ≡ false → Fails area limit v (inUse r) → ⊥
+    unused : (r : Receive) → anyOverlap r us ≡ false → CallFails area limit v (inUse r) → ⊥
     unused r y (i, s, u, w) = overlap-asked r us y i s (subst (λ (x : Role). UsesRange x s) (same i) u) w
 
     -- "Post: .. 11, 19, 18"

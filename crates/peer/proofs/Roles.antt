@@ -15,8 +15,8 @@ use Rattle.peer.specs.State.{inTheWay, isFree, overlap, phaseAt, slotWit
 use Rattle.peer.specs.View.{roleOf, rolesOf}
 use Rattle.peer.specs.declared.types.Fit.{Fit}
 use Rattle.peer.specs.declared.types.Fit.the-variants.{To, Unfit}
-use Rattle.peer.specs.declared.types.Found.{Found}
-use Rattle.peer.specs.declared.types.Found.the-variants.{At, Nothing}
+use Rattle.peer.specs.declared.types.FoundOpen.{FoundOpen}
+use Rattle.peer.specs.declared.types.FoundOpen.the-variants.{At, Nothing}
 use Rattle.peer.specs.declared.types.Incoming.{Incoming}
 use Rattle.peer.specs.declared.types.Phase.{Phase}
 use Rattle.peer.specs.declared.types.Phase.the-variants.{Free, Open, Posted}
@@ -81,7 +81,7 @@ open-same id k (s ∷ ss) = at (s .phase) (open-same id (suc k) ss)
     at (Phase.Posted r a) e = e
     at (Phase.Open o) e = pass (eqb (o .message .id) id)
       where
-        pass : (t : Bool) → orElse (pick t (Found.At k o) Found.Nothing) (findOpen id (suc k) ss) ≡ pick t (Found.At k o) (openIn id (suc k) (rolesOf ss))
+        pass : (t : Bool) → orElse (pick t (FoundOpen.At k o) FoundOpen.Nothing) (findOpen id (suc k) ss) ≡ pick t (FoundOpen.At k o) (openIn id (suc k) (rolesOf ss))
         pass true = unfold pick in refl
         pass false = unfold pick in e
 

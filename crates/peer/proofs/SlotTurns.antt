@@ -13,7 +13,7 @@ use Rattle.peer.specs.Calls.{countOlder, countPosted, oneOlder, onePoste
 use Rattle.peer.specs.Matching.{findOpen, olderHere, oldest, openHere, orElse, vacancy}
 use Rattle.peer.specs.State.{allFit, clash, freeSlot, inTheWay, isFree, noneClash, pairsApart, phaseAt, phaseFits}
 use Rattle.peer.specs.declared.types.Fit.{Fit}
-use Rattle.peer.specs.declared.types.Found.{Found}
+use Rattle.peer.specs.declared.types.FoundOpen.{FoundOpen}
 use Rattle.peer.specs.declared.types.Incoming.{Incoming}
 use Rattle.peer.specs.declared.types.Phase.{Phase}
 use Rattle.peer.specs.declared.types.Receive.{Receive}
@@ -59,7 +59,7 @@ module _ (ss : List Slot) (i : ℕ) (h : i < length ss) where
   older-turn a = rw (add-one, drop-cons ss i freeSlot h)
 
 module _ (ss : List Slot) (i : ℕ) (h : length ss ≤ i) where
-  pub open-end : (id : ℕ) → findOpen id i (drop i ss) ≡ Found.Nothing
+  pub open-end : (id : ℕ) → findOpen id i (drop i ss) ≡ FoundOpen.Nothing
   unfolding findOpen
   open-end id = rw (drop-of-length-le ss h)
 

@@ -10,13 +10,13 @@ use mathlib.Core.Path.{_≡_, refl, sym, ap, ap₂, _∙_, subst}
 use native.Mathlib.Omega.{arith}
 use Rattle.peer.specs.Calls.{someInTheWay}
 use Rattle.peer.specs.Coverage.{Segment}
-use Rattle.peer.specs.InWords.{FoundIsTheLowestOpen, NothingFoundIsNoneOpen}
+use Rattle.peer.specs.Sentences.{FoundIsTheLowestOpen, NothingFoundIsNoneOpen}
 use Rattle.peer.specs.Matching.{findOpen, olderHere, oldest, vacancy}
 use Rattle.peer.specs.Plain.{Entry, Role, entryAt, firstHere, firstPosted, noEntry, receiving, roles, waiting}
 use Rattle.peer.specs.State.{freeSlot, inTheWay, isFree, phaseAt, slotWith}
 use Rattle.peer.specs.View.{roleOf, rolesOf}
 use Rattle.peer.specs.declared.types.Fit.{Fit}
-use Rattle.peer.specs.declared.types.Found.{Found}
+use Rattle.peer.specs.declared.types.FoundOpen.{FoundOpen}
 use Rattle.peer.specs.declared.types.Inbound.{Inbound}
 use Rattle.peer.specs.declared.types.Incoming.{Incoming}
 use Rattle.peer.specs.declared.types.Phase.{Phase}
@@ -26,7 +26,7 @@ use Rattle.peer.specs.declared.types.Vacancy.{Vacancy}
 use Rattle.laws.proofs.Choosing.{branch, or-left, or-right}
 use Rattle.peer.proofs.EntrySearch.{foremost}
 use Rattle.peer.proofs.Roles.{Ordered, open-same, role-of-slot}
-use Rattle.peer.proofs.WordsHold.{found-is-the-lowest-open, nothing-found-is-none-open}
+use Rattle.peer.proofs.SentencesHold.{found-is-the-lowest-open, nothing-found-is-none-open}
 
 -- a used slot stands among the slots
 pub used-slot : (ss : List Slot) (i : ℕ) → isFree (phaseAt ss i) ≡ false → i < length ss
@@ -42,7 +42,7 @@ open-phase (Phase.Posted r a) o e = let z : _≡_ {A = ℕ} 0 1 = cc in absurd (
 open-phase (Phase.Open q) o e = let same : q ≡ o = cc in ap Phase.Open same
 
 -- what is found is open there under the id
-pub found-open : (id : ℕ) (ss : List Slot) (i : ℕ) (o : Inbound) → findOpen id 0 ss ≡ Found.At i o
+pub found-open : (id : ℕ) (ss : List Slot) (i : ℕ) (o : Inbound) → findOpen id 0 ss ≡ FoundOpen.At i o
     → (i < length ss) × (phaseAt ss i ≡ Phase.Open o) × (o .message .id ≡ id)
 unfolding FoundIsTheLowestOpen
 found-open id ss i o e =
@@ -51,7 +51,7 @@ found-open id ss i o e =
     (used-slot ss i (ap isFree at), at, x)
 
 -- where nothing is found, no slot is open under the id
-pub found-nothing : (id : ℕ) (ss : List Slot) → findOpen id 0 ss ≡ Found.Nothing → (j : ℕ) (o : Inbound) → phaseAt ss j ≡ Phase.Open o → o .message .id ≡ id → ⊥
+pub found-nothing : (id : ℕ) (ss : List Slot) → findOpen id 0 ss ≡ FoundOpen.Nothing → (j : ℕ) (o : Inbound) → phaseAt ss j ≡ Phase.Open o → o .message .id ≡ id → ⊥
 unfolding NothingFoundIsNoneOpen
 found-nothing id ss e j o p q = nothing-found-is-none-open (rolesOf ss) id .0 (sym (open-same id 0 ss) ∙ e) j o (role-of-slot ss j ∙ ap roleOf p, q)
 

@@ -13,7 +13,7 @@ use Rattle.protocol.specs.Sections.{extentOf}
 use Rattle.protocol.specs.Types.{admit, rowOf, servedRow}
 use Rattle.protocol.specs.Values.{bytesAt}
 use Rattle.protocol.specs.declared.sections.Extent.{Extent}
-use Rattle.protocol.specs.declared.table.Found.the-variants.{Row, Unknown}
+use Rattle.protocol.specs.declared.table.FoundRow.the-variants.{Row, Unknown}
 use Rattle.protocol.specs.declared.table.TypeRow.{TypeRow}
 use Rattle.protocol.specs.declared.types.Packet.{Packet}
 use Rattle.protocol.specs.declared.types.Read.{Read}
@@ -81,7 +81,7 @@ read-listed which limit bs =
     sections r f Extent.Cut = unfold readSections in refl
     sections r f (Extent.Whole s) = unfold readSections in lengths r (packetIn r f bs s)
 
-    typed : (x : Rattle.protocol.specs.declared.table.Found.Found) → ReadListed (readTyped x bs)
+    typed : (x : Rattle.protocol.specs.declared.table.FoundRow.FoundRow) → ReadListed (readTyped x bs)
     typed Unknown = unfold readTyped in refl
     typed (Row r) = unfold readTyped readFlags in branch ReadListed _ _ _ (λ x. sections r (leAt 2 bs 2) (extentOf r (leAt 2 bs 2) bs)) (λ x. refl)
 

@@ -19,7 +19,7 @@ use Rattle.peer.specs.Matching.{ahead, findOpen, oldest, sameMedium, sam
 use Rattle.peer.specs.Refusing.{among, refusalsOf}
 use Rattle.peer.specs.State.{phaseAt, phaseFits}
 use Rattle.peer.specs.declared.types.Fit.{Fit}
-use Rattle.peer.specs.declared.types.Found.{Found}
+use Rattle.peer.specs.declared.types.FoundOpen.{FoundOpen}
 use Rattle.peer.specs.declared.types.Inbound.{Inbound}
 use Rattle.peer.specs.declared.types.Incoming.{Incoming}
 use Rattle.peer.specs.declared.types.Message.{Message}
@@ -36,7 +36,7 @@ use Rattle.peer.proofs.Valid.{Valid, Within, open-within}
 pub record Matched (p : Peer) (h : Incoming) (i : ℕ) (r : Receive) : Type 0 where
   pub age : ℕ
   pub rtm : isRtm (h .shape) ≡ true
-  pub unopened : findOpen (h .id) 0 (p .slots) ≡ Found.Nothing
+  pub unopened : findOpen (h .id) 0 (p .slots) ≡ FoundOpen.Nothing
   pub inOrder : ahead (h .id) (p .next) ≡ 0
   pub chosen : oldest h 0 Fit.Unfit (p .slots) ≡ Fit.To i r age
 
@@ -51,7 +51,7 @@ pub record CutOff (p : Peer) (h : Incoming) (i : ℕ) : Type 0 where
 
 -- the packet belongs to an open message, of which it brings bytes that are not in yet
 pub record Continues (p : Peer) (ws : List ℕ) (h : Incoming) (i : ℕ) (o : Inbound) : Type 0 where
-  pub found : findOpen (h .id) 0 (p .slots) ≡ Found.At i o
+  pub found : findOpen (h .id) 0 (p .slots) ≡ FoundOpen.At i o
   pub inLength : o .message .granted ≤ o .message .length → h .offset + h .size ≤ o .message .length
   pub inGrant : isLong (o .message .shape) ≡ true → h .offset + h .size ≤ o .message .granted
   pub unmarked : touched ws (o .receive .start + h .offset) (h .size) ≡ false
@@ -78,7 +78,7 @@ medium-only m h x long = go (m .shape) (and-left (isMedium (m .shape)) _ (and-ri
     go Medium a b = false≢true b
     go LongCts a b = false≢true a
 
-pub found-within : (area : ℕ) (p : Peer) (id i : ℕ) (o : Inbound) → Valid area (p .slots) → findOpen id 0 (p .slots) ≡ Found.At i o → Within area o
+pub found-within : (area : ℕ) (p : Peer) (id i : ℕ) (o : Inbound) → Valid area (p .slots) → findOpen id 0 (p .slots) ≡ FoundOpen.At i o → Within area o
 found-within area p id i o v e =
     open-within area o (ap (phaseFits area) (sym (found-open id (p .slots) i o e .1)) ∙ v .each i)
 
@@ -95,21 +95,21 @@ module _ (p : Peer) (ws : List ℕ) (h : Incoming) (n : ℕ) (form : Formed h n)
   J : Verdict → Type 0
   J = Judged p ws h
 
-  judged-more : (i : ℕ) (o : Inbound) → findOpen (h .id) 0 (p .slots) ≡ Found.At i o → (o .message .granted ≤ o .message .length → h .offset + h .size ≤ o .message .length)
+  judged-more : (i : ℕ) (o : Inbound) → findOpen (h .id) 0 (p .slots) ≡ FoundOpen.At i o → (o .message .granted ≤ o .message .length → h .offset + h .size ≤ o .message .length)
       → (isLong (o .message .shape) ≡ true → h .offset + h .size ≤ o .message .granted) → J (judgeMore ws i o h)
   unfolding J judgeMore
   judged-more i o e l g =
       branch (Judged p ws h) _ _ _ (λ x. refl)
       (λ x. record { found = e; inLength = l; inGrant = g; unmarked = x })
 
-  judged-again : (i : ℕ) (o : Inbound) → findOpen (h .id) 0 (p .slots) ≡ Found.At i o → isRtm (h .shape) ≡ true → J (judgeAgain ws i o h)
+  judged-again : (i : ℕ) (o : Inbound) → findOpen (h .id) 0 (p .slots) ≡ FoundOpen.At i o → isRtm (h .shape) ≡ true → J (judgeAgain ws i o h)
   unfolding J judgeAgain
   judged-again i o e rtm =
       branch (Judged p ws h) _ _ _
       (λ x. let w = again-inside o rtm x in judged-more i o e (λ y. w .0) (λ long. absurd (w .1 long)))
       (λ x. refl)
 
-  judged-data : (i : ℕ) (o : Inbound) → findOpen (h .id) 0 (p .slots) ≡ Found.At i o → J (judgeData ws i o h)
+  judged-data : (i : ℕ) (o : Inbound) → findOpen (h .id) 0 (p .slots) ≡ FoundOpen.At i o → J (judgeData ws i o h)
   unfolding J judgeData
   judged-data i o e =
       branch (Judged p ws h) _ _ _
@@ -120,7 +120,7 @@ module _ (p : Peer) (ws : List ℕ) (h : Incoming) (n : ℕ) (form : Formed h n)
       (λ x. refl))
       (λ x. refl)
 
-  judged-fit : (f : Fit) → oldest h 0 Fit.Unfit (p .slots) ≡ f → isRtm (h .shape) ≡ true → findOpen (h .id) 0 (p .slots) ≡ Found.Nothing
+  judged-fit : (f : Fit) → oldest h 0 Fit.Unfit (p .slots) ≡ f → isRtm (h .shape) ≡ true → findOpen (h .id) 0 (p .slots) ≡ FoundOpen.Nothing
       → ahead (h .id) (p .next) ≡ 0 → J (judgeFit h f)
   unfolding J judgeFit
   judged-fit Fit.Unfit e rtm unopen next = refl
@@ -130,7 +130,7 @@ module _ (p : Peer) (ws : List ℕ) (h : Incoming) (n : ℕ) (form : Formed h n)
       (λ x. record { receive = r; matched = m; tooLong = ltb-true _ _ x })
       (λ x. record { matched = m; inCapacity = ltb-false _ _ x })
 
-  judged-new : isRtm (h .shape) ≡ true → findOpen (h .id) 0 (p .slots) ≡ Found.Nothing → J (judgeNew p h)
+  judged-new : isRtm (h .shape) ≡ true → findOpen (h .id) 0 (p .slots) ≡ FoundOpen.Nothing → J (judgeNew p h)
   unfolding J judgeNew
   judged-new rtm unopen =
       branch (Judged p ws h) _ _ _ (λ x. refl) (λ x.
@@ -141,10 +141,10 @@ module _ (p : Peer) (ws : List ℕ) (h : Incoming) (n : ℕ) (form : Formed h n)
   unfolding judge judgeFound J
   judged = go (findOpen (h .id) 0 (p .slots)) refl
     where
-      go : (f : Found) → findOpen (h .id) 0 (p .slots) ≡ f → Judged p ws h (judgeFound p ws h f)
-      go (Found.At i o) e =
+      go : (f : FoundOpen) → findOpen (h .id) 0 (p .slots) ≡ f → Judged p ws h (judgeFound p ws h f)
+      go (FoundOpen.At i o) e =
           branch (Judged p ws h) _ _ _ (λ x. judged-again i o e x) (λ x. judged-data i o e)
-      go Found.Nothing e =
+      go FoundOpen.Nothing e =
           branch (Judged p ws h) _ _ _ (λ x. judged-new x e) (λ x. refl)
 
 -- what a verdict's slot holds

@@ -5,7 +5,7 @@ use Prim.Native.Nat.{ℕ, _+_, _<_}
 use mathlib.Core.Bool.{true, false}
 use mathlib.Core.Logic.{_↔_, _≢_}
 use mathlib.Core.Path.{_≡_}
-use Rattle.peer.specs.InWords.{HasByte}
+use Rattle.peer.specs.Sentences.{HasByte}
 use Rattle.peer.specs.State.{peerFits, phaseAt}
 use Rattle.peer.specs.View.{UsesRange, roleOf}
 use Rattle.peer.specs.declared.types.Inbound.{Inbound}

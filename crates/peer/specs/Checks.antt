@@ -8,12 +8,12 @@ use mathlib.Core.List.{List, [], _∷_, _++_, map}
 use mathlib.Core.Logic.{_⊎_, _≢_}
 use mathlib.Core.Path.{_≡_}
 use Rattle.protocol.specs.ByType.{taggedTold}
-use Rattle.protocol.specs.InWords.{bitOf, readerChecks, refusedAs}
+use Rattle.protocol.specs.Sentences.{ReadFails, ReaderCheck, bitOf, readerChecks, refusedAs}
 use Rattle.peer.specs.Calls.{Call, cancel, packet, peerStep, post, report}
 use Rattle.peer.specs.Claims.{AreBytes, history}
 use Rattle.peer.specs.Expected.{expected}
 use Rattle.peer.specs.Firsts.{RefusedByFirst}
-use Rattle.peer.specs.InWords.{HasByte}
+use Rattle.peer.specs.Sentences.{HasByte}
 use Rattle.peer.specs.Says.{said}
 use Rattle.peer.specs.PacketBytes.{Rtm, idIn, lengthIn, offsetIn, sizeIn, tagIn, typeIn, typeOf}
 use Rattle.peer.specs.Plain.{Plain, idle, receiving, waiting}
@@ -56,17 +56,17 @@ Long m = (typeOf m ≡ 68) ⊎ (typeOf m ≡ 69)
 -- ---- the checks
 
 -- of a post of a receive; of a packet's bytes, with the reply buffer's length first; of a cancel and of a report of a slot
-pub data Check : Type 0 where
-  beyondArea inUse : Receive → Check
-  noneFree : Check
-  shortReply : ℕ → Check
-  unread : List ℕ → Rattle.protocol.specs.InWords.Check → Check
-  rtmDiffers rtmRepeats rtmLate rtmEarly rtmUnmatched dataLate dataBeyond dataRepeats : List ℕ → Check
-  slotFree slotNotOpen : ℕ → Check
+pub data CallCheck : Type 0 where
+  beyondArea inUse : Receive → CallCheck
+  noneFree : CallCheck
+  shortReply : ℕ → CallCheck
+  unread : List ℕ → ReaderCheck → CallCheck
+  rtmDiffers rtmRepeats rtmLate rtmEarly rtmUnmatched dataLate dataBeyond dataRepeats : List ℕ → CallCheck
+  slotFree slotNotOpen : ℕ → CallCheck
 
 -- "Packet order: .. 5, 6, then 7 if under 4 bytes, 8, 9, 10, 7, 11; then RTMs: if open, 14, 16; if not open, 15, 12, 13. CTSDATA: 15, 17, 16.
 -- .. Post: .. 11, 19, 18. Cancel and report: .. 20."
-abbrev pub judgedChecks : List ℕ → List Check
+abbrev pub judgedChecks : List ℕ → List CallCheck
 judgedChecks bs =
     rtmDiffers bs
     ∷ rtmRepeats bs
@@ -78,71 +78,71 @@ judgedChecks bs =
     ∷ dataRepeats bs
     ∷ []
 
-abbrev pub checksOf : Call → List Check
+abbrev pub checksOf : Call → List CallCheck
 checksOf (post r) = beyondArea r ∷ inUse r ∷ noneFree ∷ []
 checksOf (packet bs room) = shortReply room ∷ (map (unread bs) readerChecks ++ judgedChecks bs)
 checksOf (cancel i) = slotFree i ∷ []
 checksOf (report i) = slotNotOpen i ∷ []
 
-abbrev pub numberOf : Check → ℕ
-numberOf (beyondArea r) = 11
-numberOf (inUse r) = 19
-numberOf noneFree = 18
-numberOf (shortReply room) = 5
-numberOf (unread bs c) = refusedAs c
-numberOf (rtmDiffers bs) = 14
-numberOf (rtmRepeats bs) = 16
-numberOf (rtmLate bs) = 15
-numberOf (rtmEarly bs) = 12
-numberOf (rtmUnmatched bs) = 13
-numberOf (dataLate bs) = 15
-numberOf (dataBeyond bs) = 17
-numberOf (dataRepeats bs) = 16
-numberOf (slotFree i) = 20
-numberOf (slotNotOpen i) = 20
+abbrev pub callRefusedAs : CallCheck → ℕ
+callRefusedAs (beyondArea r) = 11
+callRefusedAs (inUse r) = 19
+callRefusedAs noneFree = 18
+callRefusedAs (shortReply room) = 5
+callRefusedAs (unread bs c) = refusedAs c
+callRefusedAs (rtmDiffers bs) = 14
+callRefusedAs (rtmRepeats bs) = 16
+callRefusedAs (rtmLate bs) = 15
+callRefusedAs (rtmEarly bs) = 12
+callRefusedAs (rtmUnmatched bs) = 13
+callRefusedAs (dataLate bs) = 15
+callRefusedAs (dataBeyond bs) = 17
+callRefusedAs (dataRepeats bs) = 16
+callRefusedAs (slotFree i) = 20
+callRefusedAs (slotNotOpen i) = 20
 
 -- the check fails
-abbrev pub Fails : ℕ → ℕ → View → Check → Type 0
+abbrev pub CallFails : ℕ → ℕ → View → CallCheck → Type 0
 -- 11: "a post whose start + capacity exceeds A"
-Fails area limit v (beyondArea r) = area < r .start + r .capacity
+CallFails area limit v (beyondArea r) = area < r .start + r .capacity
 -- 19: "post overlaps a used range of this peer (empty ranges overlap nothing)": some byte lies in both
-Fails area limit v (inUse r) = (i : ℕ) × (s : Receive) × UsesRange (v .role i) s × ((x : ℕ) × HasByte r x × HasByte s x)
+CallFails area limit v (inUse r) = (i : ℕ) × (s : Receive) × UsesRange (v .role i) s × ((x : ℕ) × HasByte r x × HasByte s x)
 -- 18: "no free slot (a freed slot counts as free)"
-Fails area limit v noneFree = (i : ℕ) → i < 8 → v .role i ≡ idle → ⊥
+CallFails area limit v noneFree = (i : ℕ) → i < 8 → v .role i ≡ idle → ⊥
 -- 5: "reply buffer below 24 bytes"
-Fails area limit v (shortReply room) = room < 24
+CallFails area limit v (shortReply room) = room < 24
 -- 6 to 11, the reader's
-Fails area limit v (unread bs c) = Rattle.protocol.specs.InWords.Fails false limit bs c
+CallFails area limit v (unread bs c) = ReadFails false limit bs c
 -- 14: "id is open, but type, length or tag differs, or the type isn't medium"
-Fails area limit v (rtmDiffers bs) = Rtm bs × ((i : ℕ) × (o : Inbound) × OpenIn v (idIn bs) i o × Differs bs (o .message))
+CallFails area limit v (rtmDiffers bs) = Rtm bs × ((i : ℕ) × (o : Inbound) × OpenIn v (idIn bs) i o × Differs bs (o .message))
 -- 16: "segment shares a byte with one already accepted"
-Fails area limit v (rtmRepeats bs) = Rtm bs × ((i : ℕ) × (o : Inbound) × OpenIn v (idIn bs) i o × Repeats v bs i)
+CallFails area limit v (rtmRepeats bs) = Rtm bs × ((i : ℕ) × (o : Inbound) × OpenIn v (idIn bs) i o × Repeats v bs i)
 -- 15: "late: id behind next and not open"; "above that, late"
-Fails area limit v (rtmLate bs) = Rtm bs × NotOpen v bs × ((d : ℕ) × Ahead v bs d × (2 ^ 31 ≤ d))
+CallFails area limit v (rtmLate bs) = Rtm bs × NotOpen v bs × ((d : ℕ) × Ahead v bs d × (2 ^ 31 ≤ d))
 -- 12: "early: id ahead of next"; "1 to 2^31−1 is early"
-Fails area limit v (rtmEarly bs) = Rtm bs × NotOpen v bs × ((d : ℕ) × Ahead v bs d × (1 ≤ d) × (d < 2 ^ 31))
+CallFails area limit v (rtmEarly bs) = Rtm bs × NotOpen v bs × ((d : ℕ) × Ahead v bs d × (1 ≤ d) × (d < 2 ^ 31))
 -- 13: "id is next and no posted receive of this peer fits"
-Fails area limit v (rtmUnmatched bs) =
+CallFails area limit v (rtmUnmatched bs) =
     Rtm bs × NotOpen v bs × Ahead v bs 0 × ((i : ℕ) (r : Receive) → v .role i ≡ waiting r → FitsIn bs r → ⊥)
 -- 15: "CTSDATA for no open long message"
-Fails area limit v (dataLate bs) = (typeIn bs ≡ 4) × ((i : ℕ) (o : Inbound) → OpenIn v (idIn bs) i o → Long (o .message) → ⊥)
+CallFails area limit v (dataLate bs) = (typeIn bs ≡ 4) × ((i : ℕ) (o : Inbound) → OpenIn v (idIn bs) i o → Long (o .message) → ⊥)
 -- 17: "CTSDATA's offset + length, as whole numbers, is beyond the granted end"
-Fails area limit v (dataBeyond bs) =
+CallFails area limit v (dataBeyond bs) =
     (typeIn bs ≡ 4)
     × ((i : ℕ) × (o : Inbound) × OpenIn v (idIn bs) i o × Long (o .message) × (o .message .granted < offsetIn bs + sizeIn bs))
 -- 16: "segment shares a byte with one already accepted"
-Fails area limit v (dataRepeats bs) =
+CallFails area limit v (dataRepeats bs) =
     (typeIn bs ≡ 4) × ((i : ℕ) × (o : Inbound) × OpenIn v (idIn bs) i o × Long (o .message) × Repeats v bs i)
 -- 20, of a cancel: "slot not below 8, or free"
-Fails area limit v (slotFree i) = (8 ≤ i) ⊎ (v .role i ≡ idle)
+CallFails area limit v (slotFree i) = (8 ≤ i) ⊎ (v .role i ≡ idle)
 -- 20, of a report: "slot not below 8, or ..; for the missing-byte report, not open"
-Fails area limit v (slotNotOpen i) = (8 ≤ i) ⊎ ((o : Inbound) → v .role i ≡ receiving o → ⊥)
+CallFails area limit v (slotNotOpen i) = (8 ≤ i) ⊎ ((o : Inbound) → v .role i ≡ receiving o → ⊥)
 
 -- ---- the statement, of states
 
 -- the answer to the call is that of the first of its checks that fails
 abbrev pub Checked : ℕ → ℕ → View → Call → Answer → Type 0
-Checked area limit v c a = RefusedByFirst (Fails area limit v) numberOf (checksOf c) (said a)
+Checked area limit v c a = RefusedByFirst (CallFails area limit v) callRefusedAs (checksOf c) (said a)
 
 -- of every peer that can be (the others are refused 2), also one that no run reaches; ids are numbers of 4 bytes
 unfoldable pub CallsAreChecked : Type 0

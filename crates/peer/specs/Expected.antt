@@ -18,7 +18,7 @@ use Rattle.peer.specs.declared.types.Receive.{Receive}
 use Rattle.peer.specs.declared.types.Message.{Message}
 use Rattle.peer.specs.declared.types.Inbound.{Inbound}
 use Rattle.peer.specs.declared.types.Incoming.{Incoming}
-use Rattle.peer.specs.declared.types.Found.{Found}
+use Rattle.peer.specs.declared.types.FoundOpen.{FoundOpen}
 use Rattle.peer.specs.declared.types.Fit.{Fit}
 use Rattle.peer.specs.declared.types.Vacancy.{Vacancy}
 use Rattle.peer.specs.declared.types.Answer.{Answer}
@@ -114,9 +114,9 @@ expectNew limit l h bytes =
     (pick (ltb 0 (ahead (h .id) (l .next))) (refusing early)
     (expectFit limit h bytes (firstPosted h 0 Fit.Unfit (l .entries))))
 
-unfoldable pub expectFound : ℕ → Plain → Incoming → List ℕ → Found → Ruling
-expectFound limit l h bytes (Found.At i o) = pick (isRtm (h .shape)) (expectAgain limit l h bytes i o) (expectData limit l h bytes i o)
-expectFound limit l h bytes Found.Nothing = pick (isRtm (h .shape)) (expectNew limit l h bytes) (refusing late)
+unfoldable pub expectFound : ℕ → Plain → Incoming → List ℕ → FoundOpen → Ruling
+expectFound limit l h bytes (FoundOpen.At i o) = pick (isRtm (h .shape)) (expectAgain limit l h bytes i o) (expectData limit l h bytes i o)
+expectFound limit l h bytes FoundOpen.Nothing = pick (isRtm (h .shape)) (expectNew limit l h bytes) (refusing late)
 
 -- the reader's refusals come first
 unfoldable pub expectRead : ℕ → Plain → List ℕ → Read → Ruling

@@ -8,7 +8,7 @@ use Rattle.protocol.specs.Refusals.{beyondGrant, differs, early, late, noReceiv
 use Rattle.peer.specs.declared.types.Inbound.{Inbound}
 use Rattle.peer.specs.declared.types.Incoming.{Incoming}
 use Rattle.peer.specs.declared.types.Peer.{Peer}
-use Rattle.peer.specs.declared.types.Found.{Found}
+use Rattle.peer.specs.declared.types.FoundOpen.{FoundOpen}
 use Rattle.peer.specs.declared.types.Fit.{Fit}
 use Rattle.peer.specs.declared.types.Verdict.{Verdict}
 use Rattle.peer.specs.Incomings.{isRtm, isLong}
@@ -42,9 +42,9 @@ judgeNew p h =
     (judgeFit h (oldest h 0 Fit.Unfit (p .slots))))
 
 -- "An RTM whose id is open belongs to that message"
-unfoldable pub judgeFound : Peer → List ℕ → Incoming → Found → Verdict
-judgeFound p ws h (Found.At i o) = pick (isRtm (h .shape)) (judgeAgain ws i o h) (judgeData ws i o h)
-judgeFound p ws h Found.Nothing = pick (isRtm (h .shape)) (judgeNew p h) (Verdict.Refuse late)
+unfoldable pub judgeFound : Peer → List ℕ → Incoming → FoundOpen → Verdict
+judgeFound p ws h (FoundOpen.At i o) = pick (isRtm (h .shape)) (judgeAgain ws i o h) (judgeData ws i o h)
+judgeFound p ws h FoundOpen.Nothing = pick (isRtm (h .shape)) (judgeNew p h) (Verdict.Refuse late)
 
 unfoldable pub judge : Peer → List ℕ → Incoming → Verdict
 judge p ws h = judgeFound p ws h (findOpen (h .id) 0 (p .slots))

@@ -13,7 +13,7 @@ pub mod Formed
 pub mod Claims
 pub mod Starts
 pub mod Refusing
-pub mod InWords
+pub mod Sentences
 pub mod Origins
 pub mod View
 pub mod CannotBe

@@ -10,7 +10,7 @@ use Rattle.peer.specs.declared.types.Incoming.{Incoming}
 use Rattle.peer.specs.declared.types.Message.{Message}
 use Rattle.peer.specs.declared.types.Phase.{Phase}
 use Rattle.peer.specs.declared.types.Slot.{Slot}
-use Rattle.peer.specs.declared.types.Found.{Found}
+use Rattle.peer.specs.declared.types.FoundOpen.{FoundOpen}
 use Rattle.peer.specs.declared.types.Fit.{Fit}
 use Rattle.peer.specs.declared.types.Vacancy.{Vacancy}
 use Rattle.peer.specs.Incomings.{isMedium}
@@ -18,18 +18,18 @@ use Rattle.peer.specs.State.{isFree}
 
 -- ---- the open message under an id
 
-unfoldable pub openHere : ℕ → ℕ → Phase → Found
-openHere id i Phase.Free = Found.Nothing
-openHere id i (Phase.Posted r a) = Found.Nothing
-openHere id i (Phase.Open o) = pick (eqb (o .message .id) id) (Found.At i o) Found.Nothing
+unfoldable pub openHere : ℕ → ℕ → Phase → FoundOpen
+openHere id i Phase.Free = FoundOpen.Nothing
+openHere id i (Phase.Posted r a) = FoundOpen.Nothing
+openHere id i (Phase.Open o) = pick (eqb (o .message .id) id) (FoundOpen.At i o) FoundOpen.Nothing
 
-abbrev pub orElse : Found → Found → Found
-orElse (Found.At i o) f = Found.At i o
-orElse Found.Nothing f = f
+abbrev pub orElse : FoundOpen → FoundOpen → FoundOpen
+orElse (FoundOpen.At i o) f = FoundOpen.At i o
+orElse FoundOpen.Nothing f = f
 
 -- among slots that are numbered from i on
-unfoldable pub findOpen : ℕ → ℕ → List Slot → Found
-findOpen id i [] = Found.Nothing
+unfoldable pub findOpen : ℕ → ℕ → List Slot → FoundOpen
+findOpen id i [] = FoundOpen.Nothing
 findOpen id i (s ∷ ss) = orElse (openHere id i (s .phase)) (findOpen id (suc i) ss)
 
 -- ---- the oldest receive that a packet fits

@@ -7,13 +7,13 @@ use mathlib.Core.List.{List, [], List·Memᴰ}
 use mathlib.Core.Logic.{_⊎_, _↔_}
 use mathlib.Core.Path.{_≡_}
 use Rattle.bitmap.specs.Map.{bitAt}
-use Rattle.protocol.specs.CtsWords.{ReadsAsCts}
-use Rattle.protocol.specs.InWords.{headIn}
+use Rattle.protocol.specs.CtsSentences.{ReadsAsCts}
+use Rattle.protocol.specs.Sentences.{headIn}
 use Rattle.protocol.specs.declared.types.CqData.{CqData}
 use Rattle.peer.specs.Calls.{Call, cancel, packet, peerStep, post, report}
 use Rattle.peer.specs.Checks.{Long}
 use Rattle.peer.specs.Effects.{Effect}
-use Rattle.peer.specs.InWords.{Falling, HasByte}
+use Rattle.peer.specs.Sentences.{Falling, HasByte}
 use Rattle.peer.specs.Origins.{BegunBy}
 use Rattle.peer.specs.PacketBytes.{idIn, offsetIn, sizeIn}
 use Rattle.peer.specs.Plain.{Role, idle, receiving, waiting}

@@ -7,8 +7,8 @@ use mathlib.Core.List.{List, [], _∷_}
 use mathlib.Core.Logic.{_⊎_, _↔_, _≢_}
 use mathlib.Core.Path.{_≡_}
 use Rattle.laws.specs.Choose.{pick}
-use Rattle.protocol.specs.CtsWords.{ReadsAsCts}
-use Rattle.protocol.specs.InWords.{bitOf, flagsIn, headIn, rawEnd}
+use Rattle.protocol.specs.CtsSentences.{ReadsAsCts}
+use Rattle.protocol.specs.Sentences.{bitOf, flagsIn, headIn, rawEnd}
 use Rattle.protocol.specs.declared.types.CqData.{CqData}
 use Rattle.peer.specs.Answers.{onAccepted, onGranted, onPosted, onTaken}
 use Rattle.peer.specs.Calls.{Call, cancel, packet, post, report}

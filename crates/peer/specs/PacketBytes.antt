@@ -5,8 +5,8 @@ use lib.ListN.{length}
 use mathlib.Core.Bool.{Bool, _||_}
 use mathlib.Core.List.{List}
 use Rattle.laws.specs.Choose.{pick}
-pub use Rattle.protocol.specs.InWords.{typeIn}
-use Rattle.protocol.specs.InWords.{headIn}
+pub use Rattle.protocol.specs.Sentences.{typeIn}
+use Rattle.protocol.specs.Sentences.{headIn}
 use Rattle.protocol.specs.declared.table.Shape.{Shape}
 use Rattle.protocol.specs.declared.table.Shape.the-variants.{Cts, CtsData, Eager, Medium, LongCts}
 use Rattle.peer.specs.declared.types.Incoming.{Incoming}

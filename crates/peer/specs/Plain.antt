@@ -9,7 +9,7 @@ use Rattle.laws.specs.Choose.{pick}
 use Rattle.peer.specs.declared.types.Receive.{Receive}
 use Rattle.peer.specs.declared.types.Inbound.{Inbound}
 use Rattle.peer.specs.declared.types.Incoming.{Incoming}
-use Rattle.peer.specs.declared.types.Found.{Found}
+use Rattle.peer.specs.declared.types.FoundOpen.{FoundOpen}
 use Rattle.peer.specs.declared.types.Fit.{Fit}
 use Rattle.peer.specs.declared.types.Answer.{Answer}
 use Rattle.peer.specs.Answers.{onCancelled, onPosted, onTaken}
@@ -60,11 +60,11 @@ roles es = map (λ (e : Entry). e .role) es
 -- ---- the message that a packet belongs to
 
 -- "An RTM whose id is open belongs to that message": the open message with this id, in roles that are numbered from i on
-unfoldable pub openIn : ℕ → ℕ → List Role → Found
-openIn id i [] = Found.Nothing
+unfoldable pub openIn : ℕ → ℕ → List Role → FoundOpen
+openIn id i [] = FoundOpen.Nothing
 openIn id i (idle ∷ us) = openIn id (suc i) us
 openIn id i (waiting r ∷ us) = openIn id (suc i) us
-openIn id i (receiving o ∷ us) = pick (eqb (o .message .id) id) (Found.At i o) (openIn id (suc i) us)
+openIn id i (receiving o ∷ us) = pick (eqb (o .message .id) id) (FoundOpen.At i o) (openIn id (suc i) us)
 
 -- "Oldest means posted first": of the receives that the packet fits the one with the fewest posts before it
 unfoldable pub firstHere : Incoming → Fit → ℕ → Role → ℕ → Fit

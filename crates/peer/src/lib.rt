@@ -6,7 +6,7 @@ mod types;
 pub use types::Answer;
 pub use types::Call;
 pub use types::Fit;
-pub use types::Found;
+pub use types::FoundOpen;
 pub use types::Inbound;
 pub use types::Incoming;
 pub use types::Message;

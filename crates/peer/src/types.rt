@@ -65,7 +65,7 @@ pub struct Peer {
 }
 
 // The open message that a packet belongs to.
-pub enum Found {
+pub enum FoundOpen {
     At(usize, Inbound),
     Nothing,
 }

@@ -12,16 +12,16 @@ use Rattle.protocol.specs.ByType.{fieldsTold}
 use Rattle.protocol.specs.FieldNumbers.{fieldsIn}
 use Rattle.protocol.specs.Flags.{flagsFit}
 use Rattle.protocol.specs.Optional.{optionsFit}
-use Rattle.protocol.specs.InWords.{Check, checkAt, headIn, headerCut, noBase, overLimit, readerChecks, refusedAs, wrongFlags, wrongLengths, wrongType, wrongVersion}
+use Rattle.protocol.specs.Sentences.{ReaderCheck, checkAt, headIn, headerCut, noBase, overLimit, readerChecks, refusedAs, wrongFlags, wrongLengths, wrongType, wrongVersion}
 use Rattle.protocol.specs.Layout.{layout}
 use Rattle.protocol.specs.Lengths.{lengthsFit}
 use Rattle.protocol.specs.Reading.{readOf}
 use Rattle.protocol.specs.Refusals.{refusal}
 use Rattle.protocol.specs.Types.{admit, everyRow, rowOf}
-use Rattle.protocol.specs.WriterInWords.{WriterCheck, brokenLengths, misplacedHeader, noType, overLongest, packetLength, shortBuffer, writeRefusedAs, writerCheckAt, writerChecks}
+use Rattle.protocol.specs.WriterSentences.{WriterCheck, brokenLengths, misplacedHeader, noType, overLongest, packetLength, shortBuffer, writeRefusedAs, writerCheckAt, writerChecks}
 use Rattle.protocol.specs.Writing.{Outcome, packetBytes, writeOf}
-use Rattle.protocol.specs.declared.table.Found.{Found}
-use Rattle.protocol.specs.declared.table.Found.the-variants.{Row}
+use Rattle.protocol.specs.declared.table.FoundRow.{FoundRow}
+use Rattle.protocol.specs.declared.table.FoundRow.the-variants.{Row}
 use Rattle.protocol.specs.declared.table.TypeRow.{TypeRow}
 use Rattle.protocol.specs.declared.types.Fields.{Fields}
 use Rattle.protocol.specs.declared.types.Header.{Header}
@@ -33,9 +33,9 @@ use Rattle.wire.specs.LittleEndian.{leAt}
 use Rattle.protocol.proofs.FirstFailing.{all-pass, judged-ap, none-of}
 use Rattle.protocol.proofs.FoundRow.{isUnknown, row-at, row-out}
 use Rattle.protocol.proofs.OrderHolds.{failing, is-judged, passedAs, placed, row-head}
-use Rattle.protocol.proofs.TypeWords.{fields-in-words}
+use Rattle.protocol.proofs.TypeSentences.{fields-in-words}
 pub use Rattle.protocol.proofs.WholePacket.{connidFrom, dataFrom, packetOf}
-use Rattle.protocol.proofs.WordsHold.{of-row}
+use Rattle.protocol.proofs.SentencesHold.{of-row}
 use Rattle.protocol.proofs.WriterHolds.{length-in-words, refusing, write-failing, write-judged, write-placed, written}
 
 -- bs are a packet of type r that the reader takes
@@ -54,7 +54,7 @@ read-as limit bs r a =
     is-judged true limit bs
     ∙ none-of wrongLengths (failing true limit bs) (λ c. Read.Refused (refusal (refusedAs c))) (Read.Packet (passedAs true limit bs (rowOf k))) readerChecks
     (λ i l. pass (checkAt i))
-    ∙ ap (λ (o : Found). Read.Packet (passedAs true limit bs o)) (a .row)
+    ∙ ap (λ (o : FoundRow). Read.Packet (passedAs true limit bs o)) (a .row)
   where
     k : ℕ
     k = getD bs 0 0
@@ -64,11 +64,11 @@ read-as limit bs r a =
         ap₂ (λ (v : Fields) (m : ℕ). lengthsFit (r .shape) v (length bs - m)) (sym (fields-in-words bs k r (a .row))) (sym (row-head bs r (a .row) (a .flags)))
         ∙ a .lengths
 
-    pass : (c : Check) → failing true limit bs c ≡ false
+    pass : (c : ReaderCheck) → failing true limit bs c ≡ false
     pass overLimit = le-ltb limit (length bs) (a .allowed)
     pass noBase = le-ltb (length bs) 4 (a .based)
     pass wrongVersion = ap not (eq-eqb (getD bs 1 0) 4 (a .version))
-    pass wrongType = ap (λ (o : Found). isUnknown (admit everyRow o)) (a .row)
+    pass wrongType = ap (λ (o : FoundRow). isUnknown (admit everyRow o)) (a .row)
     pass wrongFlags = row-at _ r (λ q. not (flagsFit q (leAt 2 bs 2))) (a .row) ∙ ap not (a .flags)
     pass headerCut = le-ltb (length bs) (headIn bs) (rw (row-head bs r (a .row) (a .flags)) at (a .inside))
     pass wrongLengths = row-at _ r (λ q. not (lengthsFit (q .shape) (fieldsTold bs k) (length bs - headIn bs))) (a .row) ∙ ap not fit
@@ -91,7 +91,7 @@ as-read limit bs p e = accepted (of-row true (rowOf k) _ (row-out _ (pass wrongT
         (λ c. no-packet _ p)
         (sym (is-judged true limit bs) ∙ e)
 
-    pass : (c : Check) → failing true limit bs c ≡ false
+    pass : (c : ReaderCheck) → failing true limit bs c ≡ false
     pass c = let (i, l, same) = placed c in ap (failing true limit bs) (sym same) ∙ tests .0 i l
 
     accepted : {r : TypeRow} → rowOf k ≡ Row r → (r : TypeRow) × ReadAs limit bs r × (p ≡ packetOf r (leAt 2 bs 2) bs)
@@ -116,7 +116,7 @@ as-read limit bs p e = accepted (of-row true (rowOf k) _ (row-out _ (pass wrongT
         same : p ≡ packetOf r (leAt 2 bs 2) bs
         same =
             let y : Read.Packet (packetOf r (leAt 2 bs 2) bs) ≡ Read.Packet p =
-            ap (λ (o : Found). Read.Packet (passedAs true limit bs o)) (sym x) ∙ tests .1 in
+            ap (λ (o : FoundRow). Read.Packet (passedAs true limit bs o)) (sym x) ∙ tests .1 in
             cc
 
 -- a packet of the type r is written

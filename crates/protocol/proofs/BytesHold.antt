@@ -1,4 +1,4 @@
--- What a packet that is read tells stands in its bytes where 01 puts it: the last statements of specs/InWords.antt.
+-- What a packet that is read tells stands in its bytes where 01 puts it: the last statements of specs/Sentences.antt.
 use Prim.Native.Nat.{ℕ, _+_, _≤_}
 use borrow.Author.Tests.{eq-eqb, eqb-true, ne-eqb}
 use lib.Dec.{eqb}
@@ -14,7 +14,7 @@ use Rattle.laws.specs.Choose.{pick}
 use Rattle.laws.specs.Parts.{part}
 use Rattle.protocol.specs.ByType.{FlagRule, bitOf, column, fieldsTold, headerLength, ownTold}
 use Rattle.protocol.specs.Flags.{hasFlag}
-use Rattle.protocol.specs.InWords.{ReadSaysItsBytes, ReadTellsItsBytes, Told, connidPlace, cqEnd, flagged, flagsIn, headIn, rawEnd, typeIn, valuesTold}
+use Rattle.protocol.specs.Sentences.{ReadSaysItsBytes, ReadTellsItsBytes, Told, connidPlace, cqEnd, flagged, flagsIn, headIn, rawEnd, typeIn, valuesTold}
 use Rattle.protocol.specs.Layout.{multiuse, placeOf}
 use Rattle.protocol.specs.Options.{connidIn, cqDataIn}
 use Rattle.protocol.specs.Reading.{headerIn, packetIn}
@@ -24,8 +24,8 @@ use Rattle.protocol.specs.Sections.{connidAt, rawSpan, span}
 use Rattle.protocol.specs.SectionsInTurn.{afterArray, afterRaw, cqDataLength}
 use Rattle.protocol.specs.Types.{rowOf}
 use Rattle.protocol.specs.Values.{bytesAt, ownNumbers, values, valuesIn}
-use Rattle.protocol.specs.declared.table.Found.{Found}
-use Rattle.protocol.specs.declared.table.Found.the-variants.{Row}
+use Rattle.protocol.specs.declared.table.FoundRow.{FoundRow}
+use Rattle.protocol.specs.declared.table.FoundRow.the-variants.{Row}
 use Rattle.protocol.specs.declared.table.TypeRow.{TypeRow}
 use Rattle.protocol.specs.declared.types.Connid.{Connid}
 use Rattle.protocol.specs.declared.types.CqData.{CqData}
@@ -35,13 +35,13 @@ use Rattle.wire.specs.LittleEndian.{leAt}
 use Rattle.laws.proofs.Choosing.{pick-false, pick-true, tested}
 use Rattle.laws.proofs.Storing.{length-part, part-rest}
 use Rattle.protocol.proofs.Accepted.{ReadAs, as-read, dataFrom, packetOf}
-use Rattle.protocol.proofs.FlagWords.{flagged-by-flag, flags-in-words}
+use Rattle.protocol.proofs.FlagSentences.{flagged-by-flag, flags-in-words}
 use Rattle.protocol.proofs.OrderHolds.{row-head}
 use Rattle.protocol.proofs.RowLaws.{after-no-array}
 use Rattle.protocol.proofs.Sayings.{read-gives}
 use Rattle.protocol.proofs.Served.{any-read}
 use Rattle.protocol.proofs.TableRule.{no-array, row-kind, rows-say}
-use Rattle.protocol.proofs.TypeWords.{fields-in-words, header-in-words, own-in-words, shape-in-words, tagged-in-words}
+use Rattle.protocol.proofs.TypeSentences.{fields-in-words, header-in-words, own-in-words, shape-in-words, tagged-in-words}
 
 -- a flag that is set, and one that is not
 set : (f i : ℕ) {A : Type 0} (a b : A) → bitOf f i ≡ 1 → pick (eqb (bitOf f i) 1) a b ≡ a
@@ -187,7 +187,7 @@ module _ (bs : List ℕ) (p : Packet) (r : TypeRow) (row : rowOf (typeIn bs) ≡
   unfolding ownNumbers
   own-told =
       ap₂ (λ (k : ℕ) (v : Fields). ownNumbers (rowOf k) v) (t .kind) (t .fields)
-      ∙ ap (λ (o : Found). ownNumbers o (fieldsTold bs (typeIn bs))) row
+      ∙ ap (λ (o : FoundRow). ownNumbers o (fieldsTold bs (typeIn bs))) row
       ∙ own-in-words bs (typeIn bs) r row
 
   address-told : pick (p .header .«raw_address») (some (bytesAt bs (p .«raw_address»))) none

@@ -1,4 +1,4 @@
--- A grant's CTS is read as what it was written from: the statement of specs/CtsWords.antt.
+-- A grant's CTS is read as what it was written from: the statement of specs/CtsSentences.antt.
 use Prim.Native.Nat.{ℕ, _^_, _≤_, _<_}
 use borrow.Author.Tests.{le-leb}
 use lib.ListN.{take, replicate}
@@ -8,7 +8,7 @@ use native.Mathlib.Omega.{arith}
 use Rattle.protocol.specs.Arrays.{arrayAllowed, arrayWhole, countOf}
 use Rattle.protocol.specs.Checks.{gives}
 use Rattle.protocol.specs.Cts.{ctsBytes, ctsHeader}
-use Rattle.protocol.specs.CtsWords.{CtsReadBack, ReadsAsCts}
+use Rattle.protocol.specs.CtsSentences.{CtsReadBack, ReadsAsCts}
 use Rattle.protocol.specs.FieldNumbers.{fieldBytes, numberIn}
 use Rattle.protocol.specs.Layout.{Field, count, credit-request, layout, msg-id, msg-length, multiuse, ownFields, padding, recv-id, recv-length, seg-length, seg-offset, send-id, tag, width}
 use Rattle.protocol.specs.Lengths.{lengthsFit}

@@ -9,7 +9,7 @@ use mathlib.Core.Logic.{⊎-elim}
 use mathlib.Core.Path.{_≡_, refl, sym, ap, ap₂, _∙_}
 use native.Mathlib.Omega.{arith}
 use Rattle.laws.specs.Choose.{pick}
-use Rattle.protocol.specs.FieldNumbers.{fieldBytes, fieldsIn, numberAt, numberIn, numberOf, numberThere}
+use Rattle.protocol.specs.FieldNumbers.{fieldBytes, fieldsIn, numberAt, numberIn, fieldNumber, numberThere}
 use Rattle.protocol.specs.Layout.{Field, count, credit-request, fields, has, isOwn, layout, msg-id, msg-length, multiuse, ordinal, padding, placeIn, placeOf, recv-id, recv-length, sameField, seg-length, seg-offset, select, send-id, tag, width, widths}
 use Rattle.protocol.specs.RoundTrip.{Numbers}
 use Rattle.protocol.specs.Rules.{Sound}
@@ -95,7 +95,7 @@ number-in gs at bs multiuse o = absurd (false≢true o)
 number-in gs at bs padding o = absurd (false≢true o)
 number-in gs at bs count o = absurd (false≢true o)
 
-own-number : (told : ℕ) (h : Header) (f : Field) → isOwn f ≡ true → numberOf told h f ≡ numberIn (h .fields) f
+own-number : (told : ℕ) (h : Header) (f : Field) → isOwn f ≡ true → fieldNumber told h f ≡ numberIn (h .fields) f
 unfolding pick
 own-number told h msg-id o = refl
 own-number told h recv-id o = refl
@@ -111,7 +111,7 @@ own-number told h padding o = absurd (false≢true o)
 own-number told h count o = absurd (false≢true o)
 
 -- each number that is written fits its field
-number-fits : (told : ℕ) (h : Header) (f : Field) → told < 256 ^ 4 → Numbers h → numberOf told h f < 256 ^ width f
+number-fits : (told : ℕ) (h : Header) (f : Field) → told < 256 ^ 4 → Numbers h → fieldNumber told h f < 256 ^ width f
 number-fits told h msg-id y x = unfold pick in x .fields msg-id
 number-fits told h recv-id y x = unfold pick in x .fields recv-id
 number-fits told h send-id y x = unfold pick in x .fields send-id
@@ -128,17 +128,17 @@ number-fits told h count y x = unfold pick in y
 -- ---- written fields are read
 
 pub number-read : (gs : List Field) (told : ℕ) (h : Header) (a c : List ℕ) (at : ℕ) (f : Field) → told < 256 ^ 4 → Numbers h → length a ≡ at → has f gs ≡ true
-    → numberAt gs at (a ++ (fieldBytes gs told h ++ c)) f ≡ numberOf told h f
+    → numberAt gs at (a ++ (fieldBytes gs told h ++ c)) f ≡ fieldNumber told h f
 unfolding numberAt fieldBytes
 number-read [] told h a c at f y x p m = absurd (false≢true m)
 number-read (g ∷ gs) told h a c at f y x p m =
-    ⊎-elim (λ e. pick-true _ _ e ∙ rw (same-field g f e, append-assoc) (le-behind (width f) (numberOf told h f) a _ at (number-fits told h f y x) p))
+    ⊎-elim (λ e. pick-true _ _ e ∙ rw (same-field g f e, append-assoc) (le-behind (width f) (fieldNumber told h f) a _ at (number-fits told h f y x) p))
     (λ e.
     let m : has f gs ≡ true = rw e at m in
-    let q : length (a ++ leBytes (width g) (numberOf told h g)) ≡ at + width g = rw (length-append, length-le, p) in
+    let q : length (a ++ leBytes (width g) (fieldNumber told h g)) ≡ at + width g = rw (length-append, length-le, p) in
     pick-false _ _ e
-    ∙ rw (append-assoc, ← append-assoc a (leBytes (width g) (numberOf told h g)) (fieldBytes gs told h ++ c))
-    (number-read gs told h (a ++ leBytes (width g) (numberOf told h g)) c (at + width g) f y x q m))
+    ∙ rw (append-assoc, ← append-assoc a (leBytes (width g) (fieldNumber told h g)) (fieldBytes gs told h ++ c))
+    (number-read gs told h (a ++ leBytes (width g) (fieldNumber told h g)) c (at + width g) f y x q m))
     (tested (sameField g f))
 
 map-own : (u v : Field → ℕ) (gs : List Field) → ((f : Field) → has f gs ≡ true → isOwn f ≡ true → u f ≡ v f)

@@ -9,10 +9,10 @@ pub mod OptionLaws
 pub mod StepLaws
 pub mod ReadingLaws
 pub mod WritingLaws
-pub mod BitWords
-pub mod WordsHold
-pub mod FlagWords
-pub mod TypeWords
+pub mod NumberBits
+pub mod SentencesHold
+pub mod FlagSentences
+pub mod TypeSentences
 pub mod FoundRow
 pub mod FirstFailing
 pub mod WholePacket

@@ -12,7 +12,7 @@ use Rattle.laws.specs.Choose.{pick}
 use Rattle.protocol.specs.ByType.{FlagRule, LengthRule, fieldsTold}
 use Rattle.protocol.specs.Checks.{gives, refused}
 use Rattle.protocol.specs.Flags.{flagsFit, hasFlag}
-use Rattle.protocol.specs.InWords.{Check, Fails, ReadIfNoneFails, RefusedByFirstToFail, TypesAreTheTables, checkAt, flagsIn, headIn, headerCut, noBase, overLimit, readerChecks, refusedAs, typeIn, wrongFlags, wrongLengths, wrongType, wrongVersion}
+use Rattle.protocol.specs.Sentences.{ReaderCheck, ReadFails, ReadIfNoneFails, RefusedByFirstToFail, TypesAreTheTables, checkAt, flagsIn, headIn, headerCut, noBase, overLimit, readerChecks, refusedAs, typeIn, wrongFlags, wrongLengths, wrongType, wrongVersion}
 use Rattle.protocol.specs.Lengths.{lengthsFit}
 use Rattle.protocol.specs.Reading.{headerIn, packetIn, readFlags, readLengths, readOf, readSections, readTyped}
 use Rattle.protocol.specs.Refusals.{aboveLimit, badLength, badType, badVersion, cutShort, refusal}
@@ -23,8 +23,8 @@ use Rattle.protocol.specs.SectionsInTurn.{afterRaw, connidLength, cqData
 use Rattle.protocol.specs.Types.{admit, readerRows, row, rowOf}
 use Rattle.protocol.specs.Values.{Values, valuesIn}
 use Rattle.protocol.specs.declared.sections.Extent.the-variants.{Cut}
-use Rattle.protocol.specs.declared.table.Found.{Found}
-use Rattle.protocol.specs.declared.table.Found.the-variants.{Row, Unknown}
+use Rattle.protocol.specs.declared.table.FoundRow.{FoundRow}
+use Rattle.protocol.specs.declared.table.FoundRow.the-variants.{Row, Unknown}
 use Rattle.protocol.specs.declared.table.Shape.the-variants.{Cts}
 use Rattle.protocol.specs.declared.table.TypeRow.{TypeRow}
 use Rattle.protocol.specs.declared.types.Fields.{Fields}
@@ -34,12 +34,12 @@ use Rattle.laws.proofs.Choosing.{clashing, pick-ap, tested}
 use Rattle.protocol.proofs.WholePacket.{dataFrom, packetOf}
 use Rattle.protocol.proofs.FirstFailing.{given-if-none, judged, judged-ap, refused-by-first}
 use Rattle.protocol.proofs.FoundRow.{isUnknown, ofRow, pick-not, row-in, row-out}
-use Rattle.protocol.proofs.FlagWords.{flagged-by-flag, flags-in-words}
+use Rattle.protocol.proofs.FlagSentences.{flagged-by-flag, flags-in-words}
 use Rattle.protocol.proofs.StepLaws.{extent-in-steps}
 use Rattle.protocol.proofs.TableRule.{no-array}
 use Rattle.protocol.proofs.RowLaws.{after-no-array}
-use Rattle.protocol.proofs.TypeWords.{connid-in-words, fields-in-words, header-in-words, lengths-in-words, unknown-flags, unknown-lengths}
-use Rattle.protocol.proofs.WordsHold.{types-are-the-tables}
+use Rattle.protocol.proofs.TypeSentences.{connid-in-words, fields-in-words, header-in-words, lengths-in-words, unknown-flags, unknown-lengths}
+use Rattle.protocol.proofs.SentencesHold.{types-are-the-tables}
 
 -- where a packet's headers end by its row, and by its type number
 pub row-head : (bs : List ℕ) (r : TypeRow) → rowOf (typeIn bs) ≡ Row r → flagsFit r (flagsIn bs) ≡ true → dataFrom r (flagsIn bs) bs ≡ headIn bs
@@ -49,7 +49,7 @@ row-head bs r e t =
     rw (after-no-array r bs (no-array (typeIn bs) r e), there raw-address refl, there cq-data refl, there connid refl, header-in-words (typeIn bs) r e, connid-in-words (typeIn bs) r e)
 
 -- each check stands in the list
-pub placed : (c : Check) → (i : ℕ) × (i < 7) × (checkAt i ≡ c)
+pub placed : (c : ReaderCheck) → (i : ℕ) × (i < 7) × (checkAt i ≡ c)
 placed overLimit = (0, lit< tt, refl)
 placed noBase = (1, lit< tt, refl)
 placed wrongVersion = (2, lit< tt, refl)
@@ -68,7 +68,7 @@ module _ (all : Bool) (limit : ℕ) (bs : List ℕ) where
   -- ---- the reader is such a list
 
   -- with the type's row o
-  abbrev pub failsAs : Found → Check → Bool
+  abbrev pub failsAs : FoundRow → ReaderCheck → Bool
   failsAs o overLimit = ltb limit (length bs)
   failsAs o noBase = ltb (length bs) 4
   failsAs o wrongVersion = not (eqb (getD bs 1 0) 4)
@@ -77,11 +77,11 @@ module _ (all : Bool) (limit : ℕ) (bs : List ℕ) where
   failsAs o headerCut = ltb (length bs) (headIn bs)
   failsAs o wrongLengths = ofRow o (λ r. not (lengthsFit (r .shape) (fieldsTold bs k) (length bs - headIn bs)))
 
-  abbrev pub passedAs : Found → Packet
+  abbrev pub passedAs : FoundRow → Packet
   passedAs Unknown = packetOf (row 0 Cts 0 0 0 0 false false false 0 0) f bs
   passedAs (Row r) = packetOf r f bs
 
-  abbrev judgedAs : Found → List Check → Read
+  abbrev judgedAs : FoundRow → List ReaderCheck → Read
   judgedAs o = judged (failsAs o) (λ c. Read.Refused (refusal (refusedAs c))) (Read.Packet (passedAs o))
 
   sections-judged : (r : TypeRow) → rowOf k ≡ Row r → flagsFit r f ≡ true
@@ -98,7 +98,7 @@ module _ (all : Bool) (limit : ℕ) (bs : List ℕ) where
           pick (ltb (length bs) m) (Read.Refused cutShort)
           (pick (lengthsFit (r .shape) v (length bs - m)) (Read.Packet (packetOf r f bs)) (Read.Refused badLength))
 
-  typed-judged : (o : Found) → rowOf k ≡ o → readTyped (admit (readerRows all) o) bs ≡ judgedAs o (wrongType ∷ wrongFlags ∷ headerCut ∷ wrongLengths ∷ [])
+  typed-judged : (o : FoundRow) → rowOf k ≡ o → readTyped (admit (readerRows all) o) bs ≡ judgedAs o (wrongType ∷ wrongFlags ∷ headerCut ∷ wrongLengths ∷ [])
   unfolding admit readTyped readFlags
   typed-judged Unknown e = unfold pick in refl
   typed-judged (Row r) e = go (all || r .served)
@@ -119,10 +119,10 @@ module _ (all : Bool) (limit : ℕ) (bs : List ℕ) where
 
   -- ---- a test that fails is a check that fails
 
-  abbrev pub failing : Check → Bool
+  abbrev pub failing : ReaderCheck → Bool
   failing = failsAs (rowOf k)
 
-  holds : (c : Check) → failing c ≡ true → Fails all limit bs c
+  holds : (c : ReaderCheck) → failing c ≡ true → ReadFails all limit bs c
   holds overLimit e = ltb-true _ _ e
   holds noBase e = ltb-true _ _ e
   holds wrongVersion e = eqb-false _ _ (not-true _ e)
@@ -133,15 +133,15 @@ module _ (all : Bool) (limit : ℕ) (bs : List ℕ) where
   holds headerCut e = ltb-true _ _ e
   holds wrongLengths e = let (r, x, t) = row-in _ _ e in λ w. clashing _ (lengths-in-words (fieldsTold bs k) _ k r x .1 w) (not-true _ t)
 
-  flags-hold : (o : Found) → rowOf k ≡ o → failsAs o wrongFlags ≡ false → FlagRule k f
+  flags-hold : (o : FoundRow) → rowOf k ≡ o → failsAs o wrongFlags ≡ false → FlagRule k f
   flags-hold Unknown x e = unknown-flags k f x
   flags-hold (Row r) x e = flags-in-words k r f x .0 (not-false _ e)
 
-  lengths-hold : (o : Found) → rowOf k ≡ o → failsAs o wrongLengths ≡ false → LengthRule k (fieldsTold bs k) (length bs - headIn bs)
+  lengths-hold : (o : FoundRow) → rowOf k ≡ o → failsAs o wrongLengths ≡ false → LengthRule k (fieldsTold bs k) (length bs - headIn bs)
   lengths-hold Unknown x e = unknown-lengths k (fieldsTold bs k) _ x
   lengths-hold (Row r) x e = lengths-in-words (fieldsTold bs k) _ k r x .0 (not-false _ e)
 
-  passes : (c : Check) → failing c ≡ false → Fails all limit bs c → ⊥
+  passes : (c : ReaderCheck) → failing c ≡ false → ReadFails all limit bs c → ⊥
   passes overLimit e w = omega (arith, ltb-false limit (length bs) e)
   passes noBase e w = omega (arith, ltb-false (length bs) 4 e)
   passes wrongVersion e w = w (eqb-true _ _ (not-false _ e))
@@ -163,7 +163,7 @@ module _ (all : Bool) (limit : ℕ) (bs : List ℕ) where
 pub refused-by-first-to-fail : RefusedByFirstToFail
 unfolding RefusedByFirstToFail
 refused-by-first-to-fail all limit bs n =
-    let w = refused-by-first wrongLengths (failing all limit bs) (Fails all limit bs) refusedAs (passed all limit bs) readerChecks
+    let w = refused-by-first wrongLengths (failing all limit bs) (ReadFails all limit bs) refusedAs (passed all limit bs) readerChecks
     (holds all limit bs) (passes all limit bs) n in
     (λ e. w .0 (sym (is-said all limit bs) ∙ e), λ x. is-said all limit bs ∙ w .1 x)
 
@@ -172,14 +172,14 @@ unfolding ReadIfNoneFails
 read-if-none-fails all limit bs = (given, asked)
   where
     words : (v : Values) → (judged (failing all limit bs) (λ c. refused (refusedAs c)) (gives (passed all limit bs)) readerChecks ≡ gives v)
-        ↔ ((passed all limit bs ≡ v) × ((i : ℕ) → i < 7 → Fails all limit bs (checkAt i) → ⊥))
-    words = given-if-none wrongLengths (failing all limit bs) (Fails all limit bs) refusedAs (passed all limit bs) readerChecks
+        ↔ ((passed all limit bs ≡ v) × ((i : ℕ) → i < 7 → ReadFails all limit bs (checkAt i) → ⊥))
+    words = given-if-none wrongLengths (failing all limit bs) (ReadFails all limit bs) refusedAs (passed all limit bs) readerChecks
         (holds all limit bs) (passes all limit bs)
 
-    given : (v : Values) × (readSays bs (readOf (readerRows all) limit bs) ≡ gives v) → (c : Check) → Fails all limit bs c → ⊥
+    given : (v : Values) × (readSays bs (readOf (readerRows all) limit bs) ≡ gives v) → (c : ReaderCheck) → ReadFails all limit bs c → ⊥
     given (v, e) c x =
         let (i, l, same) = placed c in
-        words v .0 (sym (is-said all limit bs) ∙ e) .1 i l (subst (Fails all limit bs) (sym same) x)
+        words v .0 (sym (is-said all limit bs) ∙ e) .1 i l (subst (ReadFails all limit bs) (sym same) x)
 
-    asked : ((c : Check) → Fails all limit bs c → ⊥) → (v : Values) × (readSays bs (readOf (readerRows all) limit bs) ≡ gives v)
+    asked : ((c : ReaderCheck) → ReadFails all limit bs c → ⊥) → (v : Values) × (readSays bs (readOf (readerRows all) limit bs) ≡ gives v)
     asked none-fails = (passed all limit bs, is-said all limit bs ∙ words _ .1 (refl, λ i l. none-fails (checkAt i)))

@@ -11,7 +11,7 @@ use native.Mathlib.Nat.{div-eq-of-lt}
 use native.Mathlib.Omega.{arith}
 use Rattle.laws.specs.Choose.{pick}
 use Rattle.laws.specs.Parts.{part, storeAt}
-use Rattle.protocol.specs.FieldNumbers.{fieldBytes, numberOf, putFields, putThere}
+use Rattle.protocol.specs.FieldNumbers.{fieldBytes, fieldNumber, putFields, putThere}
 use Rattle.protocol.specs.Layout.{Field, count, credit-request, distinct, fields, has, layout, msg-id, msg-length, multiuse, ordinal, padding, placeIn, placeOf, recv-id, recv-length, sameField, seg-length, seg-offset, send-id, tag, width, widths}
 use Rattle.protocol.specs.Rules.{Sound}
 use Rattle.protocol.specs.declared.table.TypeRow.{TypeRow}
@@ -29,7 +29,7 @@ not-same g f n = ⊎-elim (λ e. absurd (true≢false (sym (eq-eqb _ _ (ap ordin
 module _ (told : ℕ) (h : Header) (o : List ℕ) where
   -- the bytes of field g, which stands at `at`: those of the header if it is one of ds, else what stood in o
   abbrev one : List Field → Field → ℕ → List ℕ
-  one ds g at = pick (has g ds) (leBytes (width g) (numberOf told h g)) (part o at (width g))
+  one ds g at = pick (has g ds) (leBytes (width g) (fieldNumber told h g)) (part o at (width g))
 
   -- of the fields gs, from `at` on
   abbrev mixed : List Field → List Field → ℕ → List ℕ
@@ -38,7 +38,7 @@ module _ (told : ℕ) (h : Header) (o : List ℕ) where
 
   length-one : (ds : List Field) (g : Field) (at : ℕ) → at + width g ≤ length o → length (one ds g at) ≡ width g
   length-one ds g at k =
-      ⊎-elim (λ x. ap length (pick-true _ _ x) ∙ length-le (width g) (numberOf told h g)) (λ x. ap length (pick-false _ _ x) ∙ length-part o at (width g) k)
+      ⊎-elim (λ x. ap length (pick-true _ _ x) ∙ length-le (width g) (fieldNumber told h g)) (λ x. ap length (pick-false _ _ x) ∙ length-part o at (width g) k)
       (tested (has g ds))
 
   length-mixed : (ds gs : List Field) (at : ℕ) → at + widths gs ≤ length o → length (mixed ds gs at) ≡ widths gs
@@ -57,7 +57,7 @@ module _ (told : ℕ) (h : Header) (o : List ℕ) where
 
   -- a field that is none of gs
   other-one : (ds : List Field) (f g : Field) (at : ℕ) → sameField g f ≡ false → one (f ∷ ds) g at ≡ one ds g at
-  other-one ds f g at n = ap (λ (t : Bool). pick (t || has g ds) (leBytes (width g) (numberOf told h g)) (part o at (width g))) (not-same g f n)
+  other-one ds f g at n = ap (λ (t : Bool). pick (t || has g ds) (leBytes (width g) (fieldNumber told h g)) (part o at (width g))) (not-same g f n)
 
   other-put : (ds gs : List Field) (f : Field) (at : ℕ) → has f gs ≡ false → mixed (f ∷ ds) gs at ≡ mixed ds gs at
   other-put ds [] f at n = refl
@@ -66,21 +66,21 @@ module _ (told : ℕ) (h : Header) (o : List ℕ) where
 
   -- a field is put at its place among gs
   put-here : (ds gs : List Field) (g : Field) (at : ℕ) (l : List ℕ) → has g gs ≡ false → at + width g ≤ length o → at ≤ length l
-      → storeAt (storeAt l at (mixed ds (g ∷ gs) at)) at (leBytes (width g) (numberOf told h g)) ≡ storeAt l at (mixed (g ∷ ds) (g ∷ gs) at)
+      → storeAt (storeAt l at (mixed ds (g ∷ gs) at)) at (leBytes (width g) (fieldNumber told h g)) ≡ storeAt l at (mixed (g ∷ ds) (g ∷ gs) at)
   put-here ds gs g at l n k m =
       let self : has g (g ∷ ds) ≡ true = rw (eq-eqb (ordinal g) (ordinal g) refl) in
-      let new : one (g ∷ ds) g at ≡ leBytes (width g) (numberOf told h g) = pick-true _ _ self in
-      store-over l at (one ds g at) _ (mixed ds gs (at + width g)) (length-one ds g at k ∙ sym (length-le (width g) (numberOf told h g))) m
+      let new : one (g ∷ ds) g at ≡ leBytes (width g) (fieldNumber told h g) = pick-true _ _ self in
+      store-over l at (one ds g at) _ (mixed ds gs (at + width g)) (length-one ds g at k ∙ sym (length-le (width g) (fieldNumber told h g))) m
       ∙ ap (storeAt l at) (sym (ap₂ _++_ new (other-put ds gs g (at + width g) n)))
 
   put-placed : (ds gs : List Field) (f : Field) (at : ℕ) (l : List ℕ) → 0 < at → distinct gs ≡ true → at + widths gs ≤ length l → length l ≡ length o
-      → putThere (placeIn gs at f) (width f) (numberOf told h f) (storeAt l at (mixed ds gs at)) ≡ storeAt l at (mixed (f ∷ ds) gs at)
+      → putThere (placeIn gs at f) (width f) (fieldNumber told h f) (storeAt l at (mixed ds gs at)) ≡ storeAt l at (mixed (f ∷ ds) gs at)
   unfolding putThere placeIn
   put-placed ds [] f at l p d k e = pick-true _ _ refl
   put-placed ds (g ∷ gs) f at l p d k e =
       let n : has g gs ≡ false = not-true (has g gs) (and-left (not (has g gs)) (distinct gs) d) in
       ⊎-elim (λ x.
-      ap (λ (i : ℕ). putThere i (width f) (numberOf told h f) (storeAt l at (mixed ds (g ∷ gs) at))) (pick-true _ _ x)
+      ap (λ (i : ℕ). putThere i (width f) (fieldNumber told h f) (storeAt l at (mixed ds (g ∷ gs) at))) (pick-true _ _ x)
       ∙ pick-false _ _ (ne-eqb at 0 (λ z. omega arith))
       ∙ rw (← same-field g f x) (put-here ds gs g at l n (omega arith) (omega arith)))
       (λ x.
@@ -89,7 +89,7 @@ module _ (told : ℕ) (h : Header) (o : List ℕ) where
       let kept : length (storeAt l at a) ≡ length l = length-store l at a (omega arith) in
       let next : (fs : List Field) → storeAt (storeAt l at a) (at + width g) (mixed fs gs (at + width g)) ≡ storeAt l at (a ++ mixed fs gs (at + width g)) =
       λ fs. store-next l at a (mixed fs gs (at + width g)) (at + width g) (omega arith) (omega (arith, length-mixed fs gs (at + width g) (omega arith))) in
-      ap₂ (λ (i : ℕ) (m : List ℕ). putThere i (width f) (numberOf told h f) m) (pick-false _ _ x) (sym (next ds))
+      ap₂ (λ (i : ℕ) (m : List ℕ). putThere i (width f) (fieldNumber told h f) m) (pick-false _ _ x) (sym (next ds))
       ∙ put-placed ds gs f (at + width g) (storeAt l at a) (omega arith) (and-right (not (has g gs)) (distinct gs) d) (omega arith) (kept ∙ e)
       ∙ next (f ∷ ds)
       ∙ ap (λ (m : List ℕ). storeAt l at (m ++ mixed (f ∷ ds) gs (at + width g))) (sym (other-one ds f g at x)))
@@ -105,7 +105,7 @@ module _ (told : ℕ) (h : Header) (o : List ℕ) where
   puts-placed r s k [] ds = refl
   puts-placed r s k (f ∷ fs) ds =
       ap (putFields r told h fs)
-      (ap (λ (i : ℕ). putThere i (width f) (numberOf told h f) (storeAt o 4 (mixed ds (layout r) 4))) (sym (s .placed f))
+      (ap (λ (i : ℕ). putThere i (width f) (fieldNumber told h f) (storeAt o 4 (mixed ds (layout r) 4))) (sym (s .placed f))
       ∙ put-placed ds (layout r) f 4 o (lit< tt) (s .once) (omega (arith, s .header)) refl)
       ∙ puts-placed r s k fs (f ∷ ds)
 

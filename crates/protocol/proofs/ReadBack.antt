@@ -12,7 +12,7 @@ use native.Mathlib.Omega.{arith}
 use Rattle.laws.specs.Choose.{pick}
 use Rattle.laws.specs.Parts.{part}
 use Rattle.protocol.specs.Arrays.{arrayAllowed, arrayLength, arrayWhole, countOf, hasArray}
-use Rattle.protocol.specs.FieldNumbers.{countIn, fieldsIn, numberAt, numberIn, numberOf}
+use Rattle.protocol.specs.FieldNumbers.{countIn, fieldsIn, numberAt, numberIn, fieldNumber}
 use Rattle.protocol.specs.Flags.{flagsFit}
 use Rattle.protocol.specs.Optional.{connid, cq-data, flagged, flagsOf, optionsFit, raw-address}
 use Rattle.protocol.specs.Layout.{Field, count, has, layout, multiuse, ownFields, placeOf}
@@ -25,7 +25,7 @@ use Rattle.protocol.specs.SectionsInTurn.{afterArray, afterRaw}
 use Rattle.protocol.specs.Types.{rowOf}
 use Rattle.protocol.specs.Values.{bytesAt, ownNumbers, values, valuesIn}
 use Rattle.protocol.specs.Writing.{baseBytes, mandatoryBytes, packetBytes}
-use Rattle.protocol.specs.declared.table.Found.the-variants.{Row}
+use Rattle.protocol.specs.declared.table.FoundRow.the-variants.{Row}
 use Rattle.protocol.specs.declared.table.TypeRow.{TypeRow}
 use Rattle.protocol.specs.declared.types.Fields.{Fields}
 use Rattle.protocol.specs.declared.types.Header.{Header}
@@ -41,7 +41,7 @@ use Rattle.protocol.proofs.OptionLaws.{after-raw, connid-behind, connid
 use Rattle.protocol.proofs.RowLaws.{connid-after, connid-within, header-bounds, number-here, number-placed}
 use Rattle.protocol.proofs.StepLaws.{packet-in-steps, wholeBytes}
 use Rattle.protocol.proofs.TableRule.{no-array, row-kind, sound}
-use Rattle.protocol.proofs.TypeWords.{lengths-same}
+use Rattle.protocol.proofs.TypeSentences.{lengths-same}
 use Rattle.protocol.proofs.WritingLaws.{length-base, length-mandatory, length-packet}
 use Rattle.wire.proofs.Laws.{le-behind}
 
@@ -94,7 +94,7 @@ module _ (h : Header) (arr raw body : List ℕ) (r : TypeRow) (rule : Sound r) (
   unfolding mandatoryBytes ownFields
   own-read = simp append-assoc (fields-read (layout r) (countOf r (length arr)) h (baseBytes (r .kind) f) _ 4 count-fits x (length-base _ _))
 
-  field-read : (g : Field) → has g (layout r) ≡ true → numberAt (layout r) 4 whole g ≡ numberOf (countOf r (length arr)) h g
+  field-read : (g : Field) → has g (layout r) ≡ true → numberAt (layout r) 4 whole g ≡ fieldNumber (countOf r (length arr)) h g
   unfolding mandatoryBytes
   field-read g m = simp append-assoc (number-read (layout r) (countOf r (length arr)) h (baseBytes (r .kind) f) _ 4 g count-fits x (length-base _ _) m)
 

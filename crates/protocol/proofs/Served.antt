@@ -9,9 +9,9 @@ use Rattle.laws.specs.Choose.{pick}
 use Rattle.protocol.specs.Reading.{readFlags, readOf, readTyped}
 use Rattle.protocol.specs.Refusals.{badType}
 use Rattle.protocol.specs.Types.{admit, everyRow, rowOf}
-use Rattle.protocol.specs.declared.table.Found.{Found}
+use Rattle.protocol.specs.declared.table.FoundRow.{FoundRow}
 use Rattle.protocol.specs.declared.table.TypeRow.{TypeRow}
-use Rattle.protocol.specs.declared.table.Found.the-variants.{Row, Unknown}
+use Rattle.protocol.specs.declared.table.FoundRow.the-variants.{Row, Unknown}
 use Rattle.protocol.specs.declared.types.Packet.{Packet}
 use Rattle.protocol.specs.declared.types.Read.{Read}
 use Rattle.protocol.specs.declared.types.Refusal.{Refusal}
@@ -20,7 +20,7 @@ use Rattle.laws.proofs.Choosing.{pick-false, pick-first, pick-second, pick-true
 no-packet : (k : Refusal) (p : Packet) → Read.Refused k ≡ Read.Packet p → ⊥
 no-packet k p e = let z : _≡_ {A = ℕ} 0 1 = cc in omega arith
 
-found-any : (which : TypeRow → Bool) (o : Found) (bs : List ℕ) (p : Packet) → readTyped (admit which o) bs ≡ Read.Packet p → readTyped (admit everyRow o) bs ≡ Read.Packet p
+found-any : (which : TypeRow → Bool) (o : FoundRow) (bs : List ℕ) (p : Packet) → readTyped (admit which o) bs ≡ Read.Packet p → readTyped (admit everyRow o) bs ≡ Read.Packet p
 unfolding readTyped admit pick
 found-any which Unknown bs p e = absurd (no-packet badType p e)
 found-any which (Row r) bs p e = go (which r) e

@@ -14,7 +14,7 @@ use Rattle.protocol.specs.Layout.{Field, count, credit-request, distinct
 use Rattle.protocol.specs.Optional.{flagSum, flagsTaken, options, sectionsOf}
 use Rattle.protocol.specs.Rules.{ConnidPlace, Sound}
 use Rattle.protocol.specs.Types.{rowIn, rowOf, rows}
-use Rattle.protocol.specs.declared.table.Found.the-variants.{Row}
+use Rattle.protocol.specs.declared.table.FoundRow.the-variants.{Row}
 use Rattle.protocol.specs.declared.table.TypeRow.{TypeRow}
 use Rattle.laws.proofs.Choosing.{all-true, allTrue, and-left, and-right, clashing, or-cases, pick-cases}
 

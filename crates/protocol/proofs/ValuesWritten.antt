@@ -9,7 +9,7 @@ use mathlib.Core.Path.{_≡_, refl, sym, ap, ap₂, _∙_}
 use native.Mathlib.Omega.{arith}
 use Rattle.laws.specs.Choose.{pick}
 use Rattle.protocol.specs.Arrays.{countOf}
-use Rattle.protocol.specs.FieldNumbers.{fieldBytes, numberIn, numberOf}
+use Rattle.protocol.specs.FieldNumbers.{fieldBytes, numberIn, fieldNumber}
 use Rattle.protocol.specs.Optional.{Section, array, connid, cq-data, flagsOf, optionsFit, raw-address, sectionsOf}
 use Rattle.protocol.specs.Layout.{Field, count, credit-request, isOwn, layout, msg-id, msg-length, multiuse, ownFields, padding, recv-id, recv-length, seg-length, seg-offset, select, send-id, tag, width}
 use Rattle.protocol.specs.Lengths.{lengthsFit}
@@ -17,17 +17,17 @@ use Rattle.protocol.specs.Options.{connidBytes, connidOrZero, cqDataByte
 use Rattle.protocol.specs.Types.{rowOf}
 use Rattle.protocol.specs.Values.{Values, ownNumbers, values}
 use Rattle.protocol.specs.Writing.{mandatoryBytes, packetBytes, writeAs, writeOf, writeTyped}
-use Rattle.protocol.specs.declared.table.Found.{Found}
-use Rattle.protocol.specs.declared.table.Found.the-variants.{Row, Unknown}
+use Rattle.protocol.specs.declared.table.FoundRow.{FoundRow}
+use Rattle.protocol.specs.declared.table.FoundRow.the-variants.{Row, Unknown}
 use Rattle.protocol.specs.declared.table.TypeRow.{TypeRow}
 use Rattle.protocol.specs.declared.types.Header.{Header}
 use Rattle.wire.specs.LittleEndian.{leBytes}
 use Rattle.laws.proofs.Choosing.{clashing, tested}
-use Rattle.protocol.proofs.TypeWords.{lengths-same}
+use Rattle.protocol.proofs.TypeSentences.{lengths-same}
 
 -- headers with the same connid and the same numbers of own fields have the same bytes of fields
 module _ (told : ℕ) (h g : Header) (c : h .connid ≡ g .connid) where
-  number-same : (f : Field) → (isOwn f ≡ true → numberIn (h .fields) f ≡ numberIn (g .fields) f) → numberOf told h f ≡ numberOf told g f
+  number-same : (f : Field) → (isOwn f ≡ true → numberIn (h .fields) f ≡ numberIn (g .fields) f) → fieldNumber told h f ≡ fieldNumber told g f
   unfolding pick
   number-same msg-id x = x refl
   number-same recv-id x = x refl
@@ -121,7 +121,7 @@ module _ (h g : Header) (raw raw′ body body′ : List ℕ) (same : values h ra
     unfolding writeAs
     row-same out = rw (options-same, fit-same, bytes-same)
 
-  found-same : (o : Found) (out : List ℕ) → rowOf (h .kind) ≡ o → ownNumbers o (h .fields) ≡ ownNumbers o (g .fields)
+  found-same : (o : FoundRow) (out : List ℕ) → rowOf (h .kind) ≡ o → ownNumbers o (h .fields) ≡ ownNumbers o (g .fields)
       → writeTyped o h [] raw body out ≡ writeTyped o g [] raw′ body′ out
   unfolding writeTyped ownNumbers
   found-same Unknown out row own = refl
@@ -131,5 +131,5 @@ module _ (h g : Header) (raw raw′ body body′ : List ℕ) (same : values h ra
   unfolding writeOf
   same-written out =
       let o : rowOf (g .kind) ≡ rowOf (h .kind) = ap rowOf (sym kind-same) in
-      found-same (rowOf (h .kind)) out refl (own-same ∙ ap (λ (o : Found). ownNumbers o (g .fields)) o)
+      found-same (rowOf (h .kind)) out refl (own-same ∙ ap (λ (o : FoundRow). ownNumbers o (g .fields)) o)
       ∙ ap (λ (k : ℕ). writeTyped (rowOf k) g [] raw′ body′ out) kind-same

@@ -25,7 +25,7 @@ use Rattle.protocol.specs.SectionsInTurn.{afterArray, afterRaw, connidLe
 use Rattle.protocol.specs.Types.{row, rowOf}
 use Rattle.protocol.specs.Values.{bytesAt}
 use Rattle.protocol.specs.Writing.{baseBytes, mandatoryBytes, packetBytes, writeOf}
-use Rattle.protocol.specs.declared.table.Found.the-variants.{Row}
+use Rattle.protocol.specs.declared.table.FoundRow.the-variants.{Row}
 use Rattle.protocol.specs.declared.table.TypeRow.{TypeRow}
 use Rattle.protocol.specs.declared.types.Connid.{Connid}
 use Rattle.protocol.specs.declared.types.Packet.{Packet}
@@ -43,7 +43,7 @@ use Rattle.protocol.proofs.OptionLaws.{cq-data-again, has-connid, has-c
 use Rattle.protocol.proofs.RowLaws.{after-no-array, connid-after, connid-within, number-here, number-placed}
 use Rattle.protocol.proofs.StepLaws.{packet-in-steps}
 use Rattle.protocol.proofs.TableRule.{no-array, row-kind, rows-say, sound}
-use Rattle.protocol.proofs.TypeWords.{connid-in-words, header-in-words, request-in-words}
+use Rattle.protocol.proofs.TypeSentences.{connid-in-words, header-in-words, request-in-words}
 use Rattle.wire.proofs.Laws.{bytes-again, bytes-again-wide, bytes-none}
 
 -- the padding of a connid behind the other headers

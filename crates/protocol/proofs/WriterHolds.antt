@@ -1,4 +1,4 @@
--- The writer's refusals come in 01's order: the statements of specs/WriterInWords.antt.
+-- The writer's refusals come in 01's order: the statements of specs/WriterSentences.antt.
 use Prim.Native.Nat.{ℕ, _<_}
 use borrow.Author.Tests.{ltb-true, ltb-false, not-true, not-false}
 use lib.Dec.{ltb, lit<}
@@ -13,16 +13,16 @@ use Rattle.laws.specs.Parts.{storeAt}
 use Rattle.protocol.specs.ByType.{CtsOrData, Known, LengthRule}
 use Rattle.protocol.specs.Checks.{gives, refused}
 use Rattle.protocol.specs.Optional.{hasCqData, optionsFit}
-use Rattle.protocol.specs.InWords.{TypesAreTheTables}
+use Rattle.protocol.specs.Sentences.{TypesAreTheTables}
 use Rattle.protocol.specs.Lengths.{lengthsFit}
 use Rattle.protocol.specs.Options.{connidBytes, cqDataBytes}
 use Rattle.protocol.specs.Refusals.{refusal}
 use Rattle.protocol.specs.Says.{writtenSays}
 use Rattle.protocol.specs.Types.{admit, everyRow, rowOf}
-use Rattle.protocol.specs.WriterInWords.{Misplaced, RefusedWriteChangesNothing, WriteFails, WriteRefusedByFirstToFail, WriterCheck, WrittenIfNoneFails, brokenLengths, connidTakes, cqDataTakes, misplacedHeader, noType, overLongest, packetLength, shortBuffer, writeRefusedAs, writerCheckAt, writerChecks}
+use Rattle.protocol.specs.WriterSentences.{Misplaced, RefusedWriteChangesNothing, WriteFails, WriteRefusedByFirstToFail, WriterCheck, WrittenIfNoneFails, brokenLengths, connidTakes, cqDataTakes, misplacedHeader, noType, overLongest, packetLength, shortBuffer, writeRefusedAs, writerCheckAt, writerChecks}
 use Rattle.protocol.specs.Writing.{Outcome, packetBytes, writeAs, writeBytes, writeOf, writeTyped}
-use Rattle.protocol.specs.declared.table.Found.{Found}
-use Rattle.protocol.specs.declared.table.Found.the-variants.{Row, Unknown}
+use Rattle.protocol.specs.declared.table.FoundRow.{FoundRow}
+use Rattle.protocol.specs.declared.table.FoundRow.the-variants.{Row, Unknown}
 use Rattle.protocol.specs.declared.table.TypeRow.{TypeRow}
 use Rattle.protocol.specs.declared.types.Connid.{Connid}
 use Rattle.protocol.specs.declared.types.CqData.{CqData}
@@ -35,8 +35,8 @@ use Rattle.protocol.proofs.FlagLaws.{connid-fits, every-option-fits, fi
 use Rattle.protocol.proofs.OptionLaws.{length-raw}
 use Rattle.protocol.proofs.FoundRow.{is-unknown, isUnknown, ofRow, pick-not, row-in, row-out}
 use Rattle.protocol.proofs.TableRule.{no-array, sound}
-use Rattle.protocol.proofs.TypeWords.{connid-in-words, header-in-words, lengths-in-words, request-in-words, unknown-lengths, unknown-type}
-use Rattle.protocol.proofs.WordsHold.{types-are-the-tables}
+use Rattle.protocol.proofs.TypeSentences.{connid-in-words, header-in-words, lengths-in-words, request-in-words, unknown-lengths, unknown-type}
+use Rattle.protocol.proofs.SentencesHold.{types-are-the-tables}
 use Rattle.protocol.proofs.WritingLaws.{length-packet}
 use Rattle.wire.proofs.Laws.{length-le}
 
@@ -107,24 +107,24 @@ module _ (h : Header) (raw body out : List ℕ) where
   -- ---- the writer is such a list
 
   -- with the type's row o
-  abbrev pub failsAs : Found → WriterCheck → Bool
+  abbrev pub failsAs : FoundRow → WriterCheck → Bool
   failsAs o noType = isUnknown o
   failsAs o misplacedHeader = ofRow o (λ r. not (optionsFit r h))
   failsAs o brokenLengths = ofRow o (λ r. not (lengthsFit (r .shape) (h .fields) (length body)))
   failsAs o overLongest = ltb 8192 n
   failsAs o shortBuffer = ltb (length out) n
 
-  abbrev pub bytesAs : Found → List ℕ
+  abbrev pub bytesAs : FoundRow → List ℕ
   bytesAs Unknown = []
   bytesAs (Row r) = packetBytes r h [] raw body
 
-  abbrev pub written : Found → Outcome
+  abbrev pub written : FoundRow → Outcome
   written o = record { answer = Written.Length n; out = storeAt out 0 (bytesAs o) }
 
   abbrev pub refusing : WriterCheck → Outcome
   refusing c = record { answer = Written.Refused (refusal (writeRefusedAs c)); out = out }
 
-  abbrev judgedAs : Found → List WriterCheck → Outcome
+  abbrev judgedAs : FoundRow → List WriterCheck → Outcome
   judgedAs o = judged (failsAs o) refusing (written o)
 
   bytes-judged : (r : TypeRow) → rowOf k ≡ Row r → optionsFit r h ≡ true
@@ -137,7 +137,7 @@ module _ (h : Header) (raw body out : List ℕ) where
           pick (ltb 8192 m) (refusing overLongest)
           (pick (ltb (length out) m) (refusing shortBuffer) (record { answer = Written.Length m; out = storeAt out 0 (packetBytes r h [] raw body) }))
 
-  typed-judged : (o : Found) → rowOf k ≡ o → writeTyped o h [] raw body out ≡ judgedAs o writerChecks
+  typed-judged : (o : FoundRow) → rowOf k ≡ o → writeTyped o h [] raw body out ≡ judgedAs o writerChecks
   unfolding writeTyped writeAs
   typed-judged Unknown e = unfold pick in refl
   typed-judged (Row r) e =
@@ -157,17 +157,17 @@ module _ (h : Header) (raw body out : List ℕ) where
   abbrev pub write-failing : WriterCheck → Bool
   write-failing = failsAs (rowOf k)
 
-  options-fail : (o : Found) → rowOf k ≡ o → failsAs o misplacedHeader ≡ true → Misplaced h
+  options-fail : (o : FoundRow) → rowOf k ≡ o → failsAs o misplacedHeader ≡ true → Misplaced h
   options-fail Unknown e t = absurd (true≢false (sym t))
   options-fail (Row r) e t =
       let (c, x) = options-refused h k r e (not-true (optionsFit r h) t) in
       misplaced h c x
 
-  options-pass : (o : Found) → rowOf k ≡ o → failsAs o misplacedHeader ≡ false → Misplaced h → ⊥
+  options-pass : (o : FoundRow) → rowOf k ≡ o → failsAs o misplacedHeader ≡ false → Misplaced h → ⊥
   options-pass Unknown e t (c, x) = unknown-type k e (⊎-elim (λ y. inl (y, refl)) (λ y. inr (inl y)) c)
   options-pass (Row r) e t w = well-placed h (options-taken h k r e (not-false (optionsFit r h) t) (w .0)) w
 
-  lengths-pass : (o : Found) → rowOf k ≡ o → failsAs o brokenLengths ≡ false → LengthRule k (h .fields) (length body)
+  lengths-pass : (o : FoundRow) → rowOf k ≡ o → failsAs o brokenLengths ≡ false → LengthRule k (h .fields) (length body)
   lengths-pass Unknown e t = unknown-lengths k (h .fields) (length body) e
   lengths-pass (Row r) e t = lengths-in-words (h .fields) (length body) k r e .0 (not-false _ t)
 

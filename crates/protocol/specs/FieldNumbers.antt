@@ -29,13 +29,13 @@ numberIn v padding = 0
 numberIn v count = 0
 
 -- as they are written with the count n: "a flagged multiuse is the connid", without its flag it is zero, and so is padding
-abbrev pub numberOf : ℕ → Header → Field → ℕ
-numberOf n h f = pick (sameField count f) n (pick (sameField multiuse f) (connidOrZero (h .connid)) (numberIn (h .fields) f))
+abbrev pub fieldNumber : ℕ → Header → Field → ℕ
+fieldNumber n h f = pick (sameField count f) n (pick (sameField multiuse f) (connidOrZero (h .connid)) (numberIn (h .fields) f))
 
 -- the bytes of the fields gs of a header
 unfoldable pub fieldBytes : List Field → ℕ → Header → List ℕ
 fieldBytes [] n h = []
-fieldBytes (g ∷ gs) n h = leBytes (width g) (numberOf n h g) ++ fieldBytes gs n h
+fieldBytes (g ∷ gs) n h = leBytes (width g) (fieldNumber n h g) ++ fieldBytes gs n h
 
 -- ---- in bytes
 
@@ -76,4 +76,4 @@ putThere place n x bs = pick (eqb place 0) bs (storeAt bs place (leBytes n x))
 -- the bytes with the fields fs of a header, put one by one where the row says
 abbrev pub putFields : TypeRow → ℕ → Header → List Field → List ℕ → List ℕ
 putFields r n h [] bs = bs
-putFields r n h (f ∷ fs) bs = putFields r n h fs (putThere (placeOf r f) (width f) (numberOf n h f) bs)
+putFields r n h (f ∷ fs) bs = putFields r n h fs (putThere (placeOf r f) (width f) (fieldNumber n h f) bs)

@@ -19,6 +19,6 @@ pub mod Cts
 pub mod ByType
 pub mod Checks
 pub mod Says
-pub mod InWords
-pub mod CtsWords
-pub mod WriterInWords
+pub mod Sentences
+pub mod CtsSentences
+pub mod WriterSentences

@@ -7,8 +7,8 @@ use lib.ListN.{length, getD}
 use Rattle.laws.specs.Choose.{pick}
 use Rattle.wire.specs.LittleEndian.{leAt}
 use Rattle.protocol.specs.declared.table.TypeRow.{TypeRow}
-use Rattle.protocol.specs.declared.table.Found.{Found}
-use Rattle.protocol.specs.declared.table.Found.the-variants.{Row, Unknown}
+use Rattle.protocol.specs.declared.table.FoundRow.{FoundRow}
+use Rattle.protocol.specs.declared.table.FoundRow.the-variants.{Row, Unknown}
 use Rattle.protocol.specs.declared.types.Header.{Header}
 use Rattle.protocol.specs.declared.types.Packet.{Packet}
 use Rattle.protocol.specs.declared.types.Read.{Read}
@@ -61,7 +61,7 @@ unfoldable pub readFlags : TypeRow → List ℕ → Read
 readFlags r bs = pick (flagsFit r (leAt 2 bs 2)) (readSections r (leAt 2 bs 2) bs (extentOf r (leAt 2 bs 2) bs)) (Read.Refused badFlags)
 
 -- refusal 9
-unfoldable pub readTyped : Found → List ℕ → Read
+unfoldable pub readTyped : FoundRow → List ℕ → Read
 readTyped Unknown bs = Read.Refused badType
 readTyped (Row r) bs = readFlags r bs
 

@@ -11,7 +11,7 @@ use Rattle.laws.specs.Choose.{pick}
 use Rattle.laws.specs.Parts.{storeAt}
 use Rattle.protocol.specs.ByType.{bitOf, column}
 use Rattle.protocol.specs.Checks.{gives}
-use Rattle.protocol.specs.InWords.{flagsIn, typeIn}
+use Rattle.protocol.specs.Sentences.{flagsIn, typeIn}
 use Rattle.protocol.specs.FieldNumbers.{numberIn}
 use Rattle.protocol.specs.Layout.{Field, ownFields, width}
 use Rattle.protocol.specs.Options.{connidOrZero}
@@ -21,7 +21,7 @@ use Rattle.protocol.specs.Says.{readSays, writtenSays}
 use Rattle.protocol.specs.Types.{everyRow, rowOf}
 use Rattle.protocol.specs.Values.{bytesAt, values}
 use Rattle.protocol.specs.Writing.{packetBytes, writeAs, writeOf}
-use Rattle.protocol.specs.declared.table.Found.the-variants.{Row}
+use Rattle.protocol.specs.declared.table.FoundRow.the-variants.{Row}
 use Rattle.protocol.specs.declared.table.TypeRow.{TypeRow}
 use Rattle.protocol.specs.declared.types.CqData.{CqData}
 use Rattle.protocol.specs.declared.types.Header.{Header}

@@ -8,8 +8,8 @@ use Rattle.protocol.specs.Layout.{credit-request, msg-id, msg-length, mu
 use Rattle.protocol.specs.declared.table.TypeRow.{TypeRow}
 use Rattle.protocol.specs.declared.table.Shape.{Shape}
 use Rattle.protocol.specs.declared.table.Shape.the-variants.{Cts, CtsData, Eager, Medium, LongCts}
-use Rattle.protocol.specs.declared.table.Found.{Found}
-use Rattle.protocol.specs.declared.table.Found.the-variants.{Row, Unknown}
+use Rattle.protocol.specs.declared.table.FoundRow.{FoundRow}
+use Rattle.protocol.specs.declared.table.FoundRow.the-variants.{Row, Unknown}
 
 -- type, shape; bytes of the mandatory header, where the length stands in it, where all its fields stand, bytes of the connid header; tagged,
 -- served, a request; flags it must have, flags it may have. No type has a counted array
@@ -48,11 +48,11 @@ rows =
     ∷ []
 
 -- the first row of a table with this type
-unfoldable pub rowIn : List TypeRow → ℕ → Found
+unfoldable pub rowIn : List TypeRow → ℕ → FoundRow
 rowIn [] k = Unknown
 rowIn (r ∷ rs) k = pick (eqb (r .kind) k) (Row r) (rowIn rs k)
 
-unfoldable pub rowOf : ℕ → Found
+unfoldable pub rowOf : ℕ → FoundRow
 rowOf k = rowIn rows k
 
 -- which rows a reader admits: every one, or those that the engine serves (01, refusal 9: "type not in the table; in the engine, CTS too")
@@ -66,6 +66,6 @@ abbrev pub readerRows : Bool → TypeRow → Bool
 readerRows all r = all || r .served
 
 -- what is found among the rows that are admitted
-unfoldable pub admit : (TypeRow → Bool) → Found → Found
+unfoldable pub admit : (TypeRow → Bool) → FoundRow → FoundRow
 admit which Unknown = Unknown
 admit which (Row r) = pick (which r) (Row r) Unknown

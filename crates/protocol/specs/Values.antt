@@ -5,8 +5,8 @@ use mathlib.Core.List.{List, [], map}
 use mathlib.Core.Option.{Option, some, none}
 use Rattle.laws.specs.Choose.{pick}
 use Rattle.laws.specs.Parts.{part}
-use Rattle.protocol.specs.declared.table.Found.{Found}
-use Rattle.protocol.specs.declared.table.Found.the-variants.{Row, Unknown}
+use Rattle.protocol.specs.declared.table.FoundRow.{FoundRow}
+use Rattle.protocol.specs.declared.table.FoundRow.the-variants.{Row, Unknown}
 use Rattle.protocol.specs.declared.types.CqData.{CqData}
 use Rattle.protocol.specs.declared.types.Connid.{Connid}
 use Rattle.protocol.specs.declared.types.Fields.{Fields}
@@ -26,7 +26,7 @@ pub record Values : Type 0 where
   pub connid : Connid
   pub body : List ℕ
 
-unfoldable pub ownNumbers : Found → Fields → List ℕ
+unfoldable pub ownNumbers : FoundRow → Fields → List ℕ
 ownNumbers Unknown v = []
 ownNumbers (Row r) v = map (numberIn v) (ownFields r)
 

@@ -8,8 +8,8 @@ use Rattle.laws.specs.Choose.{pick}
 use Rattle.laws.specs.Parts.{storeAt}
 use Rattle.wire.specs.LittleEndian.{leBytes}
 use Rattle.protocol.specs.declared.table.TypeRow.{TypeRow}
-use Rattle.protocol.specs.declared.table.Found.{Found}
-use Rattle.protocol.specs.declared.table.Found.the-variants.{Row, Unknown}
+use Rattle.protocol.specs.declared.table.FoundRow.{FoundRow}
+use Rattle.protocol.specs.declared.table.FoundRow.the-variants.{Row, Unknown}
 use Rattle.protocol.specs.declared.types.Header.{Header}
 use Rattle.protocol.specs.declared.types.Refusal.{Refusal}
 use Rattle.protocol.specs.declared.types.Written.{Written}
@@ -58,7 +58,7 @@ writeAs r h arr raw body out =
     (refused badFlags out)
 
 -- refusal 9
-unfoldable pub writeTyped : Found → Header → List ℕ → List ℕ → List ℕ → List ℕ → Outcome
+unfoldable pub writeTyped : FoundRow → Header → List ℕ → List ℕ → List ℕ → List ℕ → Outcome
 writeTyped Unknown h arr raw body out = refused badType out
 writeTyped (Row r) h arr raw body out = writeAs r h arr raw body out
 

@@ -45,7 +45,7 @@ pub use refusals::REPEATED;
 pub use refusals::SHORT_REPLY;
 pub use sections::Extent;
 pub use sections::Sections;
-pub use table::Found;
+pub use table::FoundRow;
 pub use table::Shape;
 pub use table::TypeRow;
 pub use types::Connid;

@@ -36,7 +36,7 @@ pub struct TypeRow {
     pub places: u64,
 }
 
-pub enum Found {
+pub enum FoundRow {
     Row(TypeRow),
     Unknown,
 }

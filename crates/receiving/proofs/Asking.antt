@@ -22,7 +22,7 @@ use Rattle.receiving.specs.Leaves.{PacketLeaves, Replied, SegmentLeaves,
 use Rattle.peer.specs.Matching.{findOpen, sameMessage}
 use Rattle.peer.specs.State.{slotCount}
 use Rattle.peer.specs.declared.types.Answer.{Answer}
-use Rattle.peer.specs.declared.types.Found.{Found}
+use Rattle.peer.specs.declared.types.FoundOpen.{FoundOpen}
 use Rattle.peer.specs.declared.types.Inbound.{Inbound}
 use Rattle.peer.specs.declared.types.Incoming.{Incoming}
 use Rattle.peer.specs.declared.types.Message.{Message}
@@ -66,7 +66,7 @@ due-remains ws o e =
 
 -- ---- the judgement
 
-module _ (words : ℕ) (p : Peer) (h : Incoming) (j : Judging words p h) (i : ℕ) (o : Inbound) (e : findOpen (h .id) 0 (p .slots) ≡ Found.At i o) where
+module _ (words : ℕ) (p : Peer) (h : Incoming) (j : Judging words p h) (i : ℕ) (o : Inbound) (e : findOpen (h .id) 0 (p .slots) ≡ FoundOpen.At i o) where
   valid : Valid (64 * words) (p .slots)
   valid = fits-valid (64 * words) p (j .mapped .fits)
 

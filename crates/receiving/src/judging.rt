@@ -2,7 +2,7 @@
 use crate::matching;
 use crate::shapes;
 use peer::Fit;
-use peer::Found;
+use peer::FoundOpen;
 use peer::Inbound;
 use peer::Incoming;
 use peer::Peer;
@@ -105,14 +105,14 @@ pub(crate) fn judge(peer: Peer, h: Incoming, words: &[u64]) -> Verdict
     let shape = h.shape;
     let rtm = shapes::is_rtm(shape);
     match matching::find_open(peer, h.id) {
-        Found::At(i, inbound) => {
+        FoundOpen::At(i, inbound) => {
             if rtm {
                 judge_again(inbound, i, h, words)
             } else {
                 judge_data(inbound, i, h, words)
             }
         }
-        Found::Nothing => {
+        FoundOpen::Nothing => {
             if rtm {
                 judge_new(peer, h)
             } else {

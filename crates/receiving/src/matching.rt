@@ -1,7 +1,7 @@
 // Which message a packet belongs to, and which receive it fits.
 use crate::shapes;
 use peer::Fit;
-use peer::Found;
+use peer::FoundOpen;
 use peer::Incoming;
 use peer::Message;
 use peer::Peer;
@@ -96,38 +96,38 @@ fn older_here(best: Fit, i: usize, slot: Slot, h: Incoming) -> Fit
 }
 
 // The message that is open here, in slot i, under an id.
-fn open_under(slot: Slot, id: u32, i: usize) -> Found
+fn open_under(slot: Slot, id: u32, i: usize) -> FoundOpen
     ensures { λ r. ⌜ r ≡ openHere id i (slot .phase) ⌝ }
 {
     let phase = slot.phase;
     match phase {
-        Phase::Free => Found::Nothing,
-        Phase::Posted(_, _) => Found::Nothing,
+        Phase::Free => FoundOpen::Nothing,
+        Phase::Posted(_, _) => FoundOpen::Nothing,
         Phase::Open(inbound) => {
             let message = inbound.message;
             if message.id == id {
-                Found::At(i, inbound)
+                FoundOpen::At(i, inbound)
             } else {
-                Found::Nothing
+                FoundOpen::Nothing
             }
         }
     }
 }
 
 // The message that is open under an id.
-pub(crate) fn find_open(peer: Peer, id: u32) -> Found
+pub(crate) fn find_open(peer: Peer, id: u32) -> FoundOpen
     ensures { λ r. ⌜ r ≡ findOpen id 0 (peer .slots) ⌝ }
 {
     let mut i: usize = 0;
     while i < Peer::SLOTS {
         let slot = peer.slots[i];
         let found = open_under(slot, id, i);
-        if let Found::At(_, _) = found {
+        if let FoundOpen::At(_, _) = found {
             return found;
         }
         i += 1;
     }
-    Found::Nothing
+    FoundOpen::Nothing
 }
 
 // The oldest receive that a packet fits.

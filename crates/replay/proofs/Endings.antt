@@ -13,7 +13,7 @@ use Rattle.peer.specs.declared.types.Request.{Request}
 use Rattle.engine.specs.declared.types.Ready.{Ready}
 use Rattle.trace.specs.Entries.{entryAt, setUpAt}
 use Rattle.trace.specs.ExactlyRecorded.{CallStands, SetUpStands}
-use Rattle.trace.specs.declared.types.Found.{Found}
+use Rattle.trace.specs.declared.types.FoundEntry.{FoundEntry}
 use Rattle.trace.specs.declared.types.SetUp.{SetUp}
 use Rattle.trace.proofs.OnlyAsRecorded.{entry-only-as-recorded, set-up-only-as-recorded}
 use Rattle.trace.proofs.ReadBack.{bad-if-nothing-recorded, set-up-read-back}
@@ -51,10 +51,10 @@ module _ (s buffer : List ℕ) (bytes : (i : ℕ) → getD s i 0 < 256) where
   none : (k at : ℕ) (e : Ending) → EndsAs s k 0 at e → Decodes s buffer k at (noMore e)
   none k at e h = ([], refl, record { place = at; stand = refl; few = omega arith; ends = h })
 
-  found : (k at : ℕ) → at < length s → ((next : ℕ) → next ≤ length s → Decodes s buffer k next (decode k s buffer next)) → (f : Found) → entryAt s at ≡ f
+  found : (k at : ℕ) → at < length s → ((next : ℕ) → next ≤ length s → Decodes s buffer k next (decode k s buffer next)) → (f : FoundEntry) → entryAt s at ≡ f
       → Decodes s buffer (suc k) at (onFound f (noMore (Ending.Bad at)) (λ q next. before (lentBuffer (length buffer) q) (decode k s buffer next)))
-  found k at l ih Found.Bad p = none (suc k) at (Ending.Bad at) (refl, l, omega arith, bad-if-nothing-recorded s at p)
-  found k at l ih (Found.Entry q next) p =
+  found k at l ih FoundEntry.Bad p = none (suc k) at (Ending.Bad at) (refl, l, omega arith, bad-if-nothing-recorded s at p)
+  found k at l ih (FoundEntry.Entry q next) p =
       let h = entry-only-as-recorded s at q next bytes p in
       let (es, calls, t) = ih next (entry-inside s at (q .peer) (q .call) next h) in (
         q ∷ es,

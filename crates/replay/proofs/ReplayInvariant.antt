@@ -14,7 +14,7 @@ use Rattle.peer.specs.declared.types.Request.{Request}
 use Rattle.lending.specs.Acts.{Inside}
 use Rattle.engine.specs.Steps.{World}
 use Rattle.trace.specs.Entries.{entryAt}
-use Rattle.trace.specs.declared.types.Found.{Found}
+use Rattle.trace.specs.declared.types.FoundEntry.{FoundEntry}
 use Rattle.trace.proofs.EntryLaws.{PacketInside, entry-inside}
 use Rattle.guarantees.specs.Outputs.{RunLeaves, runLeaves}
 use Rattle.guarantees.proofs.RunInvariant.{CallMade, RunInvariant, ended, run-end}
@@ -67,11 +67,11 @@ module _ {s buffer : List ℕ} {budget : ℕ} {all : RunLeaves} {last : Ending} 
     more : budget - taken ≡ suc (budget - (taken + 1))
     more = omega arith
 
-    pub replay-bad : entryAt s place ≡ Found.Bad
+    pub replay-bad : entryAt s place ≡ FoundEntry.Bad
         → replayLeaves last all ≡ replayLeaves (Ending.Bad place) (ended s buffer answerLine taken w reply text written)
     replay-bad f = stops (Ending.Bad place) (rw more (decode-bad (budget - (taken + 1)) s buffer place l f))
 
-    module _ (q : Request) (next : ℕ) (f : entryAt s place ≡ Found.Entry q next) where
+    module _ (q : Request) (next : ℕ) (f : entryAt s place ≡ FoundEntry.Entry q next) where
       pub replay-inside : Inside (length s) (length reply) (withBuffer (length reply) (q .call))
       replay-inside = inside (length s) (length reply) (q .call) (entry-inside s place q next f)
 

@@ -14,7 +14,7 @@ use Rattle.laws.proofs.Storing.{length-store, store-next, store-start}
 use Rattle.text.specs.Lines.{bytesOf}
 use Rattle.text.proofs.LineLaws.{length-line}
 use Rattle.protocol.specs.declared.types.Refusal.{Refusal}
-use Rattle.engine.specs.InWords.{Eights}
+use Rattle.engine.specs.Sentences.{Eights}
 use Rattle.engine.specs.Leaves.{world}
 use Rattle.engine.specs.SetUp.{Prepared, engineFits, engineOf, lentFits, notStarted, numbersFit, setUp}
 use Rattle.engine.specs.Steps.{World}

@@ -6,7 +6,7 @@ use lib.Dec.{leb}
 use Rattle.laws.specs.Choose.{pick}
 use Rattle.peer.specs.declared.types.Call.{Call}
 use Rattle.peer.specs.declared.types.Request.{Request}
-use Rattle.trace.specs.declared.types.Found.{Found}
+use Rattle.trace.specs.declared.types.FoundEntry.{FoundEntry}
 use Rattle.trace.specs.Entries.{entryAt}
 use Rattle.replay.specs.declared.types.Ending.{Ending}
 
@@ -32,9 +32,9 @@ noMore e = record { calls = []; ending = e }
 abbrev pub before : Request → Decoded → Decoded
 before q d = record { calls = q ∷ d .calls; ending = d .ending }
 
-abbrev pub onFound : {A : Type 0} → Found → A → (Request → ℕ → A) → A
-onFound Found.Bad bad f = bad
-onFound (Found.Entry q next) bad f = f q next
+abbrev pub onFound : {A : Type 0} → FoundEntry → A → (Request → ℕ → A) → A
+onFound FoundEntry.Bad bad f = bad
+onFound (FoundEntry.Entry q next) bad f = f q next
 
 -- whether the trace of n bytes is at its end, or bytes remain
 abbrev pub endingAt : ℕ → ℕ → Ending

@@ -7,12 +7,12 @@ use engine::Gate;
 use peer::Answer;
 use peer::Call;
 use protocol::Span;
-use trace::Found;
+use trace::FoundEntry;
 ghost use mathlib.Core.Path.{_≡_};
 ghost use Prim.Native.Nat.{_+_, _*_, _≤_};
 ghost use lib.ListN.{length};
 ghost use mathlib.Core.Bool.{true};
-ghost use Rattle.engine.specs.InWords.{Eights};
+ghost use Rattle.engine.specs.Sentences.{Eights};
 ghost use Rattle.engine.specs.Leaves.{world};
 ghost use Rattle.engine.specs.SetUp.{engineFits};
 ghost use Rattle.replay.specs.Decoding.{decode, endingAt, withBuffer};
@@ -42,7 +42,7 @@ pub(crate) fn run(
     let mut taken: usize = 0;
     while taken < budget && place < trace.len() {
         let found = trace_reader::read_entry(trace, place);
-        let Found::Entry(request, next) = found else {
+        let FoundEntry::Entry(request, next) = found else {
             let ending = Ending::Bad(place);
             return Replayed {
                 taken,

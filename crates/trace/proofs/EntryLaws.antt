@@ -11,7 +11,7 @@ use Rattle.peer.specs.declared.types.Request.{Request}
 use Rattle.trace.specs.Entries.{cancelAt, entryAt, onNumber, onPair, packetAt, pairAt, postAt, postOf, receiveAt}
 use Rattle.trace.specs.Numbers.{numberAt}
 use Rattle.trace.specs.declared.types.Asked.{Asked}
-use Rattle.trace.specs.declared.types.Found.{Found}
+use Rattle.trace.specs.declared.types.FoundEntry.{FoundEntry}
 use Rattle.trace.specs.declared.types.Number.{Number}
 use Rattle.trace.specs.declared.types.Number.the-variants.{Is, Bad}
 use Rattle.trace.specs.declared.types.Pair.{Pair}
@@ -23,16 +23,16 @@ PacketInside n (Call.Packet sent reply) = sent .at + sent .size ≤ n
 PacketInside n (Call.Cancel slot) = Unit {0}
 PacketInside n (Call.Report slot) = Unit {0}
 
-abbrev Holds : ℕ → Found → Type 0
-Holds n Found.Bad = Unit {0}
-Holds n (Found.Entry q next) = PacketInside n (q .call)
+abbrev Holds : ℕ → FoundEntry → Type 0
+Holds n FoundEntry.Bad = Unit {0}
+Holds n (FoundEntry.Entry q next) = PacketInside n (q .call)
 
 module _ (n : ℕ) where
-  on-number : (m : Number) (f : ℕ → ℕ → Found) → ((v next : ℕ) → Holds n (f v next)) → Holds n (onNumber m Found.Bad f)
+  on-number : (m : Number) (f : ℕ → ℕ → FoundEntry) → ((v next : ℕ) → Holds n (f v next)) → Holds n (onNumber m FoundEntry.Bad f)
   on-number Bad f h = tt
   on-number (Is v next) f h = h v next
 
-  on-pair : (m : Pair) (f : ℕ → ℕ → ℕ → Found) → ((a b next : ℕ) → Holds n (f a b next)) → Holds n (onPair m Found.Bad f)
+  on-pair : (m : Pair) (f : ℕ → ℕ → ℕ → FoundEntry) → ((a b next : ℕ) → Holds n (f a b next)) → Holds n (onPair m FoundEntry.Bad f)
   on-pair Pair.Bad f h = tt
   on-pair (Pair.Are a b next) f h = h a b next
 
@@ -52,5 +52,5 @@ module _ (s : List ℕ) where
       (on-pair (length s) (pairAt s next) _ (λ peer count m. branch P (leb (m + count) (length s)) _ _ (λ t. leb-true _ _ t) (λ t. tt)))
       (pick-either P _ (on-pair (length s) (pairAt s next) _ (λ peer slot m. tt)) tt)))
 
-  pub entry-inside : (at : ℕ) (q : Request) (next : ℕ) → entryAt s at ≡ Found.Entry q next → PacketInside (length s) (q .call)
+  pub entry-inside : (at : ℕ) (q : Request) (next : ℕ) → entryAt s at ≡ FoundEntry.Entry q next → PacketInside (length s) (q .call)
   entry-inside at q next h = rw h at (holds at)

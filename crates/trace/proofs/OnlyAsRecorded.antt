@@ -17,7 +17,7 @@ use Rattle.trace.specs.Numbers.{numberAt, numberBytes}
 use Rattle.trace.specs.Recorded.{numbersBytes}
 use Rattle.trace.specs.ShortestForm.{Small}
 use Rattle.trace.specs.declared.types.Asked.{Asked}
-use Rattle.trace.specs.declared.types.Found.{Found}
+use Rattle.trace.specs.declared.types.FoundEntry.{FoundEntry}
 use Rattle.trace.specs.declared.types.Number.the-variants.{Is}
 use Rattle.trace.specs.declared.types.Pair.{Pair}
 use Rattle.trace.specs.declared.types.SetUp.{SetUp}
@@ -78,16 +78,16 @@ module _ (s : List ℕ) (bytes : (i : ℕ) → getD s i 0 < 256) where
 
   -- ---- an entry
 
-  abbrev Holds : ℕ → Found → Type 0
-  Holds at Found.Bad = Unit {0}
-  Holds at (Found.Entry q next) = EntryStands s at q next
+  abbrev Holds : ℕ → FoundEntry → Type 0
+  Holds at FoundEntry.Bad = Unit {0}
+  Holds at (FoundEntry.Entry q next) = EntryStands s at q next
 
   -- its first number stands before the rest
   module _ (at m : ℕ) where
     post-holds : Stands s at (numbersBytes (1 ∷ [])) m → Holds at (postAt s m)
     unfolding postAt receiveAt
     post-holds w =
-        on-pair (Holds at) (pairAt s m) Found.Bad _ tt
+        on-pair (Holds at) (pairAt s m) FoundEntry.Bad _ tt
         (λ peer kind k p. branch (Holds at) _ _ _
         (λ t. on-pair (λ (a : Asked). Holds at (postOf peer a)) (pairAt s k) Asked.Bad _ tt
         (λ tag ignore l q. on-pair (λ (a : Asked). Holds at (postOf peer a)) (pairAt s l) Asked.Bad _ tt
@@ -102,7 +102,7 @@ module _ (s : List ℕ) (bytes : (i : ℕ) → getD s i 0 < 256) where
     packet-holds : Stands s at (numbersBytes (2 ∷ [])) m → Holds at (packetAt s m)
     unfolding packetAt
     packet-holds w =
-        on-pair (Holds at) (pairAt s m) Found.Bad _ tt
+        on-pair (Holds at) (pairAt s m) FoundEntry.Bad _ tt
         (λ peer count k p. branch (Holds at) (leb (k + count) (length s)) _ _
         (λ t.
         let (hp, hc, x) = pair-stands m peer count k p in
@@ -114,7 +114,7 @@ module _ (s : List ℕ) (bytes : (i : ℕ) → getD s i 0 < 256) where
     cancel-holds : Stands s at (numbersBytes (3 ∷ [])) m → Holds at (cancelAt s m)
     unfolding cancelAt
     cancel-holds w =
-        on-pair (Holds at) (pairAt s m) Found.Bad _ tt
+        on-pair (Holds at) (pairAt s m) FoundEntry.Bad _ tt
         (λ peer slot k p.
         let (hp, hs, x) = pair-stands m peer slot k p in
         (hp, hs, numbers-then (3 ∷ []) (peer ∷ slot ∷ []) w x))
@@ -126,7 +126,7 @@ module _ (s : List ℕ) (bytes : (i : ℕ) → getD s i 0 < 256) where
   holds : (at : ℕ) → Holds at (entryAt s at)
   unfolding entryAt
   holds at =
-      on-number (Holds at) (numberAt s at) Found.Bad _ tt
+      on-number (Holds at) (numberAt s at) FoundEntry.Bad _ tt
       (λ first m p.
       let w = number-stands at first m p .1 in
       branch (Holds at) _ _ _ (λ t. post-holds at m (first-is at m first 1 t w))

@@ -12,7 +12,7 @@ use Rattle.trace.specs.declared.types.Number.the-variants.{Is, Bad}
 use Rattle.trace.specs.declared.types.Pair.{Pair}
 use Rattle.trace.specs.declared.types.SetUp.{SetUp}
 use Rattle.trace.specs.declared.types.Asked.{Asked}
-use Rattle.trace.specs.declared.types.Found.{Found}
+use Rattle.trace.specs.declared.types.FoundEntry.{FoundEntry}
 use Rattle.trace.specs.Numbers.{numberAt}
 
 -- a number is read, and the rest with it and the place behind it; a malformed one makes the whole bad
@@ -40,34 +40,34 @@ receiveAt s at kind =
     Asked.For (record { tagged = eqb kind 1; tag = tag; ignore = ignore; start = start; capacity = capacity }) end))
 
 -- an entry is a call of a peer, with the place behind it
-abbrev pub entryOf : ℕ → Call → ℕ → Found
-entryOf peer call next = Found.Entry (record { peer = peer; call = call }) next
+abbrev pub entryOf : ℕ → Call → ℕ → FoundEntry
+entryOf peer call next = FoundEntry.Entry (record { peer = peer; call = call }) next
 
-abbrev pub postOf : ℕ → Asked → Found
-postOf peer Asked.Bad = Found.Bad
+abbrev pub postOf : ℕ → Asked → FoundEntry
+postOf peer Asked.Bad = FoundEntry.Bad
 postOf peer (Asked.For receive next) = entryOf peer (Call.Post receive) next
 
 -- "1 post (peer, kind 0 plain or 1 tagged, ..)"
-unfoldable pub postAt : List ℕ → ℕ → Found
-postAt s at = onPair (pairAt s at) Found.Bad (λ peer kind next. pick (leb kind 1) (postOf peer (receiveAt s next kind)) Found.Bad)
+unfoldable pub postAt : List ℕ → ℕ → FoundEntry
+postAt s at = onPair (pairAt s at) FoundEntry.Bad (λ peer kind next. pick (leb kind 1) (postOf peer (receiveAt s next kind)) FoundEntry.Bad)
 
 -- a trace has no reply buffer: whoever makes the call lends one
 abbrev pub noBuffer : Span
 noBuffer = record { at = 0; size = 0 }
 
 -- "2 packet (peer, byte count, bytes)": where its bytes stand, and how many
-unfoldable pub packetAt : List ℕ → ℕ → Found
+unfoldable pub packetAt : List ℕ → ℕ → FoundEntry
 packetAt s at =
-    onPair (pairAt s at) Found.Bad (λ peer count next.
-    pick (leb (next + count) (length s)) (entryOf peer (Call.Packet (record { at = next; size = count }) noBuffer) (next + count)) Found.Bad)
+    onPair (pairAt s at) FoundEntry.Bad (λ peer count next.
+    pick (leb (next + count) (length s)) (entryOf peer (Call.Packet (record { at = next; size = count }) noBuffer) (next + count)) FoundEntry.Bad)
 
 -- "3 cancel (peer, slot)"
-unfoldable pub cancelAt : List ℕ → ℕ → Found
-cancelAt s at = onPair (pairAt s at) Found.Bad (λ peer slot next. entryOf peer (Call.Cancel slot) next)
+unfoldable pub cancelAt : List ℕ → ℕ → FoundEntry
+cancelAt s at = onPair (pairAt s at) FoundEntry.Bad (λ peer slot next. entryOf peer (Call.Cancel slot) next)
 
 -- the entry at a place and the place behind it, or bad: "a first number not 1 to 3, a kind not 0 or 1, a malformed number, bytes that
 -- end early"
-unfoldable pub entryAt : List ℕ → ℕ → Found
+unfoldable pub entryAt : List ℕ → ℕ → FoundEntry
 entryAt s at =
-    onNumber (numberAt s at) Found.Bad (λ first next.
-    pick (eqb first 1) (postAt s next) (pick (eqb first 2) (packetAt s next) (pick (eqb first 3) (cancelAt s next) Found.Bad)))
+    onNumber (numberAt s at) FoundEntry.Bad (λ first next.
+    pick (eqb first 1) (postAt s next) (pick (eqb first 2) (packetAt s next) (pick (eqb first 3) (cancelAt s next) FoundEntry.Bad)))

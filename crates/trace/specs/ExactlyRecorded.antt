@@ -8,7 +8,7 @@ use Rattle.laws.specs.Parts.{part}
 use Rattle.peer.specs.declared.types.Call.{Call}
 use Rattle.peer.specs.declared.types.Request.{Request}
 use Rattle.trace.specs.declared.types.SetUp.{SetUp}
-use Rattle.trace.specs.declared.types.Found.{Found}
+use Rattle.trace.specs.declared.types.FoundEntry.{FoundEntry}
 use Rattle.trace.specs.Entries.{setUpAt, entryAt, noBuffer}
 use Rattle.trace.specs.Recorded.{setUpBytes, postBytes, packetBytes, cancelBytes}
 use Rattle.trace.specs.ShortestForm.{Small}
@@ -47,7 +47,7 @@ SetUpOnlyAsRecorded =
 abbrev pub EntryOnlyAsRecorded : Type 0
 EntryOnlyAsRecorded =
     (s : List ℕ) (at : ℕ) (q : Request) (next : ℕ) → ((i : ℕ) → getD s i 0 < 256)
-    → entryAt s at ≡ Found.Entry q next → EntryStands s at q next
+    → entryAt s at ≡ FoundEntry.Entry q next → EntryStands s at q next
 
 -- ---- what was recorded is read
 
@@ -55,8 +55,8 @@ abbrev pub SetUpReadBack : Type 0
 SetUpReadBack = (s : List ℕ) (at n area limit next : ℕ) → SetUpStands s at n area limit next → setUpAt s at ≡ SetUp.Are n area limit next
 
 abbrev pub EntryReadBack : Type 0
-EntryReadBack = (s : List ℕ) (at : ℕ) (q : Request) (next : ℕ) → EntryStands s at q next → entryAt s at ≡ Found.Entry q next
+EntryReadBack = (s : List ℕ) (at : ℕ) (q : Request) (next : ℕ) → EntryStands s at q next → entryAt s at ≡ FoundEntry.Entry q next
 
 -- so no entry stands where one is bad
 abbrev pub BadIfNothingRecorded : Type 0
-BadIfNothingRecorded = (s : List ℕ) (at : ℕ) → entryAt s at ≡ Found.Bad → (q : Request) (next : ℕ) → EntryStands s at q next → ⊥
+BadIfNothingRecorded = (s : List ℕ) (at : ℕ) → entryAt s at ≡ FoundEntry.Bad → (q : Request) (next : ℕ) → EntryStands s at q next → ⊥

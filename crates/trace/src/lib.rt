@@ -7,7 +7,7 @@ pub use number::number_at;
 pub use reading::entry_at;
 pub use reading::set_up_at;
 pub use types::Asked;
-pub use types::Found;
+pub use types::FoundEntry;
 pub use types::Number;
 pub use types::Pair;
 pub use types::SetUp;

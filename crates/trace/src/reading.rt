@@ -1,7 +1,7 @@
 // The set-up numbers and the entries, at a place of a slice.
 use crate::number::number_at;
 use crate::types::Asked;
-use crate::types::Found;
+use crate::types::FoundEntry;
 use crate::types::Number;
 use crate::types::Pair;
 use crate::types::SetUp;
@@ -59,39 +59,39 @@ fn receive_at(s: &[u8], at: usize, kind: u64) -> Asked
     }
 }
 
-fn post_at(s: &[u8], at: usize) -> Found
+fn post_at(s: &[u8], at: usize) -> FoundEntry
     ensures { λ r. ⌜ r ≡ postAt (now (s .entry)) at ⌝ }
 {
     match pair_at(s, at) {
-        Pair::Bad => Found::Bad,
+        Pair::Bad => FoundEntry::Bad,
         Pair::Are(peer, kind, next) => {
             if 1 < kind {
-                return Found::Bad;
+                return FoundEntry::Bad;
             }
             match receive_at(s, next, kind) {
-                Asked::Bad => Found::Bad,
+                Asked::Bad => FoundEntry::Bad,
                 Asked::For(receive, end) => {
                     let call = Call::Post(receive);
                     let request = Request {
                         peer: peer as usize,
                         call,
                     };
-                    Found::Entry(request, end)
+                    FoundEntry::Entry(request, end)
                 }
             }
         }
     }
 }
 
-fn packet_at(s: &[u8], at: usize) -> Found
+fn packet_at(s: &[u8], at: usize) -> FoundEntry
     ensures { λ r. ⌜ r ≡ packetAt (now (s .entry)) at ⌝ }
 {
     match pair_at(s, at) {
-        Pair::Bad => Found::Bad,
+        Pair::Bad => FoundEntry::Bad,
         Pair::Are(peer, size, next) => {
             let count = size as usize;
             if s.len() - next < count {
-                return Found::Bad;
+                return FoundEntry::Bad;
             }
             let end = next + count;
             let sent = Span {
@@ -104,33 +104,33 @@ fn packet_at(s: &[u8], at: usize) -> Found
                 peer: peer as usize,
                 call,
             };
-            Found::Entry(request, end)
+            FoundEntry::Entry(request, end)
         }
     }
 }
 
-fn cancel_at(s: &[u8], at: usize) -> Found
+fn cancel_at(s: &[u8], at: usize) -> FoundEntry
     ensures { λ r. ⌜ r ≡ cancelAt (now (s .entry)) at ⌝ }
 {
     match pair_at(s, at) {
-        Pair::Bad => Found::Bad,
+        Pair::Bad => FoundEntry::Bad,
         Pair::Are(peer, slot, next) => {
             let call = Call::Cancel(slot as usize);
             let request = Request {
                 peer: peer as usize,
                 call,
             };
-            Found::Entry(request, next)
+            FoundEntry::Entry(request, next)
         }
     }
 }
 
 // The entry at a place, and the place behind it.
-pub fn entry_at(s: &[u8], at: usize) -> Found
+pub fn entry_at(s: &[u8], at: usize) -> FoundEntry
     ensures { λ r. ⌜ r ≡ entryAt (now (s .entry)) at ⌝ }
 {
     match number_at(s, at) {
-        Number::Bad => Found::Bad,
+        Number::Bad => FoundEntry::Bad,
         Number::Is(first, next) => {
             if first == 1 {
                 return post_at(s, next);
@@ -141,7 +141,7 @@ pub fn entry_at(s: &[u8], at: usize) -> Found
             if first == 3 {
                 return cancel_at(s, next);
             }
-            Found::Bad
+            FoundEntry::Bad
         }
     }
 }

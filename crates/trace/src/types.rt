@@ -26,7 +26,7 @@ pub enum Asked {
 
 // One entry. A packet's bytes lie in the trace, and its reply buffer is left empty: whoever makes the
 // call lends one.
-pub enum Found {
+pub enum FoundEntry {
     Entry(Request, usize),
     Bad,
 }

@@ -57,13 +57,13 @@ pub record Number (p : Place) (x : Opd) : Type 0 where
   pub small : Fits (sourceOf x)
 
 -- the number that it stands for, where n is what the place has
-abbrev pub numberOf : ℕ → Opd → ℕ
-numberOf n x = number n (sourceOf x)
+abbrev pub operandNumber : ℕ → Opd → ℕ
+operandNumber n x = number n (sourceOf x)
 
-pub number-fits : {p : Place} {x : Opd} → Number p x → (n : ℕ) → n < 2 ^ 64 → numberOf n x < 2 ^ 64
+pub number-fits : {p : Place} {x : Opd} → Number p x → (n : ℕ) → n < 2 ^ 64 → operandNumber n x < 2 ^ 64
 number-fits {x = x} z n h = fits n (sourceOf x) (z .small) h
 
 module _ {M : Type 1} {𝓤 : URA M} {H : Heap 𝓤} {A : Atoms 𝓤} {K : Type 0} {W : Given 𝓤 H A} {Γ : List (Item 𝓤)} {E : Env 𝓤 H} where
   -- it is read, where the place is
-  pub number-read : K → {p : Place} {x : Opd} → Number p x → (n : ℕ) → Run.Opd K W Γ E (copy p) (vint w64 n) → Run.Opd K W Γ E x (vint w64 (numberOf n x))
-  number-read t {p} {x} z n o = subst (λ (y : Opd). Run.Opd K W Γ E y (vint w64 (numberOf n x))) (sym (z .told)) (read t p n (sourceOf x) (z .small) o)
+  pub number-read : K → {p : Place} {x : Opd} → Number p x → (n : ℕ) → Run.Opd K W Γ E (copy p) (vint w64 n) → Run.Opd K W Γ E x (vint w64 (operandNumber n x))
+  number-read t {p} {x} z n o = subst (λ (y : Opd). Run.Opd K W Γ E y (vint w64 (operandNumber n x))) (sym (z .told)) (read t p n (sourceOf x) (z .small) o)

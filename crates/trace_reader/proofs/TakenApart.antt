@@ -41,7 +41,7 @@ use types.Run.{params1, pass0, pass1, returns, stop}
 use Rattle.trace_reader.specs.declared.Reader.{Reader}
 use Rattle.trace_reader.proofs.ReaderTypes.{AtPlace, OfReader, ReaderAt, ReaderOwn, at-place-says, reader-laws, reader-type}
 use Rattle.trace_reader.proofs.ReaderTypes.{place-had, reader-twice, sliced, token}
-use Rattle.trace_reader.proofs.Sources.{Number, number-fits, number-read, numberOf}
+use Rattle.trace_reader.proofs.Sources.{Number, number-fits, number-read, operandNumber}
 use Rattle.trace_reader.proofs.Walks.{adds, calls-heard, promise, reaches}
 use Rattle.trace_reader.proofs.Reader.Laws as T′
 
@@ -74,7 +74,7 @@ module _ (R : RattleType) (f : List ℕ → ℕ → R .Denot) (ρ : Ty) (fits : 
       → r ≡ f (now (a .0 .trace)) (a .0 .place) → ent 𝓤 (emp 𝓤) (c κs a .ensures g r e)
 
   module _ {M : Type 1} (𝓤 : URA M) (H : Heap 𝓤) (A : Atoms 𝓤) (W : Given 𝓤 H A) (c : Clauses 𝓤 (OfReader R)) (tells : Told 𝓤 c) (x : Opd) (z : Taken x)
-      (placed : (n : ℕ) → numberOf n x ≡ n) (κ : Lft) (q : Share) (d : Reader) (g : c (κ, tt) (d, tt) .ghost) where
+      (placed : (n : ℕ) → operandNumber n x ≡ n) (κ : Lft) (q : Share) (d : Reader) (g : c (κ, tt) (d, tt) .ghost) where
     abbrev mach : Val
     mach = T′.lowered d
 
@@ -96,7 +96,7 @@ module _ (R : RattleType) (f : List ℕ → ℕ → R .Denot) (ρ : Ty) (fits : 
 
     -- the place that the callee is passed, all that it is passed, and what that owns
     abbrev at : ℕ
-    at = numberOf (d .place) x
+    at = operandNumber (d .place) x
 
     abbrev passed : Vals (AtPlace R .signature) (κ, tt)
     passed = (sliced (d .trace) ∷ [], (vint w64 at ∷ [], tt))
@@ -146,7 +146,7 @@ module _ (R : RattleType) (f : List ℕ → ℕ → R .Denot) (ρ : Ty) (fits : 
   -- the function meets its contract c where k meets its own and the number that it takes for the place is the place
   module _ {M : Type 1} (𝓤 : URA M) (H : Heap 𝓤) (𝓜 : Model 𝓤 H) (𝓖 : GhostRules 𝓤 H) (𝓡 : Running 𝓤 H 𝓜) (γ : Meaning) where
     pub taken : (key k : Name) {x : Opd} → Closed 𝓤 H (tables 𝓤 H 𝓜 𝓡 γ .C) (tables 𝓤 H 𝓜 𝓡 γ .Λ) key (takes ρ k x) → Taken x
-        → ((n : ℕ) → numberOf n x ≡ n) → (r : Routine) → γ k ≡ r → Triple 𝓤 (𝓡 .run r) (promise 𝓤 H (𝓖 .A) (AtPlace R) (at-place-says R f 𝓤))
+        → ((n : ℕ) → operandNumber n x ≡ n) → (r : Routine) → γ k ≡ r → Triple 𝓤 (𝓡 .run r) (promise 𝓤 H (𝓖 .A) (AtPlace R) (at-place-says R f 𝓤))
         → (c : Clauses 𝓤 (OfReader R)) → Told 𝓤 c → Meets 𝓤 H (𝓖 .A) (OfReader R .signature) (𝓡 .run (γ key)) (closing 𝓤 H (𝓖 .A) (OfReader R) c)
     taken key k {x} closed z placed r calls met c tells =
         let W = givenOf 𝓤 H 𝓜 𝓖 in

@@ -1,6 +1,6 @@
 // A trace reader: the bytes of a trace, and a place in them. The borrow checker covers no function over
 // such a struct, so each takes it apart and calls the function of `trace` on a slice and a number.
-use trace::Found;
+use trace::FoundEntry;
 use trace::SetUp;
 ghost use mathlib.Core.Path.{_≡_};
 ghost use Rattle.trace.specs.Entries.{setUpAt, entryAt};
@@ -26,7 +26,7 @@ pub fn set_up<'a>(r: Reader<'a>) -> SetUp
 }
 
 // The entry at the reader's place.
-pub fn entry<'a>(r: Reader<'a>) -> Found
+pub fn entry<'a>(r: Reader<'a>) -> FoundEntry
     ensures { λ f. ⌜ f ≡ entryAt (now (r .entry .trace)) (r .entry .place) ⌝ }
 {
     let place = r.place;
@@ -51,7 +51,7 @@ pub fn read_set_up(trace: &[u8]) -> SetUp
 }
 
 // The entry at a place of a trace, by a reader that is moved there.
-pub fn read_entry(trace: &[u8], place: usize) -> Found
+pub fn read_entry(trace: &[u8], place: usize) -> FoundEntry
     ensures { λ f. ⌜ f ≡ entryAt (now (trace .entry)) place ⌝ }
 {
     entry(moved(at(trace, 0), place))

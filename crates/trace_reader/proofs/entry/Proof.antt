@@ -5,8 +5,8 @@ use denote.Enum.Laws as EL
 use mathlib.Core.Path.{refl}
 use Rattle.trace.specs.Entries.{entryAt}
 use Rattle.trace_reader.proofs.TakenApart.{taken}
-use Rattle.trace.proofs.types.Found as S
-use Rattle.trace.proofs.types.Found.Laws as S′
+use Rattle.trace.proofs.types.FoundEntry as S
+use Rattle.trace.proofs.types.FoundEntry.Laws as S′
 use Rattle.trace.proofs.entry_at.Symbol as callee
 use Rattle.trace.proofs.entry_at.Met as callee-thm
 use Rattle.trace_reader.proofs.entry as own

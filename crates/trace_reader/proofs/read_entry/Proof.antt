@@ -30,13 +30,13 @@ use types.Kit.{ !, Given, _$_, _∵_, by, done, drop, fjoin, frame, fsplit, move
 use types.Run.{alloc0, alloc1, and-then, enter, forget, free0, free1, from, init, land, load, look, no-more, params1, pass0, pass1, returns}
 use types.Run.{stop}
 use Rattle.trace.specs.Entries.{entryAt}
-use Rattle.trace.specs.declared.types.Found.{Found}
+use Rattle.trace.specs.declared.types.FoundEntry.{FoundEntry}
 use Rattle.trace_reader.proofs.ReaderCalls.{calls-maker, calls-mover, calls-taker}
 use Rattle.trace_reader.proofs.ReaderTypes.{AtPlace, OfReader, SliceOwn, at-says, moved-says, of-reader-says, place-had, sliced, token}
 use Rattle.trace_reader.proofs.Sources.{Number, number-fits, number-read}
 use Rattle.trace_reader.proofs.Walks.{promise, reaches}
-use Rattle.trace.proofs.types.Found as S
-use Rattle.trace.proofs.types.Found.Laws as S′
+use Rattle.trace.proofs.types.FoundEntry as S
+use Rattle.trace.proofs.types.FoundEntry.Laws as S′
 use Rattle.trace_reader.proofs.at as at
 use Rattle.trace_reader.proofs.at.Symbol as at-def
 use Rattle.trace_reader.proofs.at.Met as at-thm
@@ -66,7 +66,7 @@ module _ {M : Type 1} (𝓤 : URA M) (H : Heap 𝓤) (A : Atoms 𝓤) (W : Given
   Post = walkOf 𝓤 H A (AtPlace S.the-row) stayed (answers 𝓤 H A) .post (((κ, tt), (q, tt), tt, (s, (n, tt)), passed), tt)
 
   -- the entry is that at the place that is passed
-  exits : (m : ℕ) → m ≡ n → (u : Val) (x : Found) → x ≡ entryAt (now s) m
+  exits : (m : ℕ) → m ≡ n → (u : Val) (x : FoundEntry) → x ≡ entryAt (now s) m
       → ent 𝓤 (⋆ 𝓤 H A (‵ (S.the-row .own x (u ∷ [])) ∷ token 𝓤 A κ q ∷ ‵ (SliceOwn κ s) ∷ [])) (Post u)
   exits m passed-on u x e =
       qed W (‵ (S.the-row .own x (u ∷ [])) ∷ token 𝓤 A κ q ∷ ‵ (SliceOwn κ s) ∷ []) ∵

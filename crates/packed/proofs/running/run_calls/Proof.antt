@@ -11,7 +11,7 @@ use Rattle.guarantees.proofs.CheckedOnce.{CheckedOnce, once-in-peers, once-owne
 use Rattle.guarantees.proofs.RunInvariant.{run-open, run-room, run-shut}
 use Rattle.packed.specs.Calls.{requestAt}
 use Rattle.packed.specs.Running.{ranFrom}
-use Rattle.packed.specs.declared.types.Found.{Found}
+use Rattle.packed.specs.declared.types.FoundRequest.{FoundRequest}
 use Rattle.packed.proofs.BatchInvariant.{BatchInvariant, batch-again, batch-bad, batch-end, batch-inside, batch-next, batch-start, batch-words}
 use Rattle.packed.proofs.running.run_calls.Statement.{statement}
 use Rattle.packed.proofs.running.run_calls.Tie as tie
@@ -79,7 +79,7 @@ enum-told-2 c = search needs
 -- ---- a call that was read
 
 read : (c : tie.After-admit Inv-loop μ-loop) → let a = c .before .before .before .before .before .before .before .before .before .before .before .before .before .before .before .args in let l = c .before .before .before .before .before .before .loop in
-    requestAt (a .calls .now) (length (a .bytes .now)) (length (l .replies)) (l .at) ≡ Found.Request (c .before .before .found .given .0 .0)
+    requestAt (a .calls .now) (length (a .bytes .now)) (length (l .replies)) (l .at) ≡ FoundRequest.Request (c .before .before .found .given .0 .0)
 read c = sym (c .before .before .before .before .request-at .ensures) ∙ c .before .before .found .given .1
 
 -- behind an open gate its peer is there

@@ -10,8 +10,8 @@ use native.Mathlib.Omega.{arith}
 use Rattle.laws.specs.Choose.{pick}
 use Rattle.protocol.specs.Reading.{readOf, readTyped}
 use Rattle.protocol.specs.Types.{admit, readerRows, rowOf}
-use Rattle.protocol.specs.declared.table.Found.{Found}
-use Rattle.protocol.specs.declared.table.Found.the-variants.{Row, Unknown}
+use Rattle.protocol.specs.declared.table.FoundRow.{FoundRow}
+use Rattle.protocol.specs.declared.table.FoundRow.the-variants.{Row, Unknown}
 use Rattle.protocol.specs.declared.table.TypeRow.{TypeRow}
 use Rattle.laws.proofs.Choosing.{pick-cases}
 use Rattle.protocol.proofs.TableRule.{sound}
@@ -19,7 +19,7 @@ use Rattle.packet.proofs.reader.among.Statement.{statement}
 use Rattle.packet.proofs.reader.among.Tie as tie
 
 -- what is admitted was found
-admitted : (which : TypeRow → Bool) (f : Found) (r : TypeRow) → admit which f ≡ Row r → f ≡ Row r
+admitted : (which : TypeRow → Bool) (f : FoundRow) (r : TypeRow) → admit which f ≡ Row r → f ≡ Row r
 unfolding admit
 admitted which Unknown r e = e
 admitted which (Row q) r e =

@@ -10,7 +10,7 @@ use native.Mathlib.Numerals.{add-one}
 use native.Mathlib.Omega.{arith}
 use Rattle.laws.specs.Choose.{pick}
 use Rattle.protocol.specs.Types.{rowIn, rowOf, rows}
-use Rattle.protocol.specs.declared.table.Found.the-variants.{Row, Unknown}
+use Rattle.protocol.specs.declared.table.FoundRow.the-variants.{Row, Unknown}
 use Rattle.protocol.specs.declared.table.TypeRow.{TypeRow}
 use Rattle.packet.proofs.table.find.Statement.{statement}
 use Rattle.packet.proofs.table.find.Tie as tie

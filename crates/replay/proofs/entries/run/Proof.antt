@@ -9,7 +9,7 @@ use mathlib.Core.Path.{_≡_, refl, sym, _∙_}
 use native.Mathlib.Omega.{arith}
 use Rattle.engine.specs.Leaves.{world}
 use Rattle.trace.specs.Entries.{entryAt}
-use Rattle.trace.specs.declared.types.Found.{Found}
+use Rattle.trace.specs.declared.types.FoundEntry.{FoundEntry}
 use Rattle.guarantees.specs.Outputs.{runLeaves}
 use Rattle.guarantees.proofs.CheckedOnce.{CheckedOnce, once-in-peers, once-owned}
 use Rattle.guarantees.proofs.RunInvariant.{run-open, run-room, run-shut}
@@ -78,7 +78,7 @@ inside : (c : tie.After-admit Inv-loop μ-loop) → c .before .before .before .b
 inside c = ltb-true _ _ (c .before .before .before .before .before .before .if1 .taken)
 
 read : (c : tie.After-admit Inv-loop μ-loop) → let e = c .before .before .before .found .given .0 in
-    entryAt (c .before .before .before .before .before .before .before .before .before .before .before .before .before .before .args .trace .now) (c .before .before .before .before .before .before .before .before .loop .place) ≡ Found.Entry (e .0) (e .1 .0)
+    entryAt (c .before .before .before .before .before .before .before .before .before .before .before .before .before .before .args .trace .now) (c .before .before .before .before .before .before .before .before .loop .place) ≡ FoundEntry.Entry (e .0) (e .1 .0)
 read c = sym (c .before .before .before .before .before .read-entry .ensures) ∙ c .before .before .before .found .given .1
 
 -- behind an open gate its peer is there

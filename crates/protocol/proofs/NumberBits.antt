@@ -10,7 +10,7 @@ use native.Mathlib.Decide.{ℕ-discrete}
 use native.Mathlib.Nat.{div-one, lt-of-lt-of-le, div-eq-of-lt}
 use native.Mathlib.Numerals.{one-add}
 use native.Mathlib.Omega.{arith}
-use Rattle.protocol.specs.InWords.{bitOf}
+use Rattle.protocol.specs.Sentences.{bitOf}
 use Rattle.laws.proofs.Choosing.{and-left, and-right}
 
 pub bitOf-zero : (x : ℕ) → bitOf x 0 ≡ x % 2

@@ -1,4 +1,4 @@
--- The reader's tests in 01's own words, over numbers, bits and bytes. Proved in proofs/WordsHold.antt, proofs/OrderHolds.antt and
+-- The reader's tests in 01's own words, over numbers, bits and bytes. Proved in proofs/SentencesHold.antt, proofs/OrderHolds.antt and
 -- proofs/BytesHold.antt.
 use Prim.Native.Nat.{ℕ, _+_, _-_, _/_, _%_, _^_, _<_}
 use lib.Dec.{eqb}
@@ -17,7 +17,7 @@ use Rattle.protocol.specs.Reading.{readOf}
 use Rattle.protocol.specs.Says.{readSays}
 use Rattle.protocol.specs.Types.{admit, readerRows, rowOf}
 use Rattle.protocol.specs.Values.{Values, bytesAt}
-use Rattle.protocol.specs.declared.table.Found.the-variants.{Row}
+use Rattle.protocol.specs.declared.table.FoundRow.the-variants.{Row}
 use Rattle.protocol.specs.declared.table.TypeRow.{TypeRow}
 use Rattle.protocol.specs.declared.types.Connid.{Connid}
 use Rattle.protocol.specs.declared.types.CqData.{CqData}
@@ -45,14 +45,14 @@ LengthsStandAsTold = (k : ℕ) (r : TypeRow) → rowOf k ≡ Row r → r .«leng
 
 -- ---- the order of the reader's refusals
 
-pub data Check : Type 0 where
-  overLimit noBase wrongVersion wrongType wrongFlags headerCut wrongLengths : Check
+pub data ReaderCheck : Type 0 where
+  overLimit noBase wrongVersion wrongType wrongFlags headerCut wrongLengths : ReaderCheck
 
 -- "6, then 7 if under 4 bytes, 8, 9, 10, 7, 11"
-abbrev pub readerChecks : List Check
+abbrev pub readerChecks : List ReaderCheck
 readerChecks = overLimit ∷ noBase ∷ wrongVersion ∷ wrongType ∷ wrongFlags ∷ headerCut ∷ wrongLengths ∷ []
 
-abbrev pub refusedAs : Check → ℕ
+abbrev pub refusedAs : ReaderCheck → ℕ
 refusedAs overLimit = 6
 refusedAs noBase = 7
 refusedAs wrongVersion = 8
@@ -88,22 +88,22 @@ abbrev pub headIn : List ℕ → ℕ
 headIn bs = headersEnd (typeIn bs) (flagsIn bs) bs
 
 -- the check fails: byte 0 is the type, byte 1 the version, bytes 2 and 3 the flags
-abbrev pub Fails : Bool → ℕ → List ℕ → Check → Type 0
-Fails all limit bs overLimit = limit < length bs
-Fails all limit bs noBase = length bs < 4
-Fails all limit bs wrongVersion = getD bs 1 0 ≡ 4 → ⊥
-Fails all limit bs wrongType = Known all (typeIn bs) → ⊥
-Fails all limit bs wrongFlags = FlagRule (typeIn bs) (flagsIn bs) → ⊥
-Fails all limit bs headerCut = length bs < headIn bs
-Fails all limit bs wrongLengths = LengthRule (typeIn bs) (fieldsTold bs (typeIn bs)) (length bs - headIn bs) → ⊥
+abbrev pub ReadFails : Bool → ℕ → List ℕ → ReaderCheck → Type 0
+ReadFails all limit bs overLimit = limit < length bs
+ReadFails all limit bs noBase = length bs < 4
+ReadFails all limit bs wrongVersion = getD bs 1 0 ≡ 4 → ⊥
+ReadFails all limit bs wrongType = Known all (typeIn bs) → ⊥
+ReadFails all limit bs wrongFlags = FlagRule (typeIn bs) (flagsIn bs) → ⊥
+ReadFails all limit bs headerCut = length bs < headIn bs
+ReadFails all limit bs wrongLengths = LengthRule (typeIn bs) (fieldsTold bs (typeIn bs)) (length bs - headIn bs) → ⊥
 
 -- the check at place i of the list
-abbrev pub checkAt : ℕ → Check
+abbrev pub checkAt : ℕ → ReaderCheck
 checkAt i = getD readerChecks i wrongLengths
 
 -- "Given exactly when (no earlier check fails)": the check at place i fails, and none before it
 abbrev pub FirstToFail : Bool → ℕ → List ℕ → ℕ → Type 0
-FirstToFail all limit bs = First (Fails all limit bs) checkAt
+FirstToFail all limit bs = First (ReadFails all limit bs) checkAt
 
 unfoldable pub RefusedByFirstToFail : Type 0
 RefusedByFirstToFail =
@@ -113,7 +113,7 @@ RefusedByFirstToFail =
 unfoldable pub ReadIfNoneFails : Type 0
 ReadIfNoneFails =
     (all : Bool) (limit : ℕ) (bs : List ℕ)
-    → ((v : Values) × (readSays bs (readOf (readerRows all) limit bs) ≡ gives v)) ↔ ((c : Check) → Fails all limit bs c → ⊥)
+    → ((v : Values) × (readSays bs (readOf (readerRows all) limit bs) ≡ gives v)) ↔ ((c : ReaderCheck) → ReadFails all limit bs c → ⊥)
 
 -- ---- what a packet that is read tells, by its bytes
 

@@ -1,4 +1,4 @@
--- The tests that engine and plain receiver share say what 01 says: the statements of specs/InWords.antt but for those on offsets and on a packet's fields.
+-- The tests that engine and plain receiver share say what 01 says: the statements of specs/Sentences.antt but for those on offsets and on a packet's fields.
 use Prim.Native.Nat.{ℕ, zero, suc, _+_, _/_, _^_, _<_, min, max}
 use borrow.Author.Tests.{ltb-true, eqb-true, eqb-false, not-true, lt-ltb, le-ltb, eq-eqb}
 use lib.Bits.{bitOr, or-step, or-shr}
@@ -11,22 +11,22 @@ use mathlib.Core.Path.{_≡_, refl, sym, ap, ap₂, _∙_, subst}
 use native.Mathlib.Decide.{decLt, ℕ-discrete}
 use native.Mathlib.Omega.{arith}
 use Rattle.laws.specs.Choose.{pick}
-use Rattle.protocol.specs.InWords.{bitOf}
+use Rattle.protocol.specs.Sentences.{bitOf}
 use Rattle.protocol.specs.declared.table.Shape.{Shape}
 use Rattle.protocol.specs.declared.table.Shape.the-variants.{Cts, CtsData, Eager, LongCts, Medium}
-use Rattle.peer.specs.InWords.{AheadIsTheDistance, EagerIs64And65, EmptyOverlapsNothing, FoundIsTheLowestOpen, LongIs68And69, MediumIs66And67, NothingFoundIsNoneOpen, OpenUnder, OtherMessageDiffers, OverlapIsASharedByte, PlainFitsPlain, RtmIs64To69, SameMessageIsAllEqual, TaggedFitsOutsideIgnore, UnfitIsNoneWaiting}
+use Rattle.peer.specs.Sentences.{AheadIsTheDistance, EagerIs64And65, EmptyOverlapsNothing, FoundIsTheLowestOpen, LongIs68And69, MediumIs66And67, NothingFoundIsNoneOpen, OpenUnder, OtherMessageDiffers, OverlapIsASharedByte, PlainFitsPlain, RtmIs64To69, SameMessageIsAllEqual, TaggedFitsOutsideIgnore, UnfitIsNoneWaiting}
 use Rattle.peer.specs.Incomings.{isEager, isLong, isMedium, isRtm}
 use Rattle.peer.specs.Matching.{ahead, bothOrNeither, fits, sameMedium, sameMessage, sameOutside}
 use Rattle.peer.specs.PacketBytes.{typeNumber, typeOf, typeSaid}
 use Rattle.peer.specs.Plain.{Role, entryAt, firstPosted, idle, openIn, receiving, waiting}
 use Rattle.peer.specs.State.{overlap}
 use Rattle.peer.specs.declared.types.Fit.{Fit}
-use Rattle.peer.specs.declared.types.Found.{Found}
+use Rattle.peer.specs.declared.types.FoundOpen.{FoundOpen}
 use Rattle.peer.specs.declared.types.Inbound.{Inbound}
 use Rattle.peer.specs.declared.types.Receive.{Receive}
 use Rattle.laws.proofs.Choosing.{and-left, and-right, branch, clashing, or-cases, pick-false, pick-true, tested}
 use Rattle.laws.proofs.Comparing.{both-tests, eq-words, le-words}
-use Rattle.protocol.proofs.BitWords.{same-bits}
+use Rattle.protocol.proofs.NumberBits.{same-bits}
 use Rattle.peer.proofs.EntrySearch.{AtMost, foremost, most-each}
 
 -- ---- ranges
@@ -233,19 +233,19 @@ other-message-differs m h = (
 abbrev Lowest : List Role → ℕ → ℕ → Inbound → Type 0
 Lowest us id i o = OpenUnder us id i o × ((j : ℕ) (m : Inbound) → j < i → OpenUnder us id j m → ⊥)
 
-abbrev Searched : List Role → ℕ → ℕ → Found → Type 0
-Searched us id k (Found.At i o) = (j : ℕ) × (i ≡ k + j) × Lowest us id j o
-Searched us id k Found.Nothing = (j : ℕ) (m : Inbound) → OpenUnder us id j m → ⊥
+abbrev Searched : List Role → ℕ → ℕ → FoundOpen → Type 0
+Searched us id k (FoundOpen.At i o) = (j : ℕ) × (i ≡ k + j) × Lowest us id j o
+Searched us id k FoundOpen.Nothing = (j : ℕ) (m : Inbound) → OpenUnder us id j m → ⊥
 
 -- one role more, that is not open under the id
-passed-over : (u : Role) (us : List Role) (id k : ℕ) (f : Found) → ((m : Inbound) → OpenUnder (u ∷ us) id 0 m → ⊥) → Searched us id (suc k) f
+passed-over : (u : Role) (us : List Role) (id k : ℕ) (f : FoundOpen) → ((m : Inbound) → OpenUnder (u ∷ us) id 0 m → ⊥) → Searched us id (suc k) f
     → Searched (u ∷ us) id k f
-passed-over u us id k (Found.At i o) ne (j, e, (w, least)) = (suc j, omega arith, (w, lower))
+passed-over u us id k (FoundOpen.At i o) ne (j, e, (w, least)) = (suc j, omega arith, (w, lower))
   where
     lower : (x : ℕ) (m : Inbound) → x < suc j → OpenUnder (u ∷ us) id x m → ⊥
     lower zero m l y = ne m y
     lower (suc x) m l y = least x m (omega arith) y
-passed-over u us id k Found.Nothing ne rest = none-here
+passed-over u us id k FoundOpen.Nothing ne rest = none-here
   where
     none-here : (x : ℕ) (m : Inbound) → OpenUnder (u ∷ us) id x m → ⊥
     none-here zero m y = ne m y
@@ -259,7 +259,7 @@ searched id k (idle ∷ us) =
 searched id k (waiting r ∷ us) =
     passed-over (waiting r) us id k (openIn id (suc k) us) (λ m y. let z : _≡_ {A = ℕ} 0 1 = cc (y .0) in omega arith) (searched id (suc k) us)
 searched id k (receiving o ∷ us) =
-    branch (Searched (receiving o ∷ us) id k) (eqb (o .message .id) id) (Found.At k o) (openIn id (suc k) us)
+    branch (Searched (receiving o ∷ us) id k) (eqb (o .message .id) id) (FoundOpen.At k o) (openIn id (suc k) us)
     (λ x. (0, omega arith, ((refl, eqb-true (o .message .id) id x), λ j m l. absurd (omega arith))))
     (λ x. passed-over (receiving o) us id k (openIn id (suc k) us) (other x) (searched id (suc k) us))
   where
@@ -269,24 +269,24 @@ searched id k (receiving o ∷ us) =
         eqb-false (o .message .id) id x (ap (λ (z : Inbound). z .message .id) same ∙ y .1)
 
 module _ (us : List Role) (id : ℕ) where
-  lowest-at : (i : ℕ) (o : Inbound) → openIn id 0 us ≡ Found.At i o → Lowest us id i o
+  lowest-at : (i : ℕ) (o : Inbound) → openIn id 0 us ≡ FoundOpen.At i o → Lowest us id i o
   lowest-at i o e =
       let (j, x, w) = subst (Searched us id 0) e (searched id 0 us) in
       let same : j ≡ i = omega arith in
       subst (λ (n : ℕ). Lowest us id n o) same w
 
-  at-lowest : (f : Found) → openIn id 0 us ≡ f → (i : ℕ) (o : Inbound) → Lowest us id i o → f ≡ Found.At i o
-  at-lowest (Found.At j m) e i o w = go (lowest-at j m e) (decLt i j) (decLt j i)
+  at-lowest : (f : FoundOpen) → openIn id 0 us ≡ f → (i : ℕ) (o : Inbound) → Lowest us id i o → f ≡ FoundOpen.At i o
+  at-lowest (FoundOpen.At j m) e i o w = go (lowest-at j m e) (decLt i j) (decLt j i)
     where
-      go : Lowest us id j m → Dec (i < j) → Dec (j < i) → Found.At j m ≡ Found.At i o
+      go : Lowest us id j m → Dec (i < j) → Dec (j < i) → FoundOpen.At j m ≡ FoundOpen.At i o
       go v (yes x) y = absurd (v .1 i o x (w .0))
       go v (no x) (yes y) = absurd (w .1 j m y (v .0))
       go v (no x) (no y) =
           let place : j ≡ i = omega (arith, x, y) in
           let role : receiving m ≡ receiving o = sym (v .0 .0) ∙ ap (λ (n : ℕ). getD us n idle) place ∙ w .0 .0 in
           let same : m ≡ o = cc in
-          ap₂ Found.At place same
-  at-lowest Found.Nothing e i o w = absurd (subst (Searched us id 0) e (searched id 0 us) i o (w .0))
+          ap₂ FoundOpen.At place same
+  at-lowest FoundOpen.Nothing e i o w = absurd (subst (Searched us id 0) e (searched id 0 us) i o (w .0))
 
 pub found-is-the-lowest-open : FoundIsTheLowestOpen
 unfolding FoundIsTheLowestOpen
@@ -296,9 +296,9 @@ pub nothing-found-is-none-open : NothingFoundIsNoneOpen
 unfolding NothingFoundIsNoneOpen
 nothing-found-is-none-open us id = (λ e. subst (Searched us id 0) e (searched id 0 us), λ w. none-at (openIn id 0 us) (searched id 0 us) w)
   where
-    none-at : (f : Found) → Searched us id 0 f → ((j : ℕ) (m : Inbound) → OpenUnder us id j m → ⊥) → f ≡ Found.Nothing
-    none-at (Found.At i o) (j, e, (x, least)) w = absurd (w j o x)
-    none-at Found.Nothing s w = refl
+    none-at : (f : FoundOpen) → Searched us id 0 f → ((j : ℕ) (m : Inbound) → OpenUnder us id j m → ⊥) → f ≡ FoundOpen.Nothing
+    none-at (FoundOpen.At i o) (j, e, (x, least)) w = absurd (w j o x)
+    none-at FoundOpen.Nothing s w = refl
 
 -- ---- the receive that a packet fits
 

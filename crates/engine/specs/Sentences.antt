@@ -1,4 +1,4 @@
--- What 01 says of the set-up and of what a call leaves alone, over numbers, bits and bytes. Proved in proofs/OthersHold.antt and proofs/WordsHold.antt.
+-- What 01 says of the set-up and of what a call leaves alone, over numbers, bits and bytes. Proved in proofs/OthersHold.antt and proofs/SentencesHold.antt.
 use Prim.Native.Nat.{ℕ, _+_, _*_, _<_}
 use lib.ListN.{length, getD}
 use mathlib.Core.List.{List}

@@ -7,7 +7,7 @@ use mathlib.Core.Path.{_≡_, refl, sym, ap, _∙_, subst}
 use native.Mathlib.Nat.{zero-div}
 use native.Mathlib.Omega.{arith}
 use Rattle.bitmap.specs.Map.{bit, bitAt}
-use Rattle.engine.specs.InWords.{ClearMap, FreshEngine, SameSetUp, SetUpKept, SetUpStartsFresh}
+use Rattle.engine.specs.Sentences.{ClearMap, FreshEngine, SameSetUp, SetUpKept, SetUpStartsFresh}
 use Rattle.engine.specs.SetUp.{Prepared, engineOf, lentFits, notStarted, numbersFit, peerAt, peerCount, setUp}
 use Rattle.engine.specs.Steps.{Turn, World, peerTurn, putBack}
 use Rattle.engine.specs.declared.types.Ready.{Ready}

@@ -1,4 +1,4 @@
--- Numbers are little-endian and types are the table's: the first statements of specs/InWords.antt.
+-- Numbers are little-endian and types are the table's: the first statements of specs/Sentences.antt.
 use Prim.Native.Nat.{ℕ, zero, suc, _+_, _-_, _*_, _/_, _%_, _^_, _<_}
 use borrow.Author.Tests.{leb-true, eqb-true}
 use lib.Dec.{leb, eqb}
@@ -12,16 +12,16 @@ use native.Mathlib.Omega.{arith}
 use Rattle.laws.specs.Choose.{pick}
 use Rattle.laws.specs.Parts.{part}
 use Rattle.protocol.specs.ByType.{Known}
-use Rattle.protocol.specs.InWords.{NumbersAreLittleEndian, TypesAreTheTables}
+use Rattle.protocol.specs.Sentences.{NumbersAreLittleEndian, TypesAreTheTables}
 use Rattle.protocol.specs.Types.{admit, readerRows, rowIn, rowOf}
-use Rattle.protocol.specs.declared.table.Found.{Found}
-use Rattle.protocol.specs.declared.table.Found.the-variants.{Row, Unknown}
+use Rattle.protocol.specs.declared.table.FoundRow.{FoundRow}
+use Rattle.protocol.specs.declared.table.FoundRow.the-variants.{Row, Unknown}
 use Rattle.protocol.specs.declared.table.TypeRow.{TypeRow}
 use Rattle.wire.specs.LittleEndian.{leAt, leOf}
 use Rattle.laws.proofs.Choosing.{and-left, and-right, clashing, or-cases, pick-cases, pick-first, pick-true}
 use Rattle.laws.proofs.Reading.{getD-part}
 use Rattle.laws.proofs.Storing.{part-all}
-use Rattle.protocol.proofs.BitWords.{each-below}
+use Rattle.protocol.proofs.NumberBits.{each-below}
 use Rattle.protocol.proofs.TableRule.{row-kind, row-passes}
 use Rattle.wire.proofs.Laws.{le-at-fits}
 
@@ -48,16 +48,16 @@ numbers-are-little-endian n bs at b = (
 
 -- ---- types
 
-abbrev admitted : Bool → Found → Bool
+abbrev admitted : Bool → FoundRow → Bool
 admitted all Unknown = false
 admitted all (Row r) = all || r .served
 
-row-of : (all : Bool) (o : Found) → admitted all o ≡ true → (r : TypeRow) × (admit (readerRows all) o ≡ Row r)
+row-of : (all : Bool) (o : FoundRow) → admitted all o ≡ true → (r : TypeRow) × (admit (readerRows all) o ≡ Row r)
 unfolding admit
 row-of all Unknown e = absurd (false≢true e)
 row-of all (Row r) e = (r, pick-true (Row r) Unknown e)
 
-pub of-row : (all : Bool) (o : Found) (r : TypeRow) → admit (readerRows all) o ≡ Row r → (o ≡ Row r) × ((all || r .served) ≡ true)
+pub of-row : (all : Bool) (o : FoundRow) (r : TypeRow) → admit (readerRows all) o ≡ Row r → (o ≡ Row r) × ((all || r .served) ≡ true)
 unfolding admit
 of-row all Unknown r e = let z : _≡_ {A = ℕ} 0 1 = cc in absurd (omega arith)
 of-row all (Row q) r e =
@@ -65,7 +65,7 @@ of-row all (Row q) r e =
     let same : q ≡ r = cc in
     (s, rw same at t)
 
-admitted-any : (all : Bool) (o : Found) → admitted false o ≡ true → admitted all o ≡ true
+admitted-any : (all : Bool) (o : FoundRow) → admitted false o ≡ true → admitted all o ≡ true
 admitted-any all Unknown e = e
 admitted-any all (Row r) e = ap (λ (t : Bool). all || t) e ∙ or-true all
 

@@ -11,11 +11,11 @@ use native.Mathlib.Omega.{arith}
 use Rattle.laws.specs.Choose.{pick}
 use Rattle.protocol.specs.ByType.{CtsOrData, FlagRule, Known, LengthRule, connidHeader, fieldsTold, headerLength, lengthAt, ownTold, shapeTold, taggedTold}
 use Rattle.protocol.specs.FieldNumbers.{fieldsIn, numberAt, numberIn}
-use Rattle.protocol.specs.InWords.{LengthsStandAsTold, TypesAreTheTables}
+use Rattle.protocol.specs.Sentences.{LengthsStandAsTold, TypesAreTheTables}
 use Rattle.protocol.specs.Layout.{Field, has, layout, msg-length, ownFields, recv-length, seg-length, seg-offset}
 use Rattle.protocol.specs.Lengths.{lengthsFit}
 use Rattle.protocol.specs.Types.{admit, everyRow, rowOf}
-use Rattle.protocol.specs.declared.table.Found.the-variants.{Row, Unknown}
+use Rattle.protocol.specs.declared.table.FoundRow.the-variants.{Row, Unknown}
 use Rattle.protocol.specs.declared.table.Shape.{Shape}
 use Rattle.protocol.specs.declared.table.Shape.the-variants.{Cts, CtsData, Eager, LongCts, Medium}
 use Rattle.protocol.specs.declared.table.TypeRow.{TypeRow}
@@ -24,7 +24,7 @@ use Rattle.laws.proofs.Choosing.{allTrue, or-cases}
 use Rattle.laws.proofs.Comparing.{both-tests, eq-words, le-words}
 use Rattle.protocol.proofs.LayoutLaws.{map-among}
 use Rattle.protocol.proofs.TableRule.{row-kind, row-passes, rows-say}
-use Rattle.protocol.proofs.WordsHold.{types-are-the-tables}
+use Rattle.protocol.proofs.SentencesHold.{types-are-the-tables}
 
 pub header-in-words : (k : ℕ) (r : TypeRow) → rowOf k ≡ Row r → r .header ≡ headerLength k
 unfolding pick

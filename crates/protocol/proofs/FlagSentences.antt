@@ -12,16 +12,16 @@ use Rattle.laws.specs.Choose.{pick}
 use Rattle.protocol.specs.ByType.{CtsFlags, CtsOrData, FlagRule, Rtm, RtmFlags, Tagged, bitOf}
 use Rattle.protocol.specs.Flags.{flagsFit, hasFlag}
 use Rattle.protocol.specs.Optional.{Section, array, connid, cq-data, flagOf, flagged, isAmong, options, raw-address}
-use Rattle.protocol.specs.InWords.{TypesAreTheTables}
+use Rattle.protocol.specs.Sentences.{TypesAreTheTables}
 use Rattle.protocol.specs.Rules.{Sound}
 use Rattle.protocol.specs.Types.{admit, everyRow, rowOf}
-use Rattle.protocol.specs.declared.table.Found.the-variants.{Row}
+use Rattle.protocol.specs.declared.table.FoundRow.the-variants.{Row}
 use Rattle.protocol.specs.declared.table.TypeRow.{TypeRow}
 use Rattle.laws.proofs.Choosing.{clashing, or-cases, or-left, or-right, pick-false, pick-true, tested}
-use Rattle.protocol.proofs.BitWords.{allBelow, bitOf-past, bitOf-without, each-below, same-bits}
+use Rattle.protocol.proofs.NumberBits.{allBelow, bitOf-past, bitOf-without, each-below, same-bits}
 use Rattle.protocol.proofs.TableRule.{rows-say, sound}
-use Rattle.protocol.proofs.TypeWords.{request-in-words}
-use Rattle.protocol.proofs.WordsHold.{types-are-the-tables}
+use Rattle.protocol.proofs.TypeSentences.{request-in-words}
+use Rattle.protocol.proofs.SentencesHold.{types-are-the-tables}
 
 -- "must have .., may have .., and no other": each flag that the type may not have is set exactly if it must have it
 abbrev ByBits : ℕ → ℕ → ℕ → Type 0

@@ -1,5 +1,5 @@
 -- The tests that engine and plain receiver share, in 01's own words, over numbers, bits and bytes.
--- Proved in proofs/WordsHold.antt, proofs/OffsetsHold.antt and proofs/FieldsHold.antt.
+-- Proved in proofs/SentencesHold.antt, proofs/OffsetsHold.antt and proofs/FieldsHold.antt.
 use Prim.Native.Nat.{ℕ, _+_, _%_, _^_, _≤_, _<_}
 use lib.ListN.{length, getD}
 use mathlib.Core.Bool.{Bool, true, false}
@@ -8,7 +8,7 @@ use mathlib.Core.Logic.{_⊎_, _↔_, _≢_}
 use mathlib.Core.Path.{_≡_}
 use Rattle.bitmap.specs.Offsets.{countOf, firstNot, someOf}
 use Rattle.protocol.specs.ByType.{taggedTold}
-use Rattle.protocol.specs.InWords.{bitOf}
+use Rattle.protocol.specs.Sentences.{bitOf}
 use Rattle.protocol.specs.Reading.{readOf}
 use Rattle.protocol.specs.declared.table.Shape.{Shape}
 use Rattle.protocol.specs.declared.types.Packet.{Packet}
@@ -21,7 +21,7 @@ use Rattle.peer.specs.PacketBytes.{typeNumber, typeOf, typeSaid}
 use Rattle.peer.specs.Plain.{Entry, Role, entryAt, firstPosted, idle, openIn, receiving, waiting}
 use Rattle.peer.specs.State.{overlap}
 use Rattle.peer.specs.declared.types.Fit.{Fit}
-use Rattle.peer.specs.declared.types.Found.{Found}
+use Rattle.peer.specs.declared.types.FoundOpen.{FoundOpen}
 use Rattle.peer.specs.declared.types.Inbound.{Inbound}
 use Rattle.peer.specs.declared.types.Incoming.{Incoming}
 use Rattle.peer.specs.declared.types.Message.{Message}
@@ -104,12 +104,12 @@ OpenUnder us id i o = (getD us i idle ≡ receiving o) × (o .message .id ≡ id
 unfoldable pub FoundIsTheLowestOpen : Type 0
 FoundIsTheLowestOpen =
     (us : List Role) (id i : ℕ) (o : Inbound)
-    → (openIn id 0 us ≡ Found.At i o) ↔ (OpenUnder us id i o × ((j : ℕ) (m : Inbound) → j < i → OpenUnder us id j m → ⊥))
+    → (openIn id 0 us ≡ FoundOpen.At i o) ↔ (OpenUnder us id i o × ((j : ℕ) (m : Inbound) → j < i → OpenUnder us id j m → ⊥))
 
 -- 15, 12, 13: "if not open"
 unfoldable pub NothingFoundIsNoneOpen : Type 0
 NothingFoundIsNoneOpen =
-    (us : List Role) (id : ℕ) → (openIn id 0 us ≡ Found.Nothing) ↔ ((j : ℕ) (m : Inbound) → OpenUnder us id j m → ⊥)
+    (us : List Role) (id : ℕ) → (openIn id 0 us ≡ FoundOpen.Nothing) ↔ ((j : ℕ) (m : Inbound) → OpenUnder us id j m → ⊥)
 
 -- 13: "no posted receive of this peer fits"
 unfoldable pub UnfitIsNoneWaiting : Type 0
