@@ -13,21 +13,6 @@ returns : tie.Need-returns
 unfolding cleared
 returns c = rw (c .if1 .taken)
 
-mask-requires : tie.Need-mask-requires
-mask-requires c κs = search needs
-
-mul-map : tie.Need-mul-map
-mul-map c = search needs
-
-slice-read-map : tie.Need-slice-read-map
-slice-read-map c = search needs
-
-slice-write-map : tie.Need-slice-write-map
-slice-write-map c = search needs
-
-same-length : tie.Need-same-length
-same-length c = search needs
-
 returns-2 : tie.Need-returns-2
 returns-2 c =
     let a = c .before .before .before .before .args in
@@ -39,4 +24,4 @@ returns-2 c =
 pub clear-part-spec : {M : Type 1} → statement M
 clear-part-spec =
     tie.close
-    (tie.spec returns mask-requires mul-map slice-read-map slice-write-map same-length returns-2)
+    (tie.spec returns (λ c κs. search needs) (λ c. search needs) (λ c. search needs) (λ c. search needs) (λ c. search needs) returns-2)

@@ -7,15 +7,6 @@ use native.Mathlib.Omega.{arith}
 use Rattle.bitmap.proofs.mask.Statement.{statement}
 use Rattle.bitmap.proofs.mask.Tie as tie
 
-sub-result : tie.Need-sub-result
-sub-result c = search needs
-
-shr-result : tie.Need-shr-result
-shr-result c = search needs
-
-shl-result : tie.Need-shl-result
-shl-result c = search needs
-
 returns : tie.Need-returns
 returns c =
     let n = c .args .n in
@@ -25,4 +16,4 @@ returns c =
     rw (s, high (2 ^ n - 1) (64 - n) (ones-lt (64 - n)), high-ones n lo) (shl-exact n lo 64 (ones-lt n) (omega arith))
 
 pub mask-spec : {M : Type 1} → statement M
-mask-spec = tie.close (tie.spec sub-result shr-result shl-result returns)
+mask-spec = tie.close (tie.spec (λ c. search needs) (λ c. search needs) (λ c. search needs) returns)

@@ -14,9 +14,6 @@ found : (c : tie.Start) → let a = c .args in
     min (trailingZeros 64 ((18446744073709551615 - a .w) / 2 ^ a .lo)) (a .n) ≡ firstNot (setIn (a .w)) (a .lo) (a .n)
 found c = run-word (c .args .w) (c .args .lo) (c .args .n) (c .fits .w .fits) (omega arith)
 
-shr-run : tie.Need-shr-run
-shr-run c = search needs
-
 cast-run : tie.Need-cast-run
 cast-run c = omega (arith, trailing-le 64 ((18446744073709551615 - c .args .w) / 2 ^ c .args .lo))
 
@@ -27,4 +24,4 @@ returns-2 : tie.Need-returns-2
 returns-2 c = let r = found (c .before) in omega arith
 
 pub ones-from-spec : {M : Type 1} → statement M
-ones-from-spec = tie.close (tie.spec shr-run cast-run returns returns-2)
+ones-from-spec = tie.close (tie.spec (λ c. search needs) cast-run returns returns-2)

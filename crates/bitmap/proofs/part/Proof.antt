@@ -13,18 +13,9 @@ returns c =
     let a = c .before .before .args in
     rw (c .if1 .taken, mask-zero (a .i % 64)) (sym (and-zero-r (getD (a .map .now) (a .i / 64) 0)))
 
-mul-result : tie.Need-mul-result
-mul-result c = search needs
-
-shared-slice-read-result : tie.Need-shared-slice-read-result
-shared-slice-read-result c = search needs
-
-mask-requires : tie.Need-mask-requires
-mask-requires c κs = search needs
-
 returns-2 : tie.Need-returns-2
 returns-2 c = rw (c .mask .ensures)
 
 pub part-spec : {M : Type 1} → statement M
 part-spec =
-    tie.close (tie.spec returns mul-result shared-slice-read-result mask-requires returns-2)
+    tie.close (tie.spec returns (λ c. search needs) (λ c. search needs) (λ c κs. search needs) returns-2)

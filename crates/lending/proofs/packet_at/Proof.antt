@@ -10,39 +10,6 @@ use Rattle.lending.proofs.PartLaws.{packet-put}
 use Rattle.lending.proofs.packet_at.Statement.{statement}
 use Rattle.lending.proofs.packet_at.Tie as tie
 
-mul-base : tie.Need-mul-base
-mul-base c = search needs
-
-add-end : tie.Need-add-end
-add-end c = search needs
-
-mul-first : tie.Need-mul-first
-mul-first c = search needs
-
-add-last : tie.Need-add-last
-add-last c = search needs
-
-sub-packet : tie.Need-sub-packet
-sub-packet c = search needs
-
-part-packet-start : tie.Need-part-packet-start
-part-packet-start c = search needs
-
-part-packet-end : tie.Need-part-packet-end
-part-packet-end c = search needs
-
-mul-packet : tie.Need-mul-packet
-mul-packet c = search needs
-
-sub-packet-2 : tie.Need-sub-packet-2
-sub-packet-2 c = search needs
-
-part-packet-start-2 : tie.Need-part-packet-start-2
-part-packet-start-2 c = search needs
-
-part-packet-end-2 : tie.Need-part-packet-end-2
-part-packet-end-2 c = search needs
-
 packet-requires : tie.Need-packet-requires
 packet-requires c κs =
     let s = c .before .before .before .before .before .before .before in
@@ -51,15 +18,6 @@ packet-requires c κs =
     let w : 64 * (a .area / 64) ≡ a .area = omega (arith, m .mapped .whole) in
     rw (length-lent (a .arena .now) (a .p * a .area) (a .area) (m .inArena), length-lent (a .map .now) (a .p * (a .area / 64)) (a .area / 64) (m .mapped .inMap))
     (record { low = m .low; high = m .high }, record { whole = w; small = m .mapped .short; fits = m .mapped .fits })
-
-same-length : tie.Need-same-length
-same-length c = search needs
-
-same-length-2 : tie.Need-same-length-2
-same-length-2 c = search needs
-
-same-length-3 : tie.Need-same-length-3
-same-length-3 c = search needs
 
 returns : tie.Need-returns
 returns c =
@@ -73,19 +31,19 @@ pub packet-at-spec : {M : Type 1} → statement M
 packet-at-spec =
     tie.close
     (tie.spec
-    mul-base
-    add-end
-    mul-first
-    add-last
-    sub-packet
-    part-packet-start
-    part-packet-end
-    mul-packet
-    sub-packet-2
-    part-packet-start-2
-    part-packet-end-2
+    (λ c. search needs)
+    (λ c. search needs)
+    (λ c. search needs)
+    (λ c. search needs)
+    (λ c. search needs)
+    (λ c. search needs)
+    (λ c. search needs)
+    (λ c. search needs)
+    (λ c. search needs)
+    (λ c. search needs)
+    (λ c. search needs)
     packet-requires
-    same-length
-    same-length-2
-    same-length-3
+    (λ c. search needs)
+    (λ c. search needs)
+    (λ c. search needs)
     returns)

@@ -8,24 +8,6 @@ use Rattle.laws.proofs.Storing.{length-lent, lent-part}
 use Rattle.lending.proofs.report_at.Statement.{statement}
 use Rattle.lending.proofs.report_at.Tie as tie
 
-mul-first : tie.Need-mul-first
-mul-first c = search needs
-
-add-last : tie.Need-add-last
-add-last c = search needs
-
-mul-report : tie.Need-mul-report
-mul-report c = search needs
-
-sub-report : tie.Need-sub-report
-sub-report c = search needs
-
-part-report-start : tie.Need-part-report-start
-part-report-start c = search needs
-
-part-report-end : tie.Need-part-report-end
-part-report-end c = search needs
-
 report-requires : tie.Need-report-requires
 report-requires c κs =
     let s = c .before .before in
@@ -44,11 +26,11 @@ pub report-at-spec : {M : Type 1} → statement M
 report-at-spec =
     tie.close
     (tie.spec
-    mul-first
-    add-last
-    mul-report
-    sub-report
-    part-report-start
-    part-report-end
+    (λ c. search needs)
+    (λ c. search needs)
+    (λ c. search needs)
+    (λ c. search needs)
+    (λ c. search needs)
+    (λ c. search needs)
     report-requires
     returns)

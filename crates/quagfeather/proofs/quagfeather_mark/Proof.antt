@@ -18,12 +18,6 @@ returns : tie.Need-returns
 unfolding markedIn pick
 returns c = rw (lt-leb _ _ (c .if1 .taken))
 
-mul-ends-by : tie.Need-mul-ends-by
-mul-ends-by c = search needs
-
-ends-by-requires : tie.Need-ends-by-requires
-ends-by-requires c κs = search needs
-
 returns-2 : tie.Need-returns-2
 unfolding markedIn pick
 returns-2 c = rw (le-leb _ _ (c .before .before .if1 .left), ← c .before .ends-by .ensures, not-true (c .before .ends-by .result) (c .if2 .taken))
@@ -31,18 +25,12 @@ returns-2 c = rw (le-leb _ _ (c .before .before .if1 .left), ← c .before .ends
 is-touched-requires : tie.Need-is-touched-requires
 is-touched-requires c κs = let h = inside (c .before) in (h, omega (arith, h, c .before .before .before .if1 .left))
 
-same-length : tie.Need-same-length
-same-length c = search needs
-
 returns-3 : tie.Need-returns-3
 unfolding markedIn pick
 returns-3 c = rw (le-leb _ _ (c .before .before .before .before .before .if1 .left), ← c .before .before .before .before .ends-by .ensures, not-false (c .before .before .before .before .ends-by .result) (c .before .before .before .if2 .left), ← c .before .is-touched .ensures, c .if3 .taken)
 
 mark-requires : tie.Need-mark-requires
 mark-requires c κs = let h = inside (c .before .before .before .before) in (h, omega (arith, h, c .before .before .before .before .before .before .if1 .left))
-
-same-length-2 : tie.Need-same-length-2
-same-length-2 c = search needs
 
 returns-4 : tie.Need-returns-4
 unfolding markedIn pick
@@ -53,12 +41,12 @@ quagfeather-mark-spec =
     tie.close
     (tie.spec
     returns
-    mul-ends-by
-    ends-by-requires
+    (λ c. search needs)
+    (λ c κs. search needs)
     returns-2
     is-touched-requires
-    same-length
+    (λ c. search needs)
     returns-3
     mark-requires
-    same-length-2
+    (λ c. search needs)
     returns-4)

@@ -3,14 +3,8 @@ use borrow.Author.Needs.{needs}
 use Rattle.quagfeather.proofs.quagfeather_write.Statement.{statement}
 use Rattle.quagfeather.proofs.quagfeather_write.Tie as tie
 
-write-requires : tie.Need-write-requires
-write-requires c κs = search needs
-
-same-length : tie.Need-same-length
-same-length c = search needs
-
 returns : tie.Need-returns
 returns c = c .before .before .write .ensures
 
 pub quagfeather-write-spec : {M : Type 1} → statement M
-quagfeather-write-spec = tie.close (tie.spec write-requires same-length returns)
+quagfeather-write-spec = tie.close (tie.spec (λ c κs. search needs) (λ c. search needs) returns)

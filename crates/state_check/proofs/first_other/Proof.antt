@@ -5,12 +5,6 @@ use Rattle.laws.proofs.Choosing.{pick-false, pick-true}
 use Rattle.state_check.proofs.first_other.Statement.{statement}
 use Rattle.state_check.proofs.first_other.Tie as tie
 
-is-free-requires : tie.Need-is-free-requires
-is-free-requires c κs = search needs
-
-add-result : tie.Need-add-result
-add-result c = search needs
-
 returns : tie.Need-returns
 returns c = sym (pick-true _ _ (sym (c .before .is-free .ensures) ∙ c .if1 .taken))
 
@@ -18,4 +12,4 @@ returns-2 : tie.Need-returns-2
 returns-2 c = sym (pick-false _ _ (sym (c .before .is-free .ensures) ∙ c .if1 .left))
 
 pub first-other-spec : {M : Type 1} → statement M
-first-other-spec = tie.close (tie.spec is-free-requires add-result returns returns-2)
+first-other-spec = tie.close (tie.spec (λ c κs. search needs) (λ c. search needs) returns returns-2)

@@ -8,12 +8,6 @@ use Rattle.text.specs.Decimals.{decimal}
 use Rattle.text.proofs.put_number.Statement.{statement}
 use Rattle.text.proofs.put_number.Tie as tie
 
-slice-write-text : tie.Need-slice-write-text
-slice-write-text c = search needs
-
-add-put-decimal : tie.Need-add-put-decimal
-add-put-decimal c = search needs
-
 put-decimal-requires : tie.Need-put-decimal-requires
 put-decimal-requires c κs = simp length-set (omega arith)
 
@@ -30,4 +24,4 @@ returns c =
 
 pub put-number-spec : {M : Type 1} → statement M
 put-number-spec =
-    tie.close (tie.spec slice-write-text add-put-decimal put-decimal-requires same-length returns)
+    tie.close (tie.spec (λ c. search needs) (λ c. search needs) put-decimal-requires same-length returns)

@@ -4,12 +4,6 @@ use mathlib.Core.Path.{refl}
 use Rattle.words.proofs.cq_bit.Statement.{statement}
 use Rattle.words.proofs.cq_bit.Tie as tie
 
-enum-told : tie.Need-enum-told
-enum-told c = search needs
-
-enum-told-2 : tie.Need-enum-told-2
-enum-told-2 c = search needs
-
 returns : tie.Need-returns
 returns c = rw (c .enum-told .given .1) refl
 
@@ -17,4 +11,4 @@ returns-2 : tie.Need-returns-2
 returns-2 c = rw (c .enum-told2 .given .1) refl
 
 pub cq-bit-spec : {M : Type 1} → statement M
-cq-bit-spec = tie.close (tie.spec enum-told enum-told-2 returns returns-2)
+cq-bit-spec = tie.close (tie.spec (λ c. search needs) (λ c. search needs) returns returns-2)

@@ -4,12 +4,6 @@ use mathlib.Core.Path.{refl}
 use Rattle.words.proofs.cq_value.Statement.{statement}
 use Rattle.words.proofs.cq_value.Tie as tie
 
-enum-told : tie.Need-enum-told
-enum-told c = search needs
-
-enum-known-cq : tie.Need-enum-known-cq
-enum-known-cq c = search needs
-
 returns : tie.Need-returns
 returns c = rw (c .enum-told .given .1) refl
 
@@ -17,4 +11,4 @@ returns-2 : tie.Need-returns-2
 returns-2 c = rw (c .before .cq .given .1) refl
 
 pub cq-value-spec : {M : Type 1} → statement M
-cq-value-spec = tie.close (tie.spec enum-told enum-known-cq returns returns-2)
+cq-value-spec = tie.close (tie.spec (λ c. search needs) (λ c. search needs) returns returns-2)

@@ -5,9 +5,6 @@ use Rattle.engine.proofs.CheckLaws.{small}
 use Rattle.engine.proofs.run_checks.admit.Statement.{statement}
 use Rattle.engine.proofs.run_checks.admit.Tie as tie
 
-numbers-fit-requires : tie.Need-numbers-fit-requires
-numbers-fit-requires c κs = search needs
-
 gate-requires : tie.Need-gate-requires
 gate-requires c κs = λ x. let a = c .before .args in small (a .n) (a .area) (a .limit) (sym (c .numbers-fit .ensures) ∙ x)
 
@@ -16,4 +13,4 @@ returns c = c .gate .ensures ∙ rw (c .before .numbers-fit .ensures) refl
 
 pub admit-spec : {M : Type 1} → statement M
 admit-spec =
-    tie.close (tie.spec numbers-fit-requires gate-requires returns)
+    tie.close (tie.spec (λ c κs. search needs) gate-requires returns)

@@ -3,11 +3,8 @@ use borrow.Author.Needs.{needs}
 use Rattle.engine.proofs.setting_up.refused.Statement.{statement}
 use Rattle.engine.proofs.setting_up.refused.Tie as tie
 
-fresh-requires : tie.Need-fresh-requires
-fresh-requires c κs = search needs
-
 returns : tie.Need-returns
 returns c = λ map. rw (c .fresh .ensures)
 
 pub refused-spec : {M : Type 1} → statement M
-refused-spec = tie.close (tie.spec fresh-requires returns)
+refused-spec = tie.close (tie.spec (λ c κs. search needs) returns)

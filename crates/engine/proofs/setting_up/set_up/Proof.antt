@@ -15,12 +15,6 @@ use Rattle.engine.proofs.Worlds.{lent-lengths}
 use Rattle.engine.proofs.setting_up.set_up.Statement.{statement}
 use Rattle.engine.proofs.setting_up.set_up.Tie as tie
 
-numbers-fit-requires : tie.Need-numbers-fit-requires
-numbers-fit-requires c κs = search needs
-
-refused-requires : tie.Need-refused-requires
-refused-requires c κs = search needs
-
 returns : tie.Need-returns
 unfolding setUp pick
 returns c =
@@ -32,9 +26,6 @@ lent-fits-requires : tie.Need-lent-fits-requires
 lent-fits-requires c κs =
     let a = c .before .before .before .before .args in
     small (a .n) (a .area) (a .limit) (sym (c .before .numbers-fit .ensures) ∙ not-false _ (c .if1 .left))
-
-refused-requires-2 : tie.Need-refused-requires-2
-refused-requires-2 c κs = search needs
 
 returns-2 : tie.Need-returns-2
 unfolding setUp pick
@@ -58,12 +49,6 @@ clear-requires c κs =
     let l = sym (c .before .before .lent-fits .ensures) ∙ not-false _ (c .before .if2 .left) in
     omega (arith, map-small (a .n) (a .area) s, lent-lengths (a .n) (a .area) _ _ l .1)
 
-fresh-requires : tie.Need-fresh-requires
-fresh-requires c κs = search needs
-
-same-length : tie.Need-same-length
-same-length c = search needs
-
 returns-3 : tie.Need-returns-3
 unfolding setUp pick
 returns-3 c =
@@ -78,14 +63,14 @@ pub set-up-spec : {M : Type 1} → statement M
 set-up-spec =
     tie.close
     (tie.spec
-    numbers-fit-requires
-    refused-requires
+    (λ c κs. search needs)
+    (λ c κs. search needs)
     returns
     lent-fits-requires
-    refused-requires-2
+    (λ c κs. search needs)
     returns-2
     mul-clear
     clear-requires
-    fresh-requires
-    same-length
+    (λ c κs. search needs)
+    (λ c. search needs)
     returns-3)

@@ -13,21 +13,6 @@ returns : tie.Need-returns
 unfolding reportEffect pick
 returns c = rw (le-leb _ _ (c .if1 .taken))
 
-mul-there : tie.Need-mul-there
-mul-there c = search needs
-
-element-copy-out-there : tie.Need-element-copy-out-there
-element-copy-out-there c = search needs
-
-enum-told : tie.Need-enum-told
-enum-told c = search needs
-
-enum-told-2 : tie.Need-enum-told-2
-enum-told-2 c = search needs
-
-enum-known-phase : tie.Need-enum-known-phase
-enum-known-phase c = search needs
-
 missing-requires : tie.Need-missing-requires
 missing-requires c κs =
     let s = c .before .before .before .before .before .before in
@@ -50,11 +35,11 @@ report-spec =
     tie.close
     (tie.spec
     returns
-    mul-there
-    element-copy-out-there
-    enum-told
-    enum-told-2
-    enum-known-phase
+    (λ c. search needs)
+    (λ c. search needs)
+    (λ c. search needs)
+    (λ c. search needs)
+    (λ c. search needs)
     missing-requires
     returns-2
     returns-3

@@ -5,39 +5,6 @@ use Rattle.packed.proofs.answers.answer_words.Tie as tie
 use mathlib.Core.Path.{_∙_}
 use Rattle.packed.specs.Answers.{answerWords}
 
-enum-known-answer : tie.Need-enum-known-answer
-enum-known-answer c = search needs
-
-cast-t16 : tie.Need-cast-t16
-cast-t16 c = search needs
-
-enum-known-answer-2 : tie.Need-enum-known-answer-2
-enum-known-answer-2 c = search needs
-
-enum-known-answer-3 : tie.Need-enum-known-answer-3
-enum-known-answer-3 c = search needs
-
-enum-told : tie.Need-enum-told
-enum-told c = search needs
-
-enum-known-answer-4 : tie.Need-enum-known-answer-4
-enum-known-answer-4 c = search needs
-
-enum-known-answer-5 : tie.Need-enum-known-answer-5
-enum-known-answer-5 c = search needs
-
-done-words-requires : tie.Need-done-words-requires
-done-words-requires c κs = search needs
-
-enum-known-answer-6 : tie.Need-enum-known-answer-6
-enum-known-answer-6 c = search needs
-
-cast-t21 : tie.Need-cast-t21
-cast-t21 c = search needs
-
-enum-known-answer-7 : tie.Need-enum-known-answer-7
-enum-known-answer-7 c = search needs
-
 returns : tie.Need-returns
 unfolding answerWords
 returns c = rw (c .before .before .answer .given .1)
@@ -74,17 +41,17 @@ pub answer-words-spec : {M : Type 1} → statement M
 answer-words-spec =
     tie.close
     (tie.spec
-    enum-known-answer
-    cast-t16
-    enum-known-answer-2
-    enum-known-answer-3
-    enum-told
-    enum-known-answer-4
-    enum-known-answer-5
-    done-words-requires
-    enum-known-answer-6
-    cast-t21
-    enum-known-answer-7
+    (λ c. search needs)
+    (λ c. search needs)
+    (λ c. search needs)
+    (λ c. search needs)
+    (λ c. search needs)
+    (λ c. search needs)
+    (λ c. search needs)
+    (λ c κs. search needs)
+    (λ c. search needs)
+    (λ c. search needs)
+    (λ c. search needs)
     returns
     returns-2
     returns-3

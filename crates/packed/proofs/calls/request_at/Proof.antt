@@ -7,43 +7,13 @@ use mathlib.Core.Path.{_∙_}
 use Rattle.laws.specs.Choose.{pick}
 use Rattle.packed.specs.Calls.{requestAt}
 
-mul-number : tie.Need-mul-number
-mul-number c = search needs
-
-shared-slice-read-number : tie.Need-shared-slice-read-number
-shared-slice-read-number c = search needs
-
-post-at-requires : tie.Need-post-at-requires
-post-at-requires c κs = search needs
-
 returns : tie.Need-returns
 unfolding requestAt pick
 returns c = c .post-at .ensures ∙ rw (eq-eqb _ _ (c .before .if1 .taken))
 
-packet-at-requires : tie.Need-packet-at-requires
-packet-at-requires c κs = search needs
-
 returns-2 : tie.Need-returns-2
 unfolding requestAt pick
 returns-2 c = c .packet-at .ensures ∙ rw (ne-eqb _ _ (c .before .before .if1 .left), eq-eqb _ _ (c .before .if2 .taken))
-
-add-peer : tie.Need-add-peer
-add-peer c = search needs
-
-mul-peer : tie.Need-mul-peer
-mul-peer c = search needs
-
-shared-slice-read-peer : tie.Need-shared-slice-read-peer
-shared-slice-read-peer c = search needs
-
-add-slot : tie.Need-add-slot
-add-slot c = search needs
-
-mul-slot : tie.Need-mul-slot
-mul-slot c = search needs
-
-shared-slice-read-slot : tie.Need-shared-slice-read-slot
-shared-slice-read-slot c = search needs
 
 returns-3 : tie.Need-returns-3
 unfolding requestAt pick
@@ -61,18 +31,18 @@ pub request-at-spec : {M : Type 1} → statement M
 request-at-spec =
     tie.close
     (tie.spec
-    mul-number
-    shared-slice-read-number
-    post-at-requires
+    (λ c. search needs)
+    (λ c. search needs)
+    (λ c κs. search needs)
     returns
-    packet-at-requires
+    (λ c κs. search needs)
     returns-2
-    add-peer
-    mul-peer
-    shared-slice-read-peer
-    add-slot
-    mul-slot
-    shared-slice-read-slot
+    (λ c. search needs)
+    (λ c. search needs)
+    (λ c. search needs)
+    (λ c. search needs)
+    (λ c. search needs)
+    (λ c. search needs)
     returns-3
     returns-4
     returns-5)

@@ -11,12 +11,9 @@ returns : tie.Need-returns
 unfolding gateOf pick
 returns c = rw (not-true (c .before .args .good) (c .if1 .taken)) refl
 
-admit-requires : tie.Need-admit-requires
-admit-requires c κs = search needs
-
 returns-2 : tie.Need-returns-2
 returns-2 c = c .admit .ensures ∙ rw (not-false (c .before .before .args .good) (c .before .if1 .left)) refl
 
 pub admit-spec : {M : Type 1} → statement M
 admit-spec =
-    tie.close (tie.spec returns admit-requires returns-2)
+    tie.close (tie.spec returns (λ c κs. search needs) returns-2)

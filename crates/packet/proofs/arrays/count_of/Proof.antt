@@ -12,19 +12,10 @@ returns : tie.Need-returns
 unfolding countOf pick
 returns c = rw (eq-eqb _ _ (c .if1 .taken))
 
-cast-members : tie.Need-cast-members
-cast-members c = search needs
-
-div-members : tie.Need-div-members
-div-members c = search needs
-
 cast-result : tie.Need-cast-result
 cast-result c =
     let s = c .before .before .before in
     omega (arith, div-le-self (s .args .n) (s .args .row .unit), s .pre .1)
-
-cast-result-2 : tie.Need-cast-result-2
-cast-result-2 c = search needs
 
 add-result : tie.Need-add-result
 add-result c =
@@ -36,4 +27,4 @@ unfolding countOf pick
 returns-2 c = rw (ne-eqb _ _ (c .before .before .if1 .left))
 
 pub count-of-spec : {M : Type 1} → statement M
-count-of-spec = tie.close (tie.spec returns cast-members div-members cast-result cast-result-2 add-result returns-2)
+count-of-spec = tie.close (tie.spec returns (λ c. search needs) (λ c. search needs) cast-result (λ c. search needs) add-result returns-2)

@@ -9,21 +9,12 @@ use native.Mathlib.Omega.{arith}
 use Rattle.packet.proofs.arrays.length.Statement.{statement}
 use Rattle.packet.proofs.arrays.length.Tie as tie
 
-cast-less : tie.Need-cast-less
-cast-less c = search needs
-
 returns : tie.Need-returns
 unfolding arrayLength
 returns c =
     let a = c .before .before .args in
     let z : a .count - a .row .less ≡ 0 = omega (arith, c .if1 .taken) in
     sym (ap (λ (x : ℕ). x * a .row .unit) z ∙ zero-mul (a .row .unit))
-
-cast-members : tie.Need-cast-members
-cast-members c = search needs
-
-cast-result : tie.Need-cast-result
-cast-result c = search needs
 
 mul-result : tie.Need-mul-result
 unfolding arrayLength
@@ -37,4 +28,4 @@ unfolding arrayLength
 returns-2 c = refl
 
 pub length-spec : {M : Type 1} → statement M
-length-spec = tie.close (tie.spec cast-less returns cast-members cast-result mul-result returns-2)
+length-spec = tie.close (tie.spec (λ c. search needs) returns (λ c. search needs) (λ c. search needs) mul-result returns-2)

@@ -10,15 +10,9 @@ returns : tie.Need-returns
 unfolding arrayWhole pick
 returns c = rw (eq-eqb _ _ (c .if1 .taken))
 
-cast-result : tie.Need-cast-result
-cast-result c = search needs
-
-rem-result : tie.Need-rem-result
-rem-result c = search needs
-
 returns-2 : tie.Need-returns-2
 unfolding arrayWhole pick
 returns-2 c = rw (ne-eqb _ _ (c .before .if1 .left))
 
 pub whole-spec : {M : Type 1} → statement M
-whole-spec = tie.close (tie.spec returns cast-result rem-result returns-2)
+whole-spec = tie.close (tie.spec returns (λ c. search needs) (λ c. search needs) returns-2)

@@ -4,12 +4,6 @@ use Rattle.laws.specs.Choose.{pick}
 use Rattle.packet.proofs.flags.connid_bit.Statement.{statement}
 use Rattle.packet.proofs.flags.connid_bit.Tie as tie
 
-enum-told : tie.Need-enum-told
-enum-told c = search needs
-
-enum-told-2 : tie.Need-enum-told-2
-enum-told-2 c = search needs
-
 returns : tie.Need-returns
 unfolding pick
 returns c = rw (c .enum-told .given .1)
@@ -19,4 +13,4 @@ unfolding pick
 returns-2 c = rw (c .enum-told2 .given .1)
 
 pub connid-bit-spec : {M : Type 1} → statement M
-connid-bit-spec = tie.close (tie.spec enum-told enum-told-2 returns returns-2)
+connid-bit-spec = tie.close (tie.spec (λ c. search needs) (λ c. search needs) returns returns-2)

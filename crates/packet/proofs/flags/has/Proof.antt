@@ -5,12 +5,9 @@ use Rattle.protocol.specs.Flags.{hasFlag}
 use Rattle.packet.proofs.flags.has.Statement.{statement}
 use Rattle.packet.proofs.flags.has.Tie as tie
 
-div-result : tie.Need-div-result
-div-result c = search needs
-
 returns : tie.Need-returns
 unfolding hasFlag
 returns c = refl
 
 pub has-spec : {M : Type 1} → statement M
-has-spec = tie.close (tie.spec div-result returns)
+has-spec = tie.close (tie.spec (λ c. search needs) returns)

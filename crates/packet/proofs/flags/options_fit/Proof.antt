@@ -14,12 +14,6 @@ returns-2 c =
     let s = c .before .before in
     rw (options-tested (s .args .row) (s .args .header) (s .pre), c .before .if1 .left, c .if2 .taken)
 
-enum-told : tie.Need-enum-told
-enum-told c = search needs
-
-enum-told-2 : tie.Need-enum-told-2
-enum-told-2 c = search needs
-
 returns-3 : tie.Need-returns-3
 returns-3 c =
     let s = c .before .before .before .before in
@@ -31,4 +25,4 @@ returns-4 c =
     rw (options-tested (s .args .row) (s .args .header) (s .pre), c .before .before .before .if1 .left, c .before .before .if2 .left, c .enum-told2 .given .1)
 
 pub options-fit-spec : {M : Type 1} → statement M
-options-fit-spec = tie.close (tie.spec returns returns-2 enum-told enum-told-2 returns-3 returns-4)
+options-fit-spec = tie.close (tie.spec returns returns-2 (λ c. search needs) (λ c. search needs) returns-3 returns-4)

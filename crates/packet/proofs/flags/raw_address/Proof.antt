@@ -4,9 +4,6 @@ use Rattle.protocol.specs.Optional.{flagged}
 use Rattle.packet.proofs.flags.raw_address.Statement.{statement}
 use Rattle.packet.proofs.flags.raw_address.Tie as tie
 
-has-requires : tie.Need-has-requires
-has-requires c κs = search needs
-
 returns : tie.Need-returns
 unfolding flagged
 returns c = rw (c .before .if1 .taken) (c .has .ensures)
@@ -16,4 +13,4 @@ unfolding flagged
 returns-2 c = rw (c .if1 .left)
 
 pub raw-address-spec : {M : Type 1} → statement M
-raw-address-spec = tie.close (tie.spec has-requires returns returns-2)
+raw-address-spec = tie.close (tie.spec (λ c κs. search needs) returns returns-2)

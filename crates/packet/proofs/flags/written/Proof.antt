@@ -6,15 +6,6 @@ use Rattle.protocol.proofs.FlagLaws.{flags-small}
 use Rattle.packet.proofs.flags.written.Statement.{statement}
 use Rattle.packet.proofs.flags.written.Tie as tie
 
-raw-address-bit-requires : tie.Need-raw-address-bit-requires
-raw-address-bit-requires c κs = search needs
-
-cq-data-bit-requires : tie.Need-cq-data-bit-requires
-cq-data-bit-requires c κs = search needs
-
-connid-bit-requires : tie.Need-connid-bit-requires
-connid-bit-requires c κs = search needs
-
 add-result : tie.Need-add-result
 unfolding flagsOf
 add-result c = let s = c .before .before .before .before in omega (arith, flags-small (s .args .row) (s .args .header) (s .pre))
@@ -41,9 +32,9 @@ pub written-spec : {M : Type 1} → statement M
 written-spec =
     tie.close
     (tie.spec
-    raw-address-bit-requires
-    cq-data-bit-requires
-    connid-bit-requires
+    (λ c κs. search needs)
+    (λ c κs. search needs)
+    (λ c κs. search needs)
     add-result
     add-result-2
     add-result-3

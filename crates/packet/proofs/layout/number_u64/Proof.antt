@@ -6,19 +6,13 @@ use Rattle.protocol.specs.FieldNumbers.{numberThere}
 use Rattle.packet.proofs.layout.number_u64.Statement.{statement}
 use Rattle.packet.proofs.layout.number_u64.Tie as tie
 
-place-requires : tie.Need-place-requires
-place-requires c κs = search needs
-
 returns : tie.Need-returns
 unfolding numberThere pick
 returns c = rw (← c .before .place .ensures, eq-eqb _ _ (c .if1 .taken))
-
-read-u64-requires : tie.Need-read-u64-requires
-read-u64-requires c κs = search needs
 
 returns-2 : tie.Need-returns-2
 unfolding numberThere pick
 returns-2 c = rw (← c .before .before .place .ensures, ne-eqb _ _ (c .before .if1 .left), c .read-u64 .ensures)
 
 pub number-u64-spec : {M : Type 1} → statement M
-number-u64-spec = tie.close (tie.spec place-requires returns read-u64-requires returns-2)
+number-u64-spec = tie.close (tie.spec (λ c κs. search needs) returns (λ c κs. search needs) returns-2)

@@ -6,18 +6,9 @@ use Rattle.protocol.specs.FieldNumbers.{putThere}
 use Rattle.packet.proofs.layout.put_u32.Statement.{statement}
 use Rattle.packet.proofs.layout.put_u32.Tie as tie
 
-place-requires : tie.Need-place-requires
-place-requires c κs = search needs
-
 returns : tie.Need-returns
 unfolding putThere pick
 returns c = rw (← c .before .place .ensures, eq-eqb _ _ (c .if1 .taken))
-
-write-u32-requires : tie.Need-write-u32-requires
-write-u32-requires c κs = search needs
-
-same-length : tie.Need-same-length
-same-length c = search needs
 
 returns-2 : tie.Need-returns-2
 unfolding putThere pick
@@ -27,4 +18,4 @@ returns-2 c =
     rw (← t .before .place .ensures, ne-eqb _ _ (t .if1 .left), w .write-u32 .ensures)
 
 pub put-u32-spec : {M : Type 1} → statement M
-put-u32-spec = tie.close (tie.spec place-requires returns write-u32-requires same-length returns-2)
+put-u32-spec = tie.close (tie.spec (λ c κs. search needs) returns (λ c κs. search needs) (λ c. search needs) returns-2)

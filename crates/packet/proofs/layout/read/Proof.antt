@@ -3,17 +3,11 @@ use borrow.Author.Needs.{needs}
 use Rattle.packet.proofs.layout.read.Statement.{statement}
 use Rattle.packet.proofs.layout.read.Tie as tie
 
-read-request-requires : tie.Need-read-request-requires
-read-request-requires c κs = search needs
-
 returns : tie.Need-returns
 returns c = c .read-request .ensures
-
-read-any-requires : tie.Need-read-any-requires
-read-any-requires c κs = search needs
 
 returns-2 : tie.Need-returns-2
 returns-2 c = c .read-any .ensures
 
 pub read-spec : {M : Type 1} → statement M
-read-spec = tie.close (tie.spec read-request-requires returns read-any-requires returns-2)
+read-spec = tie.close (tie.spec (λ c κs. search needs) returns (λ c κs. search needs) returns-2)

@@ -5,21 +5,6 @@ use Rattle.protocol.proofs.PutLaws.{fields-put}
 use Rattle.packet.proofs.layout.write.Statement.{statement}
 use Rattle.packet.proofs.layout.write.Tie as tie
 
-write-ids-requires : tie.Need-write-ids-requires
-write-ids-requires c κs = search needs
-
-write-lengths-requires : tie.Need-write-lengths-requires
-write-lengths-requires c κs = search needs
-
-write-others-requires : tie.Need-write-others-requires
-write-others-requires c κs = search needs
-
-write-valueless-requires : tie.Need-write-valueless-requires
-write-valueless-requires c κs = search needs
-
-same-length : tie.Need-same-length
-same-length c = search needs
-
 returns : tie.Need-returns
 unfolding pick
 returns c =
@@ -34,4 +19,4 @@ returns c =
 pub write-spec : {M : Type 1} → statement M
 write-spec =
     tie.close
-    (tie.spec write-ids-requires write-lengths-requires write-others-requires write-valueless-requires same-length returns)
+    (tie.spec (λ c κs. search needs) (λ c κs. search needs) (λ c κs. search needs) (λ c κs. search needs) (λ c. search needs) returns)

@@ -15,9 +15,6 @@ put-u32-requires-2 c κs = let s = c .before .before .before .before .before .be
 put-u32-requires-3 : tie.Need-put-u32-requires-3
 put-u32-requires-3 c κs = let s = c .before .before .before .before .before .before .before .before .before .before .before in (omega arith, omega (arith, s .pre .0 .inside send-id))
 
-same-length : tie.Need-same-length
-same-length c = search needs
-
 returns : tie.Need-returns
 unfolding pick
 returns c =
@@ -29,4 +26,4 @@ returns c =
 pub write-ids-spec : {M : Type 1} → statement M
 write-ids-spec =
     tie.close
-    (tie.spec put-u32-requires put-u32-requires-2 put-u32-requires-3 same-length returns)
+    (tie.spec put-u32-requires put-u32-requires-2 put-u32-requires-3 (λ c. search needs) returns)

@@ -18,9 +18,6 @@ put-u64-requires-3 c κs = let s = c .before .before .before .before .before .be
 put-u64-requires-4 : tie.Need-put-u64-requires-4
 put-u64-requires-4 c κs = let s = c .before .before .before .before .before .before .before .before .before .before .before .before .before .before .before in (omega arith, omega (arith, s .pre .0 .inside seg-offset))
 
-same-length : tie.Need-same-length
-same-length c = search needs
-
 returns : tie.Need-returns
 unfolding pick
 returns c =
@@ -33,4 +30,4 @@ returns c =
 pub write-lengths-spec : {M : Type 1} → statement M
 write-lengths-spec =
     tie.close
-    (tie.spec put-u64-requires put-u64-requires-2 put-u64-requires-3 put-u64-requires-4 same-length returns)
+    (tie.spec put-u64-requires put-u64-requires-2 put-u64-requires-3 put-u64-requires-4 (λ c. search needs) returns)

@@ -12,9 +12,6 @@ put-u32-requires c κs = let s = c .before .before .before in (omega arith, omeg
 put-u64-requires : tie.Need-put-u64-requires
 put-u64-requires c κs = let s = c .before .before .before .before .before .before .before in (omega arith, omega (arith, s .pre .0 .inside tag))
 
-same-length : tie.Need-same-length
-same-length c = search needs
-
 returns : tie.Need-returns
 unfolding pick
 returns c =
@@ -23,4 +20,4 @@ returns c =
     rw (w2 .put-u64 .ensures, w1 .put-u32 .ensures)
 
 pub write-others-spec : {M : Type 1} → statement M
-write-others-spec = tie.close (tie.spec put-u32-requires put-u64-requires same-length returns)
+write-others-spec = tie.close (tie.spec put-u32-requires put-u64-requires (λ c. search needs) returns)

@@ -13,9 +13,6 @@ returns c =
     let r = c .before .before .before .args .row in
     rw (not-put r multiuse _ _ (c .if1 .taken), not-put r padding _ _ (omega arith), not-put r count _ _ (omega arith))
 
-connid-or-zero-requires : tie.Need-connid-or-zero-requires
-connid-or-zero-requires c κs = search needs
-
 put-u32-requires : tie.Need-put-u32-requires
 put-u32-requires c κs = let s = c .before .before .before .before .before in (omega arith, omega (arith, s .pre .0 .inside multiuse))
 
@@ -32,9 +29,6 @@ put-u32-requires-3 c κs =
     let s = w1 .before .before .before .before .before .before in
     (omega arith, omega (arith, s .pre .0 .inside count, w2 .put-u322 .kept, w1 .put-u32 .kept))
 
-same-length : tie.Need-same-length
-same-length c = search needs
-
 returns-2 : tie.Need-returns-2
 unfolding pick
 returns-2 c =
@@ -46,4 +40,4 @@ returns-2 c =
 pub write-valueless-spec : {M : Type 1} → statement M
 write-valueless-spec =
     tie.close
-    (tie.spec returns connid-or-zero-requires put-u32-requires put-u32-requires-2 put-u32-requires-3 same-length returns-2)
+    (tie.spec returns (λ c κs. search needs) put-u32-requires put-u32-requires-2 put-u32-requires-3 (λ c. search needs) returns-2)

@@ -6,24 +6,6 @@ use Rattle.protocol.specs.Lengths.{lengthsFit}
 use Rattle.packet.proofs.lengths.fit.Statement.{statement}
 use Rattle.packet.proofs.lengths.fit.Tie as tie
 
-enum-told : tie.Need-enum-told
-enum-told c = search needs
-
-enum-told-2 : tie.Need-enum-told-2
-enum-told-2 c = search needs
-
-enum-told-3 : tie.Need-enum-told-3
-enum-told-3 c = search needs
-
-enum-told-4 : tie.Need-enum-told-4
-enum-told-4 c = search needs
-
-ends-by-requires : tie.Need-ends-by-requires
-ends-by-requires c κs = search needs
-
-enum-told-5 : tie.Need-enum-told-5
-enum-told-5 c = search needs
-
 returns : tie.Need-returns
 unfolding lengthsFit
 returns c = rw (c .before .before .enum-told .given .1, eq-eqb _ _ (c .before .if1 .taken))
@@ -64,12 +46,12 @@ pub fit-spec : {M : Type 1} → statement M
 fit-spec =
     tie.close
     (tie.spec
-    enum-told
-    enum-told-2
-    enum-told-3
-    enum-told-4
-    ends-by-requires
-    enum-told-5
+    (λ c. search needs)
+    (λ c. search needs)
+    (λ c. search needs)
+    (λ c. search needs)
+    (λ c κs. search needs)
+    (λ c. search needs)
     returns
     returns-2
     returns-3

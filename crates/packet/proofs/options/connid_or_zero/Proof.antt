@@ -4,12 +4,6 @@ use Rattle.protocol.specs.Options.{connidOrZero}
 use Rattle.packet.proofs.options.connid_or_zero.Statement.{statement}
 use Rattle.packet.proofs.options.connid_or_zero.Tie as tie
 
-enum-told : tie.Need-enum-told
-enum-told c = search needs
-
-enum-known-connid : tie.Need-enum-known-connid
-enum-known-connid c = search needs
-
 returns : tie.Need-returns
 unfolding connidOrZero
 returns c = rw (c .enum-told .given .1)
@@ -19,4 +13,4 @@ unfolding connidOrZero
 returns-2 c = rw (c .before .connid .given .1)
 
 pub connid-or-zero-spec : {M : Type 1} → statement M
-connid-or-zero-spec = tie.close (tie.spec enum-told enum-known-connid returns returns-2)
+connid-or-zero-spec = tie.close (tie.spec (λ c. search needs) (λ c. search needs) returns returns-2)

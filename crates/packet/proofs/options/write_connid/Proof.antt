@@ -8,15 +8,6 @@ use Rattle.wire.proofs.Laws.{length-le}
 use Rattle.packet.proofs.options.write_connid.Statement.{statement}
 use Rattle.packet.proofs.options.write_connid.Tie as tie
 
-enum-told : tie.Need-enum-told
-enum-told c = search needs
-
-enum-known-connid : tie.Need-enum-known-connid
-enum-known-connid c = search needs
-
-cast-write-number : tie.Need-cast-write-number
-cast-write-number c = search needs
-
 write-number-requires : tie.Need-write-number-requires
 unfolding connidBytes
 write-number-requires c κs =
@@ -27,9 +18,6 @@ returns : tie.Need-returns
 unfolding connidBytes
 returns c = rw (c .enum-told .given .1) (omega arith, sym (store-nothing _ _))
 
-same-length : tie.Need-same-length
-same-length c = search needs
-
 returns-2 : tie.Need-returns-2
 unfolding connidBytes
 returns-2 c = rw (c .before .before .before .before .before .before .connid .given .1, length-le) (c .before .before .write-number .ensures)
@@ -37,4 +25,4 @@ returns-2 c = rw (c .before .before .before .before .before .before .connid .giv
 pub write-connid-spec : {M : Type 1} → statement M
 write-connid-spec =
     tie.close
-    (tie.spec enum-told enum-known-connid cast-write-number write-number-requires returns same-length returns-2)
+    (tie.spec (λ c. search needs) (λ c. search needs) (λ c. search needs) write-number-requires returns (λ c. search needs) returns-2)

@@ -8,25 +8,13 @@ use Rattle.wire.proofs.Laws.{length-le}
 use Rattle.packet.proofs.options.write_cq_data.Statement.{statement}
 use Rattle.packet.proofs.options.write_cq_data.Tie as tie
 
-enum-told : tie.Need-enum-told
-enum-told c = search needs
-
-enum-known-cq-data : tie.Need-enum-known-cq-data
-enum-known-cq-data c = search needs
-
 write-u64-requires : tie.Need-write-u64-requires
 unfolding cqDataBytes
 write-u64-requires c κs = rw (c .before .before .cq-data .given .1, length-le) at (c .before .before .before .before .before .pre)
 
-add-result : tie.Need-add-result
-add-result c = search needs
-
 returns : tie.Need-returns
 unfolding cqDataBytes
 returns c = rw (c .enum-told .given .1) (omega arith, sym (store-nothing _ _))
-
-same-length : tie.Need-same-length
-same-length c = search needs
 
 returns-2 : tie.Need-returns-2
 unfolding cqDataBytes
@@ -36,10 +24,10 @@ pub write-cq-data-spec : {M : Type 1} → statement M
 write-cq-data-spec =
     tie.close
     (tie.spec
-    enum-told
-    enum-known-cq-data
+    (λ c. search needs)
+    (λ c. search needs)
     write-u64-requires
-    add-result
+    (λ c. search needs)
     returns
-    same-length
+    (λ c. search needs)
     returns-2)

@@ -12,15 +12,6 @@ returns : tie.Need-returns
 unfolding leBytes
 returns c = rw (c .if1 .taken) (omega arith, sym (store-nothing _ _))
 
-write-u32-requires : tie.Need-write-u32-requires
-write-u32-requires c κs = search needs
-
-add-result : tie.Need-add-result
-add-result c = search needs
-
-same-length : tie.Need-same-length
-same-length c = search needs
-
 returns-2 : tie.Need-returns-2
 returns-2 c = rw (c .before .before .before .before .if2 .taken, c .before .before .write-u32 .ensures) (refl, refl)
 
@@ -28,12 +19,6 @@ write-u64-requires : tie.Need-write-u64-requires
 write-u64-requires c κs =
     let t = c .before in
     omega (arith, width-eight _ (t .before .before .before .pre .0) (t .before .if1 .left) (t .if2 .left))
-
-add-result-2 : tie.Need-add-result-2
-add-result-2 c = search needs
-
-same-length-2 : tie.Need-same-length-2
-same-length-2 c = search needs
 
 returns-3 : tie.Need-returns-3
 returns-3 c =
@@ -46,11 +31,11 @@ write-number-spec =
     tie.close
     (tie.spec
     returns
-    write-u32-requires
-    add-result
-    same-length
+    (λ c κs. search needs)
+    (λ c. search needs)
+    (λ c. search needs)
     returns-2
     write-u64-requires
-    add-result-2
-    same-length-2
+    (λ c. search needs)
+    (λ c. search needs)
     returns-3)

@@ -33,14 +33,8 @@ cast-write-u32 c = record { fits = c .before .before .before .before .pre .1 (no
 write-u32-requires : tie.Need-write-u32-requires
 write-u32-requires c κs = omega (arith, room (c .before))
 
-add-write-bytes : tie.Need-add-write-bytes
-add-write-bytes c = search needs
-
 write-bytes-requires : tie.Need-write-bytes-requires
 write-bytes-requires c κs = omega (arith, room (c .before .before .before .before .before))
-
-same-length : tie.Need-same-length
-same-length c = search needs
 
 returns-2 : tie.Need-returns-2
 unfolding rawAddressBytes pick
@@ -63,7 +57,7 @@ write-raw-address-spec =
     returns
     cast-write-u32
     write-u32-requires
-    add-write-bytes
+    (λ c. search needs)
     write-bytes-requires
-    same-length
+    (λ c. search needs)
     returns-2)

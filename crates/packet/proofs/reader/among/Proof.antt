@@ -34,26 +34,14 @@ passed c =
     let t = c .before .before .before in
     rw (le-ltb _ _ (t .before .if1 .left), le-ltb _ _ (t .if2 .left), eq-eqb _ _ (c .before .if3 .left))
 
-refused-requires : tie.Need-refused-requires
-refused-requires c κs = search needs
-
 returns : tie.Need-returns
 unfolding readOf pick
 returns c = rw (lt-ltb _ _ (c .before .if1 .taken), c .refused .ensures)
-
-refused-requires-2 : tie.Need-refused-requires-2
-refused-requires-2 c κs = search needs
 
 returns-2 : tie.Need-returns-2
 unfolding readOf pick
 returns-2 c =
     rw (le-ltb _ _ (c .before .before .if1 .left), lt-ltb _ _ (c .before .if2 .taken), c .refused2 .ensures)
-
-shared-slice-read-if3 : tie.Need-shared-slice-read-if3
-shared-slice-read-if3 c = search needs
-
-refused-requires-3 : tie.Need-refused-requires-3
-refused-requires-3 c κs = search needs
 
 returns-3 : tie.Need-returns-3
 unfolding readOf pick
@@ -66,26 +54,11 @@ returns-3 c =
       c .refused3 .ensures,
     )
 
-shared-slice-read-find-among : tie.Need-shared-slice-read-find-among
-shared-slice-read-find-among c = search needs
-
-find-among-requires : tie.Need-find-among-requires
-find-among-requires c κs = search needs
-
-enum-told : tie.Need-enum-told
-enum-told c = search needs
-
-refused-requires-4 : tie.Need-refused-requires-4
-refused-requires-4 c κs = search needs
-
 returns-4 : tie.Need-returns-4
 unfolding readTyped
 returns-4 c =
     let f = c .before .before .before in
     rw (passed (f .before), ← f .find-among .ensures, c .before .enum-told .given .1, c .refused4 .ensures)
-
-enum-known-row : tie.Need-enum-known-row
-enum-known-row c = search needs
 
 typed-requires : tie.Need-typed-requires
 typed-requires c κs =
@@ -102,18 +75,18 @@ pub among-spec : {M : Type 1} → statement M
 among-spec =
     tie.close
     (tie.spec
-    refused-requires
+    (λ c κs. search needs)
     returns
-    refused-requires-2
+    (λ c κs. search needs)
     returns-2
-    shared-slice-read-if3
-    refused-requires-3
+    (λ c. search needs)
+    (λ c κs. search needs)
     returns-3
-    shared-slice-read-find-among
-    find-among-requires
-    enum-told
-    refused-requires-4
+    (λ c. search needs)
+    (λ c κs. search needs)
+    (λ c. search needs)
+    (λ c κs. search needs)
     returns-4
-    enum-known-row
+    (λ c. search needs)
     typed-requires
     returns-5)

@@ -6,24 +6,12 @@ use Rattle.protocol.specs.Reading.{headerIn}
 use Rattle.packet.proofs.reader.header.Statement.{statement}
 use Rattle.packet.proofs.reader.header.Tie as tie
 
-read-requires : tie.Need-read-requires
-read-requires c κs = search needs
-
-cq-data-requires : tie.Need-cq-data-requires
-cq-data-requires c κs = search needs
-
 read-cq-data-requires : tie.Need-read-cq-data-requires
 read-cq-data-requires c κs = λ e. c .before .before .before .pre .1 .cq (sym (c .cq-data .ensures) ∙ e)
-
-has-requires : tie.Need-has-requires
-has-requires c κs = search needs
 
 read-connid-requires : tie.Need-read-connid-requires
 unfolding flagged
 read-connid-requires c κs = λ e. c .before .before .before .before .before .pre .1 .connid (sym (c .has .ensures) ∙ e)
-
-raw-address-requires : tie.Need-raw-address-requires
-raw-address-requires c κs = search needs
 
 returns : tie.Need-returns
 unfolding headerIn flagged
@@ -41,10 +29,10 @@ pub header-spec : {M : Type 1} → statement M
 header-spec =
     tie.close
     (tie.spec
-    read-requires
-    cq-data-requires
+    (λ c κs. search needs)
+    (λ c κs. search needs)
     read-cq-data-requires
-    has-requires
+    (λ c κs. search needs)
     read-connid-requires
-    raw-address-requires
+    (λ c κs. search needs)
     returns)

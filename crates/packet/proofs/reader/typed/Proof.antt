@@ -18,15 +18,6 @@ passed c =
     let f = c .before in
     rw (← f .before .read-u16 .ensures, ← f .fit .ensures, not-false (f .fit .result) (c .if1 .left))
 
-read-u16-requires : tie.Need-read-u16-requires
-read-u16-requires c κs = search needs
-
-fit-requires : tie.Need-fit-requires
-fit-requires c κs = search needs
-
-refused-requires : tie.Need-refused-requires
-refused-requires c κs = search needs
-
 returns : tie.Need-returns
 unfolding readFlags pick
 returns c =
@@ -34,23 +25,11 @@ returns c =
     let e = not-true (f .fit .result) (c .before .if1 .taken) in
     rw (← f .before .read-u16 .ensures, ← f .fit .ensures, e, c .refused .ensures)
 
-find-requires : tie.Need-find-requires
-find-requires c κs = search needs
-
-enum-told : tie.Need-enum-told
-enum-told c = search needs
-
-refused-requires-2 : tie.Need-refused-requires-2
-refused-requires-2 c κs = search needs
-
 returns-2 : tie.Need-returns-2
 unfolding readSections
 returns-2 c =
     let f = c .before .before .before in
     rw (passed (f .before), ← f .find .ensures, c .before .enum-told .given .1, c .refused2 .ensures)
-
-enum-known-at : tie.Need-enum-known-at
-enum-known-at c = search needs
 
 whole-requires : tie.Need-whole-requires
 whole-requires c κs =
@@ -67,14 +46,14 @@ pub typed-spec : {M : Type 1} → statement M
 typed-spec =
     tie.close
     (tie.spec
-    read-u16-requires
-    fit-requires
-    refused-requires
+    (λ c κs. search needs)
+    (λ c κs. search needs)
+    (λ c κs. search needs)
     returns
-    find-requires
-    enum-told
-    refused-requires-2
+    (λ c κs. search needs)
+    (λ c. search needs)
+    (λ c κs. search needs)
     returns-2
-    enum-known-at
+    (λ c. search needs)
     whole-requires
     returns-3)

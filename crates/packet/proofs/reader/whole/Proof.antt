@@ -6,18 +6,6 @@ use Rattle.protocol.specs.Reading.{packetIn, readLengths}
 use Rattle.packet.proofs.reader.whole.Statement.{statement}
 use Rattle.packet.proofs.reader.whole.Tie as tie
 
-header-requires : tie.Need-header-requires
-header-requires c κs = search needs
-
-sub-size : tie.Need-sub-size
-sub-size c = search needs
-
-fit-requires : tie.Need-fit-requires
-fit-requires c κs = search needs
-
-refused-requires : tie.Need-refused-requires
-refused-requires c κs = search needs
-
 returns : tie.Need-returns
 unfolding readLengths packetIn pick
 returns c =
@@ -33,4 +21,4 @@ returns-2 c =
 
 pub whole-spec : {M : Type 1} → statement M
 whole-spec =
-    tie.close (tie.spec header-requires sub-size fit-requires refused-requires returns returns-2)
+    tie.close (tie.spec (λ c κs. search needs) (λ c. search needs) (λ c κs. search needs) (λ c κs. search needs) returns returns-2)

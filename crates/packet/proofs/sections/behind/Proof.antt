@@ -12,9 +12,6 @@ use native.Mathlib.Omega.{arith}
 use Rattle.packet.proofs.sections.behind.Statement.{statement}
 use Rattle.packet.proofs.sections.behind.Tie as tie
 
-raw-address-requires : tie.Need-raw-address-requires
-raw-address-requires c κs = search needs
-
 from-requires : tie.Need-from-requires
 from-requires c κs = let s = c .before .before .before in (s .pre .0, omega (arith, s .pre .1))
 
@@ -35,12 +32,6 @@ returns-2 c =
     rw (← f .raw-address .ensures, not-false (f .raw-address .result) (c .before .if1 .left))
     (sym (cut-before (a .row) (a .flags) _ _ _ (length (a .bytes .now)) (omega arith)))
 
-read-u32-requires : tie.Need-read-u32-requires
-read-u32-requires c κs = search needs
-
-cast-size : tie.Need-cast-size
-cast-size c = search needs
-
 add-from : tie.Need-add-from
 add-from c = omega (arith, c .before .before .before .before .before .pre .1)
 
@@ -55,4 +46,4 @@ returns-3 c =
     rw (c .from2 .ensures, ← f .raw-address .ensures, e, c .before .read-u32 .ensures, add-assoc)
 
 pub behind-spec : {M : Type 1} → statement M
-behind-spec = tie.close (tie.spec raw-address-requires from-requires returns add-start returns-2 read-u32-requires cast-size add-from from-requires-2 returns-3)
+behind-spec = tie.close (tie.spec (λ c κs. search needs) from-requires returns add-start returns-2 (λ c κs. search needs) (λ c. search needs) add-from from-requires-2 returns-3)

@@ -6,9 +6,6 @@ use Rattle.protocol.specs.Sections.{connidAt}
 use Rattle.packet.proofs.sections.connid_at.Statement.{statement}
 use Rattle.packet.proofs.sections.connid_at.Tie as tie
 
-place-requires : tie.Need-place-requires
-place-requires c κs = search needs
-
 returns : tie.Need-returns
 unfolding connidAt pick
 returns c = rw (← c .before .place .ensures, eq-eqb _ _ (c .if1 .taken))
@@ -18,4 +15,4 @@ unfolding connidAt pick
 returns-2 c = rw (← c .before .place .ensures, ne-eqb _ _ (c .if1 .left))
 
 pub connid-at-spec : {M : Type 1} → statement M
-connid-at-spec = tie.close (tie.spec place-requires returns returns-2)
+connid-at-spec = tie.close (tie.spec (λ c κs. search needs) returns returns-2)

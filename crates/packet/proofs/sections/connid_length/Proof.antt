@@ -6,12 +6,6 @@ use Rattle.protocol.specs.SectionsInTurn.{connidLength}
 use Rattle.packet.proofs.sections.connid_length.Statement.{statement}
 use Rattle.packet.proofs.sections.connid_length.Tie as tie
 
-has-requires : tie.Need-has-requires
-has-requires c κs = search needs
-
-cast-result : tie.Need-cast-result
-cast-result c = search needs
-
 returns : tie.Need-returns
 unfolding connidLength flagged pick
 returns c = rw (← c .before .before .has .ensures, c .before .if1 .taken)
@@ -21,4 +15,4 @@ unfolding connidLength flagged pick
 returns-2 c = rw (← c .before .has .ensures, c .if1 .left)
 
 pub connid-length-spec : {M : Type 1} → statement M
-connid-length-spec = tie.close (tie.spec has-requires cast-result returns returns-2)
+connid-length-spec = tie.close (tie.spec (λ c κs. search needs) (λ c. search needs) returns returns-2)

@@ -5,9 +5,6 @@ use Rattle.protocol.specs.SectionsInTurn.{cqDataLength}
 use Rattle.packet.proofs.sections.cq_data_length.Statement.{statement}
 use Rattle.packet.proofs.sections.cq_data_length.Tie as tie
 
-cq-data-requires : tie.Need-cq-data-requires
-cq-data-requires c κs = search needs
-
 returns : tie.Need-returns
 unfolding cqDataLength pick
 returns c = rw (← c .before .cq-data .ensures, c .if1 .taken)
@@ -17,4 +14,4 @@ unfolding cqDataLength pick
 returns-2 c = rw (← c .before .cq-data .ensures, c .if1 .left)
 
 pub cq-data-length-spec : {M : Type 1} → statement M
-cq-data-length-spec = tie.close (tie.spec cq-data-requires returns returns-2)
+cq-data-length-spec = tie.close (tie.spec (λ c κs. search needs) returns returns-2)

@@ -22,9 +22,6 @@ array-short c =
     let l : n .count .result < 2 ^ 32 = omega arith in
     rw (c .length .ensures) (array-small (s .args .row) (n .count .result) (s .pre) l)
 
-cast-at : tie.Need-cast-at
-cast-at c = search needs
-
 returns : tie.Need-returns
 unfolding sectionsBehind afterArray
 returns c =
@@ -39,12 +36,6 @@ unfolding arraySpan pick
 returns-2 c =
     let a = c .before .before .before .before .before .before .args in
     rw (c .behind .ensures, extent-in-steps (a .row) (a .flags) (a .bytes .now), after-no-array (a .row) (a .bytes .now) (c .before .if2 .taken), eq-eqb _ _ (c .before .if2 .taken))
-
-count-requires : tie.Need-count-requires
-count-requires c κs = search needs
-
-length-requires : tie.Need-length-requires
-length-requires c κs = search needs
 
 add-behind : tie.Need-add-behind
 add-behind c = let s = c .before .before .before .before .before .before .before in omega (arith, header-bounds (s .args .row) (s .pre), array-short c)
@@ -63,4 +54,4 @@ returns-3 c =
     rw (c .behind2 .ensures, c .before .length .ensures, n .count .ensures, extent-in-steps (a .row) (a .flags) (a .bytes .now), e)
 
 pub find-spec : {M : Type 1} → statement M
-find-spec = tie.close (tie.spec cast-at returns behind-requires returns-2 count-requires length-requires add-behind behind-requires-2 returns-3)
+find-spec = tie.close (tie.spec (λ c. search needs) returns behind-requires returns-2 (λ c κs. search needs) (λ c κs. search needs) add-behind behind-requires-2 returns-3)

@@ -9,14 +9,8 @@ use Rattle.protocol.proofs.ReadingLaws.{options-short}
 use Rattle.packet.proofs.sections.from.Statement.{statement}
 use Rattle.packet.proofs.sections.from.Tie as tie
 
-cq-data-length-requires : tie.Need-cq-data-length-requires
-cq-data-length-requires c κs = search needs
-
 add-after : tie.Need-add-after
 add-after c = omega (arith, options-short (c .before .args .row) (c .before .args .flags) (c .before .pre .0))
-
-connid-length-requires : tie.Need-connid-length-requires
-connid-length-requires c κs = search needs
 
 add-data-at : tie.Need-add-data-at
 add-data-at c =
@@ -31,9 +25,6 @@ returns c =
     let e = lt-ltb (a .n) (a .at + w .before .cq-data-length .result + w .connid-length .result) (c .if1 .taken) in
     rw (← w .connid-length .ensures, ← w .before .cq-data-length .ensures, e)
 
-connid-at-requires : tie.Need-connid-at-requires
-connid-at-requires c κs = search needs
-
 returns-2 : tie.Need-returns-2
 unfolding sectionsFrom pick
 returns-2 c =
@@ -46,10 +37,10 @@ pub from-spec : {M : Type 1} → statement M
 from-spec =
     tie.close
     (tie.spec
-    cq-data-length-requires
+    (λ c κs. search needs)
     add-after
-    connid-length-requires
+    (λ c κs. search needs)
     add-data-at
     returns
-    connid-at-requires
+    (λ c κs. search needs)
     returns-2)

@@ -5,15 +5,6 @@ use Rattle.protocol.specs.Types.{admit}
 use Rattle.packet.proofs.table.find_among.Statement.{statement}
 use Rattle.packet.proofs.table.find_among.Tie as tie
 
-find-requires : tie.Need-find-requires
-find-requires c κs = search needs
-
-enum-told : tie.Need-enum-told
-enum-told c = search needs
-
-enum-known-row : tie.Need-enum-known-row
-enum-known-row c = search needs
-
 returns : tie.Need-returns
 unfolding admit pick
 returns c =
@@ -39,4 +30,4 @@ returns-4 c =
 pub find-among-spec : {M : Type 1} → statement M
 find-among-spec =
     tie.close
-    (tie.spec find-requires enum-told enum-known-row returns returns-2 returns-3 returns-4)
+    (tie.spec (λ c κs. search needs) (λ c. search needs) (λ c. search needs) returns returns-2 returns-3 returns-4)

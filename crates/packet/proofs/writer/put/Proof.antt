@@ -38,9 +38,6 @@ put-mandatory-requires c κs =
     let s = c .before .before .before .before .before in
     (s .pre .0, (omega (arith, room s), (s .pre .1 .0, short s)))
 
-cast-after-header : tie.Need-cast-after-header
-cast-after-header c = search needs
-
 write-bytes-requires : tie.Need-write-bytes-requires
 write-bytes-requires c κs = omega (arith, room (c .before .before .before .before .before .before .before .before .before .before))
 
@@ -72,9 +69,6 @@ write-bytes-requires-2 c κs =
     let w2 = w3 .before .before .before .before in
     let w1 = w2 .before .before .before .before .before in
     omega (arith, w5 .write-connid, w4 .write-cq-data, w3 .write-raw-address, w2 .write-bytes, w1 .put-mandatory .kept, room (w1 .before .before .before .before .before .before))
-
-same-length : tie.Need-same-length
-same-length c = search needs
 
 returns : tie.Need-returns
 returns c =
@@ -120,11 +114,11 @@ put-spec =
     tie.close
     (tie.spec
     put-mandatory-requires
-    cast-after-header
+    (λ c. search needs)
     write-bytes-requires
     write-raw-address-requires
     write-cq-data-requires
     write-connid-requires
     write-bytes-requires-2
-    same-length
+    (λ c. search needs)
     returns)

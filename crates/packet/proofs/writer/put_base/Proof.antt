@@ -13,14 +13,8 @@ use Rattle.wire.proofs.Laws.{length-le}
 use Rattle.packet.proofs.writer.put_base.Statement.{statement}
 use Rattle.packet.proofs.writer.put_base.Tie as tie
 
-slice-write-out : tie.Need-slice-write-out
-slice-write-out c = search needs
-
 slice-write-out-2 : tie.Need-slice-write-out-2
 slice-write-out-2 c = simp length-set (omega arith)
-
-write-u16-requires : tie.Need-write-u16-requires
-write-u16-requires c κs = search needs
 
 same-length : tie.Need-same-length
 same-length c = simp length-set at (c .before .before .write-u16 .kept .0)
@@ -37,4 +31,4 @@ returns c =
 
 pub put-base-spec : {M : Type 1} → statement M
 put-base-spec =
-    tie.close (tie.spec slice-write-out slice-write-out-2 write-u16-requires same-length returns)
+    tie.close (tie.spec (λ c. search needs) slice-write-out-2 (λ c κs. search needs) same-length returns)

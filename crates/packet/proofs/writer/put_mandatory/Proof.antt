@@ -12,18 +12,6 @@ use Rattle.protocol.proofs.WritingLaws.{length-base}
 use Rattle.packet.proofs.writer.put_mandatory.Statement.{statement}
 use Rattle.packet.proofs.writer.put_mandatory.Tie as tie
 
-put-base-requires : tie.Need-put-base-requires
-put-base-requires c κs = search needs
-
-count-of-requires : tie.Need-count-of-requires
-count-of-requires c κs = search needs
-
-write-requires : tie.Need-write-requires
-write-requires c κs = search needs
-
-same-length : tie.Need-same-length
-same-length c = search needs
-
 returns : tie.Need-returns
 unfolding mandatoryBytes
 returns c =
@@ -44,4 +32,4 @@ returns c =
 pub put-mandatory-spec : {M : Type 1} → statement M
 put-mandatory-spec =
     tie.close
-    (tie.spec put-base-requires count-of-requires write-requires same-length returns)
+    (tie.spec (λ c κs. search needs) (λ c κs. search needs) (λ c κs. search needs) (λ c. search needs) returns)

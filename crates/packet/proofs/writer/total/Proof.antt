@@ -12,9 +12,6 @@ use Rattle.packet.proofs.writer.total.Tie as tie
 head : (c : tie.After-head-length) → c .head-length .result ≤ 80
 head c = rw (c .head-length .ensures) (head-small (c .before .args .row) (c .before .args .flags) (c .before .pre .0))
 
-head-length-requires : tie.Need-head-length-requires
-head-length-requires c κs = search needs
-
 returns : tie.Need-returns
 returns c =
     let s = c .before .before in
@@ -27,17 +24,11 @@ returns-2 c =
     let a = s .args in
     sym (total-above (a .row) (a .flags) (a .array) (a .raw) (a .size) (s .pre .1) (omega arith))
 
-raw-address-requires : tie.Need-raw-address-requires
-raw-address-requires c κs = search needs
-
 add-limited : tie.Need-add-limited
 add-limited c = omega (arith, head (c .before .before .before .before))
 
 add-limited-2 : tie.Need-add-limited-2
 add-limited-2 c = omega (arith, head (c .before .before .before .before))
-
-limited-requires : tie.Need-limited-requires
-limited-requires c κs = search needs
 
 returns-3 : tie.Need-returns-3
 returns-3 c =
@@ -68,9 +59,6 @@ add-limited-5 c = omega (arith, head (c .before .before .before .before .before)
 add-limited-6 : tie.Need-add-limited-6
 add-limited-6 c = omega (arith, head (c .before .before .before .before .before))
 
-limited-requires-2 : tie.Need-limited-requires-2
-limited-requires-2 c κs = search needs
-
 returns-5 : tie.Need-returns-5
 returns-5 c =
     let w = c .before .before .before in
@@ -81,4 +69,4 @@ returns-5 c =
     rw (c .limited2 .ensures, k .head-length .ensures) (sym (total-with (a .row) (a .flags) (a .array) (a .raw) (a .size) (s .pre .1) e))
 
 pub total-spec : {M : Type 1} → statement M
-total-spec = tie.close (tie.spec head-length-requires returns returns-2 raw-address-requires add-limited add-limited-2 limited-requires returns-3 returns-4 add-limited-3 add-limited-4 add-limited-5 add-limited-6 limited-requires-2 returns-5)
+total-spec = tie.close (tie.spec (λ c κs. search needs) returns returns-2 (λ c κs. search needs) add-limited add-limited-2 (λ c κs. search needs) returns-3 returns-4 add-limited-3 add-limited-4 add-limited-5 add-limited-6 (λ c κs. search needs) returns-5)

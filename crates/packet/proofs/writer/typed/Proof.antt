@@ -53,24 +53,12 @@ measured : (c : tie.After-known-told) →
     (length bytes ≡ c .before .n .given .0 .0) × (length bytes ≤ 8192)
 measured c = limited-bytes _ _ (answered (c .before .before .before) ∙ c .before .n .given .1)
 
-may-have-requires : tie.Need-may-have-requires
-may-have-requires c κs = search needs
-
-refused-requires : tie.Need-refused-requires
-refused-requires c κs = search needs
-
 returns : tie.Need-returns
 unfolding writeAs pick
 returns c =
     let f = c .before .before in
     let e = not-true (f .may-have .result) (c .before .if1 .taken) in
     rw (← f .may-have .ensures, e, c .refused .ensures)
-
-lengths-fit-requires : tie.Need-lengths-fit-requires
-lengths-fit-requires c κs = search needs
-
-refused-requires-2 : tie.Need-refused-requires-2
-refused-requires-2 c κs = search needs
 
 returns-2 : tie.Need-returns-2
 unfolding writeAs pick
@@ -81,23 +69,8 @@ returns-2 c =
     let e2 = not-true (f2 .lengths-fit .result) (c .before .if2 .taken) in
     rw (← f1 .may-have .ensures, e1, ← f2 .lengths-fit .ensures, e2, c .refused2 .ensures)
 
-written-requires : tie.Need-written-requires
-written-requires c κs = search needs
-
 total-requires : tie.Need-total-requires
 total-requires c κs = (c .before .before .before .before .before .before .before .before .before .pre, fitting (c .before) .1)
-
-enum-told : tie.Need-enum-told
-enum-told c = search needs
-
-refused-requires-3 : tie.Need-refused-requires-3
-refused-requires-3 c κs = search needs
-
-enum-known-n : tie.Need-enum-known-n
-enum-known-n c = search needs
-
-refused-requires-4 : tie.Need-refused-requires-4
-refused-requires-4 c κs = search needs
 
 returns-3 : tie.Need-returns-3
 unfolding writeBytes pick
@@ -122,9 +95,6 @@ returns-4 c =
     let e = limited-above _ (answered t ∙ c .before .enum-told .given .1) in
     rw (passed (t .before .before), lt-ltb 8192 _ e, c .refused3 .ensures)
 
-same-length : tie.Need-same-length
-same-length c = search needs
-
 returns-5 : tie.Need-returns-5
 unfolding writeBytes pick
 returns-5 c =
@@ -138,20 +108,20 @@ pub typed-spec : {M : Type 1} → statement M
 typed-spec =
     tie.close
     (tie.spec
-    may-have-requires
-    refused-requires
+    (λ c κs. search needs)
+    (λ c κs. search needs)
     returns
-    lengths-fit-requires
-    refused-requires-2
+    (λ c κs. search needs)
+    (λ c κs. search needs)
     returns-2
-    written-requires
+    (λ c κs. search needs)
     total-requires
-    enum-told
-    refused-requires-3
-    enum-known-n
-    refused-requires-4
+    (λ c. search needs)
+    (λ c κs. search needs)
+    (λ c. search needs)
+    (λ c κs. search needs)
     returns-3
     put-requires
     returns-4
-    same-length
+    (λ c. search needs)
     returns-5)

@@ -6,21 +6,6 @@ use Rattle.protocol.proofs.TableRule.{sound}
 use Rattle.packet.proofs.writer.write.Statement.{statement}
 use Rattle.packet.proofs.writer.write.Tie as tie
 
-find-requires : tie.Need-find-requires
-find-requires c κs = search needs
-
-enum-told : tie.Need-enum-told
-enum-told c = search needs
-
-refused-requires : tie.Need-refused-requires
-refused-requires c κs = search needs
-
-enum-known-row : tie.Need-enum-known-row
-enum-known-row c = search needs
-
-slice-aggregate-typed : tie.Need-slice-aggregate-typed
-slice-aggregate-typed c = search needs
-
 typed-requires : tie.Need-typed-requires
 typed-requires c κs = sound _ _ (sym (c .before .before .before .before .before .find .ensures) ∙ c .before .before .before .row .given .1)
 
@@ -28,9 +13,6 @@ returns : tie.Need-returns
 unfolding writeOf writeTyped
 returns c =
     rw (← c .before .before .before .find .ensures, c .before .enum-told .given .1, c .refused .ensures)
-
-same-length : tie.Need-same-length
-same-length c = search needs
 
 returns-2 : tie.Need-returns-2
 unfolding writeOf writeTyped
@@ -42,12 +24,12 @@ pub write-spec : {M : Type 1} → statement M
 write-spec =
     tie.close
     (tie.spec
-    find-requires
-    enum-told
-    refused-requires
-    enum-known-row
-    slice-aggregate-typed
+    (λ c κs. search needs)
+    (λ c. search needs)
+    (λ c κs. search needs)
+    (λ c. search needs)
+    (λ c. search needs)
     typed-requires
     returns
-    same-length
+    (λ c. search needs)
     returns-2)

@@ -17,33 +17,9 @@ returns : tie.Need-returns
 unfolding readInto pick
 returns c = rw (lt-leb _ _ (c .if1 .taken))
 
-read-requires : tie.Need-read-requires
-read-requires c κs = search needs
-
-enum-known-refusal : tie.Need-enum-known-refusal
-enum-known-refusal c = search needs
-
-cast-result : tie.Need-cast-result
-cast-result c = search needs
-
-enum-known-packet : tie.Need-enum-known-packet
-enum-known-packet c = search needs
-
-value-words-requires : tie.Need-value-words-requires
-value-words-requires c κs = search needs
-
-slice-aggregate-put-words : tie.Need-slice-aggregate-put-words
-slice-aggregate-put-words c = search needs
-
-put-words-requires : tie.Need-put-words-requires
-put-words-requires c κs = search needs
-
 returns-2 : tie.Need-returns-2
 unfolding readInto pick
 returns-2 c = rw (le-leb valueCount _ (c .before .before .before .before .before .if1 .left), ← answer (c .before .before .before .before), c .before .before .refusal .given .1)
-
-same-length : tie.Need-same-length
-same-length c = search needs
 
 returns-3 : tie.Need-returns-3
 unfolding readInto pick
@@ -54,13 +30,13 @@ read-spec =
     tie.close
     (tie.spec
     returns
-    read-requires
-    enum-known-refusal
-    cast-result
-    enum-known-packet
-    value-words-requires
-    slice-aggregate-put-words
-    put-words-requires
+    (λ c κs. search needs)
+    (λ c. search needs)
+    (λ c. search needs)
+    (λ c. search needs)
+    (λ c κs. search needs)
+    (λ c. search needs)
+    (λ c κs. search needs)
     returns-2
-    same-length
+    (λ c. search needs)
     returns-3)

@@ -6,22 +6,13 @@ use Rattle.packet_words.specs.Writing.{allNarrow}
 use Rattle.packet_words.proofs.writing.all_narrow.Statement.{statement}
 use Rattle.packet_words.proofs.writing.all_narrow.Tie as tie
 
-shared-slice-read-if1 : tie.Need-shared-slice-read-if1
-shared-slice-read-if1 c = search needs
-
 returns : tie.Need-returns
 unfolding allNarrow
 returns c = rw (le-ltb _ _ (c .if1 .taken))
 
-shared-slice-read-if2 : tie.Need-shared-slice-read-if2
-shared-slice-read-if2 c = search needs
-
 returns-2 : tie.Need-returns-2
 unfolding allNarrow
 returns-2 c = rw (lt-ltb _ _ (c .before .before .if1 .left), le-ltb _ _ (c .if2 .taken))
-
-shared-slice-read-if3 : tie.Need-shared-slice-read-if3
-shared-slice-read-if3 c = search needs
 
 returns-3 : tie.Need-returns-3
 unfolding allNarrow
@@ -29,18 +20,12 @@ returns-3 c =
     let d = c .before .before in
     rw (lt-ltb _ _ (d .before .before .if1 .left), lt-ltb _ _ (d .if2 .left), le-ltb _ _ (c .if3 .taken))
 
-shared-slice-read-if4 : tie.Need-shared-slice-read-if4
-shared-slice-read-if4 c = search needs
-
 returns-4 : tie.Need-returns-4
 unfolding allNarrow
 returns-4 c =
     let d = c .before .before in
     let e = d .before .before in
     rw (lt-ltb _ _ (e .before .before .if1 .left), lt-ltb _ _ (e .if2 .left), lt-ltb _ _ (d .if3 .left), le-ltb _ _ (c .if4 .taken))
-
-shared-slice-read-result : tie.Need-shared-slice-read-result
-shared-slice-read-result c = search needs
 
 returns-5 : tie.Need-returns-5
 unfolding allNarrow
@@ -54,13 +39,13 @@ pub all-narrow-spec : {M : Type 1} → statement M
 all-narrow-spec =
     tie.close
     (tie.spec
-    shared-slice-read-if1
+    (λ c. search needs)
     returns
-    shared-slice-read-if2
+    (λ c. search needs)
     returns-2
-    shared-slice-read-if3
+    (λ c. search needs)
     returns-3
-    shared-slice-read-if4
+    (λ c. search needs)
     returns-4
-    shared-slice-read-result
+    (λ c. search needs)
     returns-5)

@@ -5,15 +5,6 @@ use Rattle.packet_words.proofs.writing.connid_in.Tie as tie
 use borrow.Author.Tests.{eq-eqb, ne-eqb}
 use Rattle.laws.specs.Choose.{pick}
 
-shared-slice-read-if1 : tie.Need-shared-slice-read-if1
-shared-slice-read-if1 c = search needs
-
-shared-slice-read-t7 : tie.Need-shared-slice-read-t7
-shared-slice-read-t7 c = search needs
-
-cast-t9 : tie.Need-cast-t9
-cast-t9 c = search needs
-
 returns : tie.Need-returns
 unfolding pick
 returns c = rw (eq-eqb _ _ (c .if1 .taken))
@@ -24,4 +15,4 @@ returns-2 c = rw (ne-eqb _ _ (c .before .if1 .left))
 
 pub connid-in-spec : {M : Type 1} → statement M
 connid-in-spec =
-    tie.close (tie.spec shared-slice-read-if1 shared-slice-read-t7 cast-t9 returns returns-2)
+    tie.close (tie.spec (λ c. search needs) (λ c. search needs) (λ c. search needs) returns returns-2)

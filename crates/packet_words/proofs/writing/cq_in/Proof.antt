@@ -6,12 +6,6 @@ use Rattle.packet_words.proofs.writing.cq_in.Statement.{statement}
 use Rattle.packet_words.proofs.writing.cq_in.Tie as tie
 use Rattle.laws.specs.Choose.{pick}
 
-shared-slice-read-if1 : tie.Need-shared-slice-read-if1
-shared-slice-read-if1 c = search needs
-
-shared-slice-read-t7 : tie.Need-shared-slice-read-t7
-shared-slice-read-t7 c = search needs
-
 returns : tie.Need-returns
 unfolding pick
 returns c = rw (eq-eqb (getD (c .before .before .args .values .now) 13 0) 0 (c .if1 .taken))
@@ -21,4 +15,4 @@ unfolding pick
 returns-2 c = rw (ne-eqb _ _ (c .before .if1 .left))
 
 pub cq-in-spec : {M : Type 1} → statement M
-cq-in-spec = tie.close (tie.spec shared-slice-read-if1 shared-slice-read-t7 returns returns-2)
+cq-in-spec = tie.close (tie.spec (λ c. search needs) (λ c. search needs) returns returns-2)

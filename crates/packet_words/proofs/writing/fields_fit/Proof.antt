@@ -5,12 +5,6 @@ use borrow.Author.Needs.{needs}
 use Rattle.packet_words.proofs.writing.fields_fit.Statement.{statement}
 use Rattle.packet_words.proofs.writing.fields_fit.Tie as tie
 
-shared-slice-read-holds : tie.Need-shared-slice-read-holds
-shared-slice-read-holds c = search needs
-
-holds-requires : tie.Need-holds-requires
-holds-requires c κs = search needs
-
 returns : tie.Need-returns
 returns c =
     rw (
@@ -18,12 +12,6 @@ returns c =
       ← c .before .holds .ensures,
       not-true (c .before .holds .result) (c .if1 .taken),
     )
-
-shared-slice-read-holds-2 : tie.Need-shared-slice-read-holds-2
-shared-slice-read-holds-2 c = search needs
-
-holds-requires-2 : tie.Need-holds-requires-2
-holds-requires-2 c κs = search needs
 
 returns-2 : tie.Need-returns-2
 returns-2 c =
@@ -34,12 +22,6 @@ returns-2 c =
       ← c .before .holds2 .ensures,
       not-true (c .before .holds2 .result) (c .if2 .taken),
     )
-
-shared-slice-read-holds-3 : tie.Need-shared-slice-read-holds-3
-shared-slice-read-holds-3 c = search needs
-
-holds-requires-3 : tie.Need-holds-requires-3
-holds-requires-3 c κs = search needs
 
 returns-3 : tie.Need-returns-3
 returns-3 c =
@@ -52,12 +34,6 @@ returns-3 c =
       ← c .before .holds3 .ensures,
       not-true (c .before .holds3 .result) (c .if3 .taken),
     )
-
-shared-slice-read-holds-4 : tie.Need-shared-slice-read-holds-4
-shared-slice-read-holds-4 c = search needs
-
-holds-requires-4 : tie.Need-holds-requires-4
-holds-requires-4 c κs = search needs
 
 returns-4 : tie.Need-returns-4
 returns-4 c =
@@ -76,15 +52,15 @@ pub fields-fit-spec : {M : Type 1} → statement M
 fields-fit-spec =
     tie.close
     (tie.spec
-    shared-slice-read-holds
-    holds-requires
+    (λ c. search needs)
+    (λ c κs. search needs)
     returns
-    shared-slice-read-holds-2
-    holds-requires-2
+    (λ c. search needs)
+    (λ c κs. search needs)
     returns-2
-    shared-slice-read-holds-3
-    holds-requires-3
+    (λ c. search needs)
+    (λ c κs. search needs)
     returns-3
-    shared-slice-read-holds-4
-    holds-requires-4
+    (λ c. search needs)
+    (λ c κs. search needs)
     returns-4)

@@ -5,21 +5,9 @@ use borrow.Author.Needs.{needs}
 use Rattle.packet_words.proofs.writing.numbers_fit.Statement.{statement}
 use Rattle.packet_words.proofs.writing.numbers_fit.Tie as tie
 
-fields-fit-requires : tie.Need-fields-fit-requires
-fields-fit-requires c κs = search needs
-
 returns : tie.Need-returns
 unfolding numbersFit
 returns c = rw (← c .before .fields-fit .ensures, not-true (c .before .fields-fit .result) (c .if1 .taken))
-
-shared-slice-read-holds : tie.Need-shared-slice-read-holds
-shared-slice-read-holds c = search needs
-
-shared-slice-read-holds-2 : tie.Need-shared-slice-read-holds-2
-shared-slice-read-holds-2 c = search needs
-
-holds-requires : tie.Need-holds-requires
-holds-requires c κs = search needs
 
 returns-2 : tie.Need-returns-2
 unfolding numbersFit
@@ -30,4 +18,4 @@ returns-2 c =
 pub numbers-fit-spec : {M : Type 1} → statement M
 numbers-fit-spec =
     tie.close
-    (tie.spec fields-fit-requires returns shared-slice-read-holds shared-slice-read-holds-2 holds-requires returns-2)
+    (tie.spec (λ c κs. search needs) returns (λ c. search needs) (λ c. search needs) (λ c κs. search needs) returns-2)

@@ -10,12 +10,6 @@ returns c =
     let s = c .before in
     rw (options-said (s .args .values .now) (s .args .row) (s .pre .0), c .if1 .taken)
 
-shared-slice-read-if2 : tie.Need-shared-slice-read-if2
-shared-slice-read-if2 c = search needs
-
-shared-slice-read-result : tie.Need-shared-slice-read-result
-shared-slice-read-result c = search needs
-
 returns-2 : tie.Need-returns-2
 returns-2 c =
     let s = c .before .before .before .before in
@@ -27,4 +21,4 @@ returns-3 c =
     rw (options-said (s .args .values .now) (s .args .row) (s .pre .0), c .before .before .if1 .left, ne-eqb _ _ (c .if2 .left))
 
 pub options-fit-spec : {M : Type 1} → statement M
-options-fit-spec = tie.close (tie.spec returns shared-slice-read-if2 shared-slice-read-result returns-2 returns-3)
+options-fit-spec = tie.close (tie.spec returns (λ c. search needs) (λ c. search needs) returns-2 returns-3)

@@ -16,21 +16,9 @@ returns : tie.Need-returns
 unfolding writeFrom pick
 returns c = rw (lt-leb _ _ (c .if1 .taken))
 
-shared-slice-read-kind : tie.Need-shared-slice-read-kind
-shared-slice-read-kind c = search needs
-
 returns-2 : tie.Need-returns-2
 unfolding writeFrom writeTyped pick
 returns-2 c = rw (le-leb _ _ (c .before .before .if1 .left), no-type _ (c .if2 .taken))
-
-all-narrow-requires : tie.Need-all-narrow-requires
-all-narrow-requires c κs = search needs
-
-write-header-requires : tie.Need-write-header-requires
-write-header-requires c κs = search needs
-
-same-length : tie.Need-same-length
-same-length c = search needs
 
 returns-3 : tie.Need-returns-3
 unfolding writeFrom pick
@@ -43,18 +31,6 @@ returns-3 c =
     (w .write-header .ensures
     ∙ sym (written-at-once _ (λ i. k .shared-slice-known4 .given i .fits) (sym (n .all-narrow .ensures) ∙ t .if3 .taken) _ _ _ _ (omega arith)))
 
-cast-find : tie.Need-cast-find
-cast-find c = search needs
-
-find-requires : tie.Need-find-requires
-find-requires c κs = search needs
-
-enum-told : tie.Need-enum-told
-enum-told c = search needs
-
-enum-known-row : tie.Need-enum-known-row
-enum-known-row c = search needs
-
 write-as-requires : tie.Need-write-as-requires
 write-as-requires c κs =
     let w = c .before .before .before in
@@ -65,9 +41,6 @@ unfolding writeFrom writeTyped pick
 returns-4 c =
     let f = c .before .before in
     rw (le-leb _ _ (f .before .before .before .before .before .if1 .left), ← f .find .ensures, c .enum-told .given .1)
-
-same-length-2 : tie.Need-same-length-2
-same-length-2 c = search needs
 
 returns-5 : tie.Need-returns-5
 unfolding writeFrom pick
@@ -81,17 +54,17 @@ write-spec =
     tie.close
     (tie.spec
     returns
-    shared-slice-read-kind
+    (λ c. search needs)
     returns-2
-    all-narrow-requires
-    write-header-requires
-    same-length
+    (λ c κs. search needs)
+    (λ c κs. search needs)
+    (λ c. search needs)
     returns-3
-    cast-find
-    find-requires
-    enum-told
-    enum-known-row
+    (λ c. search needs)
+    (λ c κs. search needs)
+    (λ c. search needs)
+    (λ c. search needs)
     write-as-requires
     returns-4
-    same-length-2
+    (λ c. search needs)
     returns-5)

@@ -6,15 +6,9 @@ use Rattle.packet_words.specs.Writing.{writeTyped}
 use Rattle.packet_words.proofs.writing.write_as.Statement.{statement}
 use Rattle.packet_words.proofs.writing.write_as.Tie as tie
 
-options-fit-requires : tie.Need-options-fit-requires
-options-fit-requires c κs = search needs
-
 returns : tie.Need-returns
 unfolding writeTyped pick
 returns c = rw (← c .before .options-fit .ensures, not-true (c .before .options-fit .result) (c .if1 .taken))
-
-numbers-fit-requires : tie.Need-numbers-fit-requires
-numbers-fit-requires c κs = search needs
 
 returns-2 : tie.Need-returns-2
 unfolding writeTyped pick
@@ -26,12 +20,6 @@ returns-2 c =
       ← c .before .numbers-fit .ensures,
       not-true (c .before .numbers-fit .result) (c .if2 .taken),
     )
-
-write-header-requires : tie.Need-write-header-requires
-write-header-requires c κs = search needs
-
-same-length : tie.Need-same-length
-same-length c = search needs
 
 returns-3 : tie.Need-returns-3
 unfolding writeTyped pick
@@ -51,10 +39,10 @@ pub write-as-spec : {M : Type 1} → statement M
 write-as-spec =
     tie.close
     (tie.spec
-    options-fit-requires
+    (λ c κs. search needs)
     returns
-    numbers-fit-requires
+    (λ c κs. search needs)
     returns-2
-    write-header-requires
-    same-length
+    (λ c κs. search needs)
+    (λ c. search needs)
     returns-3)

@@ -5,18 +5,6 @@ use Rattle.laws.specs.Choose.{pick}
 use Rattle.posting.proofs.ages.one_older.Statement.{statement}
 use Rattle.posting.proofs.ages.one_older.Tie as tie
 
-enum-told : tie.Need-enum-told
-enum-told c = search needs
-
-enum-known-phase : tie.Need-enum-known-phase
-enum-known-phase c = search needs
-
-enum-told-2 : tie.Need-enum-told-2
-enum-told-2 c = search needs
-
-returns : tie.Need-returns
-returns c = search needs
-
 returns-2 : tie.Need-returns-2
 unfolding pick
 returns-2 c = rw (c .before .before .phase .given .1, lt-ltb _ _ (c .if1 .taken))
@@ -25,10 +13,7 @@ returns-3 : tie.Need-returns-3
 unfolding pick
 returns-3 c = rw (c .before .before .phase .given .1, le-ltb _ _ (c .if1 .left))
 
-returns-4 : tie.Need-returns-4
-returns-4 c = search needs
-
 pub one-older-spec : {M : Type 1} → statement M
 one-older-spec =
     tie.close
-    (tie.spec enum-told enum-known-phase enum-told-2 returns returns-2 returns-3 returns-4)
+    (tie.spec (λ c. search needs) (λ c. search needs) (λ c. search needs) (λ c. search needs) returns-2 returns-3 (λ c. search needs))

@@ -3,18 +3,6 @@ use borrow.Author.Needs.{needs}
 use Rattle.posting.proofs.ages.renumbered_slot.Statement.{statement}
 use Rattle.posting.proofs.ages.renumbered_slot.Tie as tie
 
-enum-told : tie.Need-enum-told
-enum-told c = search needs
-
-enum-known-phase : tie.Need-enum-known-phase
-enum-known-phase c = search needs
-
-count-older-requires : tie.Need-count-older-requires
-count-older-requires c κs = search needs
-
-enum-told-2 : tie.Need-enum-told-2
-enum-told-2 c = search needs
-
 returns : tie.Need-returns
 returns c = rw (c .enum-told .given .1)
 
@@ -28,10 +16,10 @@ pub renumbered-slot-spec : {M : Type 1} → statement M
 renumbered-slot-spec =
     tie.close
     (tie.spec
-    enum-told
-    enum-known-phase
-    count-older-requires
-    enum-told-2
+    (λ c. search needs)
+    (λ c. search needs)
+    (λ c κs. search needs)
+    (λ c. search needs)
     returns
     returns-2
     returns-3)

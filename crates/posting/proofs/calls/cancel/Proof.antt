@@ -8,24 +8,9 @@ use Rattle.posting.proofs.Cancelling.{cancel-free, cancel-used}
 use Rattle.posting.proofs.calls.cancel.Statement.{statement}
 use Rattle.posting.proofs.calls.cancel.Tie as tie
 
-refused-requires : tie.Need-refused-requires
-refused-requires c κs = search needs
-
 returns : tie.Need-returns
 unfolding cancelEffect pick
 returns c = λ ws. rw (le-leb _ _ (c .before .if1 .taken), c .refused .ensures)
-
-mul-there : tie.Need-mul-there
-mul-there c = search needs
-
-element-copy-out-there : tie.Need-element-copy-out-there
-element-copy-out-there c = search needs
-
-is-free-requires : tie.Need-is-free-requires
-is-free-requires c κs = search needs
-
-refused-requires-2 : tie.Need-refused-requires-2
-refused-requires-2 c κs = search needs
 
 returns-2 : tie.Need-returns-2
 unfolding cancelEffect pick
@@ -33,9 +18,6 @@ returns-2 c = λ ws.
     let s = c .before .before .before .before .before in
     rw (lt-leb _ _ (c .before .before .before .before .if1 .left), c .refused2 .ensures)
     (sym (cancel-free (s .args .t1) ws (s .args .slot) _ (sym (c .before .before .is-free .ensures) ∙ c .before .if2 .taken)))
-
-stepped-requires : tie.Need-stepped-requires
-stepped-requires c κs = search needs
 
 returns-3 : tie.Need-returns-3
 unfolding cancelEffect pick
@@ -48,12 +30,12 @@ pub cancel-spec : {M : Type 1} → statement M
 cancel-spec =
     tie.close
     (tie.spec
-    refused-requires
+    (λ c κs. search needs)
     returns
-    mul-there
-    element-copy-out-there
-    is-free-requires
-    refused-requires-2
+    (λ c. search needs)
+    (λ c. search needs)
+    (λ c κs. search needs)
+    (λ c κs. search needs)
     returns-2
-    stepped-requires
+    (λ c κs. search needs)
     returns-3)

@@ -13,12 +13,6 @@ use Rattle.peer.proofs.Slots.{vacant}
 use Rattle.posting.proofs.calls.post.Statement.{statement}
 use Rattle.posting.proofs.calls.post.Tie as tie
 
-ends-by-requires : tie.Need-ends-by-requires
-ends-by-requires c κs = search needs
-
-refused-requires : tie.Need-refused-requires
-refused-requires c κs = search needs
-
 returns : tie.Need-returns
 unfolding postEffect pick
 returns c = λ ws.
@@ -26,30 +20,12 @@ returns c = λ ws.
     let n = a .receive .start + a .receive .capacity in
     rw (not-beyond n (a .area) (sym (c .before .before .ends-by .ensures) ∙ not-true _ (c .before .if1 .taken)), c .refused .ensures)
 
-has-in-the-way-requires : tie.Need-has-in-the-way-requires
-has-in-the-way-requires c κs = search needs
-
-refused-requires-2 : tie.Need-refused-requires-2
-refused-requires-2 c κs = search needs
-
 returns-2 : tie.Need-returns-2
 unfolding postEffect pick
 returns-2 c = λ ws.
     let a = c .before .before .before .before .before .args in
     let n = a .receive .start + a .receive .capacity in
     rw (beyond n (a .area) (sym (c .before .before .before .before .ends-by .ensures) ∙ not-false _ (c .before .before .before .if1 .left)), ← c .before .before .has-in-the-way .ensures, c .before .if2 .taken, c .refused2 .ensures)
-
-find-vacancy-requires : tie.Need-find-vacancy-requires
-find-vacancy-requires c κs = search needs
-
-enum-told : tie.Need-enum-told
-enum-told c = search needs
-
-refused-requires-3 : tie.Need-refused-requires-3
-refused-requires-3 c κs = search needs
-
-enum-known-i : tie.Need-enum-known-i
-enum-known-i c = search needs
 
 placed-requires : tie.Need-placed-requires
 placed-requires c κs =
@@ -89,16 +65,16 @@ pub post-spec : {M : Type 1} → statement M
 post-spec =
     tie.close
     (tie.spec
-    ends-by-requires
-    refused-requires
+    (λ c κs. search needs)
+    (λ c κs. search needs)
     returns
-    has-in-the-way-requires
-    refused-requires-2
+    (λ c κs. search needs)
+    (λ c κs. search needs)
     returns-2
-    find-vacancy-requires
-    enum-told
-    refused-requires-3
-    enum-known-i
+    (λ c κs. search needs)
+    (λ c. search needs)
+    (λ c κs. search needs)
+    (λ c. search needs)
     placed-requires
     returns-3
     returns-4)

@@ -4,21 +4,6 @@ use Rattle.peer.specs.State.{inTheWay}
 use Rattle.posting.proofs.places.is_in_the_way.Statement.{statement}
 use Rattle.posting.proofs.places.is_in_the_way.Tie as tie
 
-enum-told : tie.Need-enum-told
-enum-told c = search needs
-
-enum-known-phase : tie.Need-enum-known-phase
-enum-known-phase c = search needs
-
-overlaps-requires : tie.Need-overlaps-requires
-overlaps-requires c κs = search needs
-
-enum-known-phase-2 : tie.Need-enum-known-phase-2
-enum-known-phase-2 c = search needs
-
-overlaps-requires-2 : tie.Need-overlaps-requires-2
-overlaps-requires-2 c κs = search needs
-
 returns : tie.Need-returns
 unfolding inTheWay
 returns c = rw (c .enum-told .given .1)
@@ -35,11 +20,11 @@ pub is-in-the-way-spec : {M : Type 1} → statement M
 is-in-the-way-spec =
     tie.close
     (tie.spec
-    enum-told
-    enum-known-phase
-    overlaps-requires
-    enum-known-phase-2
-    overlaps-requires-2
+    (λ c. search needs)
+    (λ c. search needs)
+    (λ c κs. search needs)
+    (λ c. search needs)
+    (λ c κs. search needs)
     returns
     returns-2
     returns-3)

@@ -5,27 +5,6 @@ use Rattle.receiving.proofs.Asking.{within}
 use Rattle.receiving.proofs.effects.accept.Statement.{statement}
 use Rattle.receiving.proofs.effects.accept.Tie as tie
 
-add-at : tie.Need-add-at
-add-at c = search needs
-
-write-segment-requires : tie.Need-write-segment-requires
-write-segment-requires c κs = search needs
-
-mark-requires : tie.Need-mark-requires
-mark-requires c κs = search needs
-
-settle-requires : tie.Need-settle-requires
-settle-requires c κs = search needs
-
-same-length : tie.Need-same-length
-same-length c = search needs
-
-same-length-2 : tie.Need-same-length-2
-same-length-2 c = search needs
-
-same-length-3 : tie.Need-same-length-3
-same-length-3 c = search needs
-
 returns : tie.Need-returns
 unfolding accept
 returns c =
@@ -36,11 +15,11 @@ pub accept-spec : {M : Type 1} → statement M
 accept-spec =
     tie.close
     (tie.spec
-    add-at
-    write-segment-requires
-    mark-requires
-    settle-requires
-    same-length
-    same-length-2
-    same-length-3
+    (λ c. search needs)
+    (λ c κs. search needs)
+    (λ c κs. search needs)
+    (λ c κs. search needs)
+    (λ c. search needs)
+    (λ c. search needs)
+    (λ c. search needs)
     returns)

@@ -7,27 +7,12 @@ use Rattle.receiving.proofs.Asking.{begun-stores}
 use Rattle.receiving.proofs.effects.begin.Statement.{statement}
 use Rattle.receiving.proofs.effects.begin.Tie as tie
 
-opened-requires : tie.Need-opened-requires
-opened-requires c κs = search needs
-
-clear-requires : tie.Need-clear-requires
-clear-requires c κs = search needs
-
 accept-requires : tie.Need-accept-requires
 accept-requires c κs =
     let s = c .before .before .before .before .before .before .before .before .before .before .before .before in
     let a = s .args in
     rw (c .before .before .before .before .before .before .before .opened .ensures)
     (begun-stores (a .limit) (a .receive) (a .h) (length (a .bytes .now)) (length (a .area .now)) (length (a .words .now)) _ (length (a .reply .now)) (s .pre) (omega (arith, s .pre .whole)))
-
-same-length : tie.Need-same-length
-same-length c = search needs
-
-same-length-2 : tie.Need-same-length-2
-same-length-2 c = search needs
-
-same-length-3 : tie.Need-same-length-3
-same-length-3 c = search needs
 
 returns : tie.Need-returns
 unfolding begun
@@ -42,10 +27,10 @@ pub begin-spec : {M : Type 1} → statement M
 begin-spec =
     tie.close
     (tie.spec
-    opened-requires
-    clear-requires
+    (λ c κs. search needs)
+    (λ c κs. search needs)
     accept-requires
-    same-length
-    same-length-2
-    same-length-3
+    (λ c. search needs)
+    (λ c. search needs)
+    (λ c. search needs)
     returns)

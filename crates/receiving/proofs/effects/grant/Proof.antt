@@ -6,9 +6,6 @@ use Rattle.peer.proofs.Kept.{grant-le}
 use Rattle.receiving.proofs.effects.grant.Statement.{statement}
 use Rattle.receiving.proofs.effects.grant.Tie as tie
 
-grant-of-requires : tie.Need-grant-of-requires
-grant-of-requires c κs = search needs
-
 write-cts-requires : tie.Need-write-cts-requires
 write-cts-requires c κs =
     let s = c .before .before .before .before in
@@ -19,9 +16,6 @@ extended-requires c κs =
     let s = c .before .before .before .before .before .before .before in
     let m = s .args .inbound .message in
     rw (c .before .before .before .before .grant-of .ensures) (omega (arith, grant-le (s .args .limit) m, s .pre .0 .remains))
-
-same-length : tie.Need-same-length
-same-length c = search needs
 
 returns : tie.Need-returns
 returns c =
@@ -35,8 +29,8 @@ pub grant-spec : {M : Type 1} → statement M
 grant-spec =
     tie.close
     (tie.spec
-    grant-of-requires
+    (λ c κs. search needs)
     write-cts-requires
     extended-requires
-    same-length
+    (λ c. search needs)
     returns)

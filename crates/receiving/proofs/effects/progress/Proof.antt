@@ -6,15 +6,9 @@ use Rattle.peer.specs.Effects.{progressOf}
 use Rattle.receiving.proofs.effects.progress.Statement.{statement}
 use Rattle.receiving.proofs.effects.progress.Tie as tie
 
-first-clear-requires : tie.Need-first-clear-requires
-first-clear-requires c κs = search needs
-
 returns : tie.Need-returns
 unfolding progressOf pick
 returns c = rw (← c .before .first-clear .ensures, eq-eqb _ _ (c .if1 .taken))
-
-is-long-requires : tie.Need-is-long-requires
-is-long-requires c κs = search needs
 
 returns-2 : tie.Need-returns-2
 unfolding progressOf pick
@@ -31,4 +25,4 @@ returns-4 c = rw (← c .before .before .before .first-clear .ensures, ne-eqb _ 
 pub progress-spec : {M : Type 1} → statement M
 progress-spec =
     tie.close
-    (tie.spec first-clear-requires returns is-long-requires returns-2 returns-3 returns-4)
+    (tie.spec (λ c κs. search needs) returns (λ c κs. search needs) returns-2 returns-3 returns-4)

@@ -4,21 +4,6 @@ use Rattle.receiving.proofs.CtsWritten.{cts-left}
 use Rattle.receiving.proofs.grants.write_cts.Statement.{statement}
 use Rattle.receiving.proofs.grants.write_cts.Tie as tie
 
-cts-header-requires : tie.Need-cts-header-requires
-cts-header-requires c κs = search needs
-
-slice-aggregate-write : tie.Need-slice-aggregate-write
-slice-aggregate-write c = search needs
-
-slice-aggregate-write-2 : tie.Need-slice-aggregate-write-2
-slice-aggregate-write-2 c = search needs
-
-write-requires : tie.Need-write-requires
-write-requires c κs = search needs
-
-same-length : tie.Need-same-length
-same-length c = search needs
-
 returns : tie.Need-returns
 returns c =
     let s = c .before .before .before .before .before .before .before .before in
@@ -29,9 +14,9 @@ pub write-cts-spec : {M : Type 1} → statement M
 write-cts-spec =
     tie.close
     (tie.spec
-    cts-header-requires
-    slice-aggregate-write
-    slice-aggregate-write-2
-    write-requires
-    same-length
+    (λ c κs. search needs)
+    (λ c. search needs)
+    (λ c. search needs)
+    (λ c κs. search needs)
+    (λ c. search needs)
     returns)

@@ -4,9 +4,6 @@ use Rattle.laws.specs.Choose.{pick}
 use Rattle.receiving.proofs.incoming.message_id.Statement.{statement}
 use Rattle.receiving.proofs.incoming.message_id.Tie as tie
 
-is-rtm-requires : tie.Need-is-rtm-requires
-is-rtm-requires c κs = search needs
-
 returns : tie.Need-returns
 unfolding pick
 returns c = rw (← c .before .is-rtm .ensures, c .if1 .taken)
@@ -16,4 +13,4 @@ unfolding pick
 returns-2 c = rw (← c .before .is-rtm .ensures, c .if1 .left)
 
 pub message-id-spec : {M : Type 1} → statement M
-message-id-spec = tie.close (tie.spec is-rtm-requires returns returns-2)
+message-id-spec = tie.close (tie.spec (λ c κs. search needs) returns returns-2)

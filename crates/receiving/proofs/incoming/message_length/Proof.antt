@@ -4,9 +4,6 @@ use Rattle.laws.specs.Choose.{pick}
 use Rattle.receiving.proofs.incoming.message_length.Statement.{statement}
 use Rattle.receiving.proofs.incoming.message_length.Tie as tie
 
-is-eager-requires : tie.Need-is-eager-requires
-is-eager-requires c κs = search needs
-
 returns : tie.Need-returns
 unfolding pick
 returns c = rw (← c .before .is-eager .ensures, c .if1 .taken)
@@ -16,4 +13,4 @@ unfolding pick
 returns-2 c = rw (← c .before .is-eager .ensures, c .if1 .left)
 
 pub message-length-spec : {M : Type 1} → statement M
-message-length-spec = tie.close (tie.spec is-eager-requires returns returns-2)
+message-length-spec = tie.close (tie.spec (λ c κs. search needs) returns returns-2)

@@ -8,15 +8,6 @@ use Rattle.receiving.proofs.Asking.{again-placed, data-placed}
 use Rattle.receiving.proofs.judging.judge.Statement.{statement}
 use Rattle.receiving.proofs.judging.judge.Tie as tie
 
-is-rtm-requires : tie.Need-is-rtm-requires
-is-rtm-requires c κs = search needs
-
-find-open-requires : tie.Need-find-open-requires
-find-open-requires c κs = search needs
-
-enum-known-i : tie.Need-enum-known-i
-enum-known-i c = search needs
-
 judge-again-requires : tie.Need-judge-again-requires
 judge-again-requires c κs =
     let s = c .before .before .before .before .before .before .before in
@@ -30,12 +21,6 @@ judge-data-requires c κs =
     let a = s .args in
     let found = sym (c .before .before .before .before .find-open .ensures) ∙ c .before .before .i .given .1 in
     data-placed (length (a .words .now)) (a .peer) (a .h) (s .pre) _ _ found
-
-enum-told : tie.Need-enum-told
-enum-told c = search needs
-
-judge-new-requires : tie.Need-judge-new-requires
-judge-new-requires c κs = search needs
 
 returns : tie.Need-returns
 unfolding judge judgeFound pick
@@ -57,13 +42,13 @@ pub judge-spec : {M : Type 1} → statement M
 judge-spec =
     tie.close
     (tie.spec
-    is-rtm-requires
-    find-open-requires
-    enum-known-i
+    (λ c κs. search needs)
+    (λ c κs. search needs)
+    (λ c. search needs)
     judge-again-requires
     judge-data-requires
-    enum-told
-    judge-new-requires
+    (λ c. search needs)
+    (λ c κs. search needs)
     returns
     returns-2
     returns-3

@@ -6,9 +6,6 @@ use Rattle.peer.specs.Judging.{judgeAgain}
 use Rattle.receiving.proofs.judging.judge_again.Statement.{statement}
 use Rattle.receiving.proofs.judging.judge_again.Tie as tie
 
-goes-on-requires : tie.Need-goes-on-requires
-goes-on-requires c κs = search needs
-
 judge-more-requires : tie.Need-judge-more-requires
 judge-more-requires c κs = c .before .before .before .before .pre (sym (c .before .goes-on .ensures) ∙ c .if1 .taken)
 
@@ -21,4 +18,4 @@ unfolding judgeAgain pick
 returns-2 c = rw (← c .before .goes-on .ensures, c .if1 .left)
 
 pub judge-again-spec : {M : Type 1} → statement M
-judge-again-spec = tie.close (tie.spec goes-on-requires judge-more-requires returns returns-2)
+judge-again-spec = tie.close (tie.spec (λ c κs. search needs) judge-more-requires returns returns-2)

@@ -7,15 +7,9 @@ use Rattle.peer.specs.Judging.{judgeData}
 use Rattle.receiving.proofs.judging.judge_data.Statement.{statement}
 use Rattle.receiving.proofs.judging.judge_data.Tie as tie
 
-is-long-requires : tie.Need-is-long-requires
-is-long-requires c κs = search needs
-
 returns : tie.Need-returns
 unfolding judgeData pick
 returns c = rw (← c .before .is-long .ensures, not-true (c .before .is-long .result) (c .if1 .taken))
-
-ends-by-requires : tie.Need-ends-by-requires
-ends-by-requires c κs = search needs
 
 judge-more-requires : tie.Need-judge-more-requires
 judge-more-requires c κs = c .before .before .before .before .before .before .pre (sym (c .before .ends-by .ensures) ∙ c .if2 .taken)
@@ -35,4 +29,4 @@ returns-3 c =
 pub judge-data-spec : {M : Type 1} → statement M
 judge-data-spec =
     tie.close
-    (tie.spec is-long-requires returns ends-by-requires judge-more-requires returns-2 returns-3)
+    (tie.spec (λ c κs. search needs) returns (λ c κs. search needs) judge-more-requires returns-2 returns-3)

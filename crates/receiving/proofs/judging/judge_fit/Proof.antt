@@ -6,12 +6,6 @@ use Rattle.peer.specs.Judging.{judgeFit}
 use Rattle.receiving.proofs.judging.judge_fit.Statement.{statement}
 use Rattle.receiving.proofs.judging.judge_fit.Tie as tie
 
-enum-told : tie.Need-enum-told
-enum-told c = search needs
-
-enum-known-fit : tie.Need-enum-known-fit
-enum-known-fit c = search needs
-
 returns : tie.Need-returns
 unfolding judgeFit
 returns c = rw (c .enum-told .given .1)
@@ -25,4 +19,4 @@ unfolding judgeFit pick
 returns-3 c = rw (c .before .before .before .before .fit .given .1, le-ltb _ _ (c .if1 .left))
 
 pub judge-fit-spec : {M : Type 1} → statement M
-judge-fit-spec = tie.close (tie.spec enum-told enum-known-fit returns returns-2 returns-3)
+judge-fit-spec = tie.close (tie.spec (λ c. search needs) (λ c. search needs) returns returns-2 returns-3)

@@ -8,12 +8,6 @@ use Rattle.peer.specs.Judging.{judgeMore}
 use Rattle.receiving.proofs.judging.judge_more.Statement.{statement}
 use Rattle.receiving.proofs.judging.judge_more.Tie as tie
 
-add-at : tie.Need-add-at
-add-at c = search needs
-
-is-touched-requires : tie.Need-is-touched-requires
-is-touched-requires c κs = search needs
-
 -- what is looked at is the packet's own range
 looked : (c : tie.After-is-touched) → let a = c .before .before .before .before .before .args in
     c .is-touched .result ≡ touched (a .words .now) (a .inbound .receive .start + a .h .offset) (a .h .size)
@@ -28,4 +22,4 @@ unfolding judgeMore pick
 returns-2 c = rw (← looked (c .before), c .if1 .left)
 
 pub judge-more-spec : {M : Type 1} → statement M
-judge-more-spec = tie.close (tie.spec add-at is-touched-requires returns returns-2)
+judge-more-spec = tie.close (tie.spec (λ c. search needs) (λ c κs. search needs) returns returns-2)

@@ -6,9 +6,6 @@ use Rattle.peer.specs.Judging.{judgeNew}
 use Rattle.receiving.proofs.judging.judge_new.Statement.{statement}
 use Rattle.receiving.proofs.judging.judge_new.Tie as tie
 
-ahead-of-requires : tie.Need-ahead-of-requires
-ahead-of-requires c κs = search needs
-
 returns : tie.Need-returns
 unfolding judgeNew pick
 returns c = rw (← c .before .ahead-of .ensures, le-leb _ _ (c .if1 .taken))
@@ -16,12 +13,6 @@ returns c = rw (← c .before .ahead-of .ensures, le-leb _ _ (c .if1 .taken))
 returns-2 : tie.Need-returns-2
 unfolding judgeNew pick
 returns-2 c = rw (← c .before .before .ahead-of .ensures, lt-leb _ _ (c .before .if1 .left), le-leb _ _ (c .if2 .taken))
-
-find-oldest-requires : tie.Need-find-oldest-requires
-find-oldest-requires c κs = search needs
-
-judge-fit-requires : tie.Need-judge-fit-requires
-judge-fit-requires c κs = search needs
 
 returns-3 : tie.Need-returns-3
 unfolding judgeNew pick
@@ -31,9 +22,9 @@ pub judge-new-spec : {M : Type 1} → statement M
 judge-new-spec =
     tie.close
     (tie.spec
-    ahead-of-requires
+    (λ c κs. search needs)
     returns
     returns-2
-    find-oldest-requires
-    judge-fit-requires
+    (λ c κs. search needs)
+    (λ c κs. search needs)
     returns-3)

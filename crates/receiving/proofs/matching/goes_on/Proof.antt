@@ -5,9 +5,6 @@ use Rattle.peer.specs.Matching.{sameMessage}
 use Rattle.receiving.proofs.matching.goes_on.Statement.{statement}
 use Rattle.receiving.proofs.matching.goes_on.Tie as tie
 
-same-medium-requires : tie.Need-same-medium-requires
-same-medium-requires c κs = search needs
-
 returns : tie.Need-returns
 unfolding sameMessage
 returns c = rw (← c .before .same-medium .ensures, not-true (c .before .same-medium .result) (c .if1 .taken))
@@ -21,4 +18,4 @@ unfolding sameMessage
 returns-3 c = rw (← c .before .before .before .before .before .before .same-medium .ensures, not-false (c .before .before .before .before .before .before .same-medium .result) (c .before .before .before .before .before .if1 .left), eq-eqb _ _ (c .before .before .if2 .left))
 
 pub goes-on-spec : {M : Type 1} → statement M
-goes-on-spec = tie.close (tie.spec same-medium-requires returns returns-2 returns-3)
+goes-on-spec = tie.close (tie.spec (λ c κs. search needs) returns returns-2 returns-3)

@@ -6,12 +6,6 @@ use Rattle.peer.specs.Matching.{older}
 use Rattle.receiving.proofs.matching.older.Statement.{statement}
 use Rattle.receiving.proofs.matching.older.Tie as tie
 
-enum-told : tie.Need-enum-told
-enum-told c = search needs
-
-enum-known-best : tie.Need-enum-known-best
-enum-known-best c = search needs
-
 returns : tie.Need-returns
 unfolding older
 returns c = rw (c .enum-told .given .1)
@@ -25,4 +19,4 @@ unfolding older pick
 returns-3 c = rw (c .before .before .best .given .1, le-ltb (c .before .before .before .before .args .age) _ (c .if1 .left))
 
 pub older-spec : {M : Type 1} → statement M
-older-spec = tie.close (tie.spec enum-told enum-known-best returns returns-2 returns-3)
+older-spec = tie.close (tie.spec (λ c. search needs) (λ c. search needs) returns returns-2 returns-3)

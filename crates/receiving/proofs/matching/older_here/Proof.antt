@@ -5,21 +5,6 @@ use Rattle.peer.specs.Matching.{olderHere}
 use Rattle.receiving.proofs.matching.older_here.Statement.{statement}
 use Rattle.receiving.proofs.matching.older_here.Tie as tie
 
-enum-told : tie.Need-enum-told
-enum-told c = search needs
-
-enum-known-phase : tie.Need-enum-known-phase
-enum-known-phase c = search needs
-
-takes-requires : tie.Need-takes-requires
-takes-requires c κs = search needs
-
-older-requires : tie.Need-older-requires
-older-requires c κs = search needs
-
-enum-told-2 : tie.Need-enum-told-2
-enum-told-2 c = search needs
-
 returns : tie.Need-returns
 unfolding olderHere
 returns c = rw (c .enum-told .given .1)
@@ -40,11 +25,11 @@ pub older-here-spec : {M : Type 1} → statement M
 older-here-spec =
     tie.close
     (tie.spec
-    enum-told
-    enum-known-phase
-    takes-requires
-    older-requires
-    enum-told-2
+    (λ c. search needs)
+    (λ c. search needs)
+    (λ c κs. search needs)
+    (λ c κs. search needs)
+    (λ c. search needs)
     returns
     returns-2
     returns-3

@@ -6,15 +6,6 @@ use Rattle.peer.specs.Matching.{openHere}
 use Rattle.receiving.proofs.matching.open_under.Statement.{statement}
 use Rattle.receiving.proofs.matching.open_under.Tie as tie
 
-enum-told : tie.Need-enum-told
-enum-told c = search needs
-
-enum-told-2 : tie.Need-enum-told-2
-enum-told-2 c = search needs
-
-enum-known-phase : tie.Need-enum-known-phase
-enum-known-phase c = search needs
-
 returns : tie.Need-returns
 unfolding openHere
 returns c = rw (c .enum-told .given .1)
@@ -34,4 +25,4 @@ returns-4 c = rw (c .before .before .before .before .phase .given .1, ne-eqb _ _
 pub open-under-spec : {M : Type 1} → statement M
 open-under-spec =
     tie.close
-    (tie.spec enum-told enum-told-2 enum-known-phase returns returns-2 returns-3 returns-4)
+    (tie.spec (λ c. search needs) (λ c. search needs) (λ c. search needs) returns returns-2 returns-3 returns-4)

@@ -5,15 +5,9 @@ use Rattle.peer.specs.Matching.{sameMedium}
 use Rattle.receiving.proofs.matching.same_medium.Statement.{statement}
 use Rattle.receiving.proofs.matching.same_medium.Tie as tie
 
-is-medium-requires : tie.Need-is-medium-requires
-is-medium-requires c κs = search needs
-
 returns : tie.Need-returns
 unfolding sameMedium
 returns c = rw (← c .before .is-medium .ensures, not-true (c .before .is-medium .result) (c .if1 .taken))
-
-is-medium-requires-2 : tie.Need-is-medium-requires-2
-is-medium-requires-2 c κs = search needs
 
 returns-2 : tie.Need-returns-2
 unfolding sameMedium
@@ -48,4 +42,4 @@ returns-4 c =
     )
 
 pub same-medium-spec : {M : Type 1} → statement M
-same-medium-spec = tie.close (tie.spec is-medium-requires returns is-medium-requires-2 returns-2 returns-3 returns-4)
+same-medium-spec = tie.close (tie.spec (λ c κs. search needs) returns (λ c κs. search needs) returns-2 returns-3 returns-4)

@@ -13,24 +13,9 @@ use Rattle.peer.proofs.PacketsRead.{read-formed}
 use Rattle.receiving.proofs.packets.packet.Statement.{statement}
 use Rattle.receiving.proofs.packets.packet.Tie as tie
 
-refused-requires : tie.Need-refused-requires
-refused-requires c κs = search needs
-
 returns : tie.Need-returns
 unfolding packetEffect pick
 returns c = rw (lt-ltb _ _ (c .before .if1 .taken), c .refused .ensures) (left-quiet _ _ _ _ _)
-
-read-served-requires : tie.Need-read-served-requires
-read-served-requires c κs = search needs
-
-enum-known-refusal : tie.Need-enum-known-refusal
-enum-known-refusal c = search needs
-
-refused-requires-2 : tie.Need-refused-requires-2
-refused-requires-2 c κs = search needs
-
-enum-known-packet : tie.Need-enum-known-packet
-enum-known-packet c = search needs
 
 -- a slice is shorter than the address space
 short : (c : tie.After-shared-slice-known) → length (c .before .args .bytes .now) < 2 ^ 63
@@ -42,15 +27,6 @@ add-end c =
     let a = b .before .args in
     let e = sym (c .before .before .before .before .before .read-served .ensures) ∙ c .before .before .before .packet .given .1 in
     omega (arith, data-inside (a .limit) (a .bytes .now) _ e, short b)
-
-incoming-of-requires : tie.Need-incoming-of-requires
-incoming-of-requires c κs = search needs
-
-sub-carry : tie.Need-sub-carry
-sub-carry c = search needs
-
-part-carry-start : tie.Need-part-carry-start
-part-carry-start c = search needs
 
 part-carry-end : tie.Need-part-carry-end
 part-carry-end c =
@@ -71,15 +47,6 @@ returns-2 : tie.Need-returns-2
 unfolding packetEffect readEffect pick
 returns-2 c = rw (le-ltb _ _ (c .before .before .before .before .before .if1 .left), ← c .before .before .before .before .read-served .ensures, c .before .before .refusal .given .1, c .refused2 .ensures) (left-quiet _ _ _ _ _)
 
-same-length : tie.Need-same-length
-same-length c = search needs
-
-same-length-2 : tie.Need-same-length-2
-same-length-2 c = search needs
-
-same-length-3 : tie.Need-same-length-3
-same-length-3 c = search needs
-
 returns-3 : tie.Need-returns-3
 unfolding packetEffect readEffect pick
 returns-3 c =
@@ -92,20 +59,20 @@ pub packet-spec : {M : Type 1} → statement M
 packet-spec =
     tie.close
     (tie.spec
-    refused-requires
+    (λ c κs. search needs)
     returns
-    read-served-requires
-    enum-known-refusal
-    refused-requires-2
-    enum-known-packet
+    (λ c κs. search needs)
+    (λ c. search needs)
+    (λ c κs. search needs)
+    (λ c. search needs)
     add-end
-    incoming-of-requires
-    sub-carry
-    part-carry-start
+    (λ c κs. search needs)
+    (λ c. search needs)
+    (λ c. search needs)
     part-carry-end
     carry-requires
     returns-2
-    same-length
-    same-length-2
-    same-length-3
+    (λ c. search needs)
+    (λ c. search needs)
+    (λ c. search needs)
     returns-3)

@@ -12,12 +12,6 @@ returns c =
     let a = c .before .before .before .before .args in
     sym (wrote-short (a .out .now) (a .at) (numbersBytes (a .numbers .now)) (a .bytes .now) (omega arith))
 
-sub-room : tie.Need-sub-room
-sub-room c = search needs
-
-numbers-size-requires : tie.Need-numbers-size-requires
-numbers-size-requires c κs = search needs
-
 returns-2 : tie.Need-returns-2
 returns-2 c =
     let a = c .before .before .before .before .before .before .args in
@@ -27,15 +21,6 @@ returns-3 : tie.Need-returns-3
 returns-3 c =
     let a = c .before .before .before .before .before .before .before .args in
     sym (wrote-short (a .out .now) (a .at) (numbersBytes (a .numbers .now)) (a .bytes .now) (omega arith))
-
-put-numbers-requires : tie.Need-put-numbers-requires
-put-numbers-requires c κs = search needs
-
-write-bytes-requires : tie.Need-write-bytes-requires
-write-bytes-requires c κs = search needs
-
-same-length : tie.Need-same-length
-same-length c = search needs
 
 returns-4 : tie.Need-returns-4
 returns-4 c =
@@ -50,11 +35,11 @@ write-spec =
     tie.close
     (tie.spec
     returns
-    sub-room
-    numbers-size-requires
+    (λ c. search needs)
+    (λ c κs. search needs)
     returns-2
     returns-3
-    put-numbers-requires
-    write-bytes-requires
-    same-length
+    (λ c κs. search needs)
+    (λ c κs. search needs)
+    (λ c. search needs)
     returns-4)

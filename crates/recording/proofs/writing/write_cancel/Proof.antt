@@ -4,22 +4,10 @@ use mathlib.Core.List.{append-nil}
 use Rattle.recording.proofs.writing.write_cancel.Statement.{statement}
 use Rattle.recording.proofs.writing.write_cancel.Tie as tie
 
-slice-aggregate-write : tie.Need-slice-aggregate-write
-slice-aggregate-write c = search needs
-
-slice-aggregate-write-2 : tie.Need-slice-aggregate-write-2
-slice-aggregate-write-2 c = search needs
-
-write-requires : tie.Need-write-requires
-write-requires c κs = search needs
-
-same-length : tie.Need-same-length
-same-length c = search needs
-
 returns : tie.Need-returns
 returns c = rw append-nil at (c .before .before .write .ensures)
 
 pub write-cancel-spec : {M : Type 1} → statement M
 write-cancel-spec =
     tie.close
-    (tie.spec slice-aggregate-write slice-aggregate-write-2 write-requires same-length returns)
+    (tie.spec (λ c. search needs) (λ c. search needs) (λ c κs. search needs) (λ c. search needs) returns)

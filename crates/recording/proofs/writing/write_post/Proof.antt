@@ -8,18 +8,6 @@ use Rattle.laws.proofs.Choosing.{pick-true, pick-false}
 use Rattle.recording.proofs.writing.write_post.Statement.{statement}
 use Rattle.recording.proofs.writing.write_post.Tie as tie
 
-slice-aggregate-write : tie.Need-slice-aggregate-write
-slice-aggregate-write c = search needs
-
-slice-aggregate-write-2 : tie.Need-slice-aggregate-write-2
-slice-aggregate-write-2 c = search needs
-
-write-requires : tie.Need-write-requires
-write-requires c κs = search needs
-
-same-length : tie.Need-same-length
-same-length c = search needs
-
 returns : tie.Need-returns
 returns c =
     let j = c .before .before .before .before .before .before in
@@ -31,4 +19,4 @@ returns c =
 pub write-post-spec : {M : Type 1} → statement M
 write-post-spec =
     tie.close
-    (tie.spec slice-aggregate-write slice-aggregate-write-2 write-requires same-length returns)
+    (tie.spec (λ c. search needs) (λ c. search needs) (λ c κs. search needs) (λ c. search needs) returns)

@@ -3,18 +3,6 @@ use borrow.Author.Needs.{needs}
 use Rattle.replay.proofs.entries.with_buffer.Statement.{statement}
 use Rattle.replay.proofs.entries.with_buffer.Tie as tie
 
-enum-known-recorded : tie.Need-enum-known-recorded
-enum-known-recorded c = search needs
-
-enum-known-recorded-2 : tie.Need-enum-known-recorded-2
-enum-known-recorded-2 c = search needs
-
-enum-known-recorded-3 : tie.Need-enum-known-recorded-3
-enum-known-recorded-3 c = search needs
-
-enum-known-recorded-4 : tie.Need-enum-known-recorded-4
-enum-known-recorded-4 c = search needs
-
 returns : tie.Need-returns
 returns c = rw (c .before .recorded .given .1)
 
@@ -31,10 +19,10 @@ pub with-buffer-spec : {M : Type 1} → statement M
 with-buffer-spec =
     tie.close
     (tie.spec
-    enum-known-recorded
-    enum-known-recorded-2
-    enum-known-recorded-3
-    enum-known-recorded-4
+    (λ c. search needs)
+    (λ c. search needs)
+    (λ c. search needs)
+    (λ c. search needs)
     returns
     returns-2
     returns-3

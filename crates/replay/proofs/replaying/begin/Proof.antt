@@ -9,23 +9,8 @@ use Rattle.replay.proofs.DecodeLaws.{calls-few}
 use Rattle.replay.proofs.LineRoom.{tell-room}
 use Rattle.replay.proofs.WholeLaws.{begun-ready, begun-refused, last-room, ready-holds, reported-by-parts, set-up-room}
 
-set-up-requires : tie.Need-set-up-requires
-set-up-requires c κs = search needs
-
-enum-known-answer : tie.Need-enum-known-answer
-enum-known-answer c = search needs
-
 tell-requires : tie.Need-tell-requires
 tell-requires c κs = tell-room _ _ _ (c .before .before .before .before .before .before .before .before .before .before .before .before .before .before .before .pre)
-
-enum-told : tie.Need-enum-told
-enum-told c = search needs
-
-slice-aggregate-put-line : tie.Need-slice-aggregate-put-line
-slice-aggregate-put-line c = search needs
-
-slice-aggregate-put-line-2 : tie.Need-slice-aggregate-put-line-2
-slice-aggregate-put-line-2 c = search needs
 
 put-line-requires : tie.Need-put-line-requires
 put-line-requires c κs = let a = set-up-room in let p = c .before .before .before .before .before .before .before .before .before .before .before .before .before .before .before .before .pre in omega arith
@@ -48,31 +33,10 @@ put-ending-requires c κs =
     let r = c .before .before .before .before .before .before .before .before .before .run in
     last-room _ _ _ (a .text .now) _ (a .budget) (calls-few (a .budget) _ _ _) (s .pre) _ _ (w .ensures .0) (rw (w .ensures .1) at (r .ensures))
 
-same-length : tie.Need-same-length
-same-length c = search needs
-
-same-length-2 : tie.Need-same-length-2
-same-length-2 c = search needs
-
-same-length-3 : tie.Need-same-length-3
-same-length-3 c = search needs
-
 returns : tie.Need-returns
 returns c =
     c .before .before .tell .ensures _ _ _
     ∙ sym (begun-refused _ _ _ _ _ _ _ _ _ _ _ (c .before .before .before .before .before .before .before .before .before .before .set-up .ensures) _ (c .before .before .before .before .before .answer .given .1))
-
-same-length-4 : tie.Need-same-length-4
-same-length-4 c = search needs
-
-same-length-5 : tie.Need-same-length-5
-same-length-5 c = search needs
-
-same-length-6 : tie.Need-same-length-6
-same-length-6 c = search needs
-
-same-length-7 : tie.Need-same-length-7
-same-length-7 c = search needs
 
 returns-2 : tie.Need-returns-2
 returns-2 c =
@@ -89,21 +53,21 @@ pub begin-spec : {M : Type 1} → statement M
 begin-spec =
     tie.close
     (tie.spec
-    set-up-requires
-    enum-known-answer
+    (λ c κs. search needs)
+    (λ c. search needs)
     tell-requires
-    enum-told
-    slice-aggregate-put-line
-    slice-aggregate-put-line-2
+    (λ c. search needs)
+    (λ c. search needs)
+    (λ c. search needs)
     put-line-requires
     run-requires
     put-ending-requires
-    same-length
-    same-length-2
-    same-length-3
+    (λ c. search needs)
+    (λ c. search needs)
+    (λ c. search needs)
     returns
-    same-length-4
-    same-length-5
-    same-length-6
-    same-length-7
+    (λ c. search needs)
+    (λ c. search needs)
+    (λ c. search needs)
+    (λ c. search needs)
     returns-2)

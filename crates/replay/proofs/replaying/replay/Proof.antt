@@ -27,32 +27,14 @@ room : (c : tie.Else1) → let a = c .before .before .before .before .before .be
 unfolding hasRoom
 room c = leb-true _ _ (open-room c)
 
-has-room-requires : tie.Need-has-room-requires
-has-room-requires c κs = search needs
-
 returns : tie.Need-returns
 unfolding replayOf endingLine
 returns c =
     let e = sym (c .before .has-room .ensures) ∙ not-true _ (c .if1 .taken) in
     rw (pick-false _ _ e, store-nothing)
 
-read-set-up-requires : tie.Need-read-set-up-requires
-read-set-up-requires c κs = search needs
-
-enum-told : tie.Need-enum-told
-enum-told c = search needs
-
 tell-requires : tie.Need-tell-requires
 tell-requires c κs = tell-room _ _ _ (room (c .before .before .before .before))
-
-enum-known-n : tie.Need-enum-known-n
-enum-known-n c = search needs
-
-lent-requires : tie.Need-lent-requires
-lent-requires c κs = search needs
-
-lent-requires-2 : tie.Need-lent-requires-2
-lent-requires-2 c κs = search needs
 
 slice-relend-prefix-begin : tie.Need-slice-relend-prefix-begin
 slice-relend-prefix-begin c = rw (c .before .lent .ensures) (lent-there _ _ _)
@@ -69,27 +51,12 @@ slice-aggregate-begin-2 c = sym (length-take-le _ _ (rw (c .before .before .lent
 begin-requires : tie.Need-begin-requires
 begin-requires c κs = room (c .before .before .before .before .before .before .before .before .before .before)
 
-same-length : tie.Need-same-length
-same-length c = search needs
-
 returns-2 : tie.Need-returns-2
 unfolding replayOf started
 returns-2 c =
     let k = c .before .before .before .before .before .before .before in
     c .before .before .tell .ensures _ _ _
     ∙ sym (pick-true _ _ (open-room k) ∙ rw (sym (c .before .before .before .before .before .before .read-set-up .ensures) ∙ c .before .before .before .before .enum-told .given .1))
-
-same-length-2 : tie.Need-same-length-2
-same-length-2 c = search needs
-
-same-length-3 : tie.Need-same-length-3
-same-length-3 c = search needs
-
-same-length-4 : tie.Need-same-length-4
-same-length-4 c = search needs
-
-same-length-5 : tie.Need-same-length-5
-same-length-5 c = search needs
 
 returns-3 : tie.Need-returns-3
 unfolding replayOf started part
@@ -108,23 +75,23 @@ pub replay-spec : {M : Type 1} → statement M
 replay-spec =
     tie.close
     (tie.spec
-    has-room-requires
+    (λ c κs. search needs)
     returns
-    read-set-up-requires
-    enum-told
+    (λ c κs. search needs)
+    (λ c. search needs)
     tell-requires
-    enum-known-n
-    lent-requires
-    lent-requires-2
+    (λ c. search needs)
+    (λ c κs. search needs)
+    (λ c κs. search needs)
     slice-relend-prefix-begin
     slice-aggregate-begin
     slice-relend-prefix-begin-2
     slice-aggregate-begin-2
     begin-requires
-    same-length
+    (λ c. search needs)
     returns-2
-    same-length-2
-    same-length-3
-    same-length-4
-    same-length-5
+    (λ c. search needs)
+    (λ c. search needs)
+    (λ c. search needs)
+    (λ c. search needs)
     returns-3)

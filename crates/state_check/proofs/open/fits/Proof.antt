@@ -5,9 +5,6 @@ use Rattle.peer.specs.State.{phaseFits}
 use Rattle.state_check.proofs.open.fits.Statement.{statement}
 use Rattle.state_check.proofs.open.fits.Tie as tie
 
-ends-by-requires : tie.Need-ends-by-requires
-ends-by-requires c κs = search needs
-
 returns : tie.Need-returns
 unfolding phaseFits
 returns c = rw (← c .before .ends-by .ensures, not-true (c .before .ends-by .result) (c .if1 .taken))
@@ -27,4 +24,4 @@ returns-3 c =
     rw (← e .ends-by .ensures, not-false (e .ends-by .result) (c .before .before .before .before .if1 .left), le-leb (o .message .length) (o .receive .capacity) (c .before .if2 .left))
 
 pub fits-spec : {M : Type 1} → statement M
-fits-spec = tie.close (tie.spec ends-by-requires returns returns-2 returns-3)
+fits-spec = tie.close (tie.spec (λ c κs. search needs) returns returns-2 returns-3)

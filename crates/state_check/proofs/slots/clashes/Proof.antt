@@ -4,21 +4,6 @@ use Rattle.peer.specs.State.{clash}
 use Rattle.state_check.proofs.slots.clashes.Statement.{statement}
 use Rattle.state_check.proofs.slots.clashes.Tie as tie
 
-enum-told : tie.Need-enum-told
-enum-told c = search needs
-
-enum-known-phase : tie.Need-enum-known-phase
-enum-known-phase c = search needs
-
-clashes-posted-requires : tie.Need-clashes-posted-requires
-clashes-posted-requires c κs = search needs
-
-enum-known-phase-2 : tie.Need-enum-known-phase-2
-enum-known-phase-2 c = search needs
-
-clashes-open-requires : tie.Need-clashes-open-requires
-clashes-open-requires c κs = search needs
-
 returns : tie.Need-returns
 unfolding clash
 returns c = rw (c .enum-told .given .1)
@@ -33,11 +18,11 @@ pub clashes-spec : {M : Type 1} → statement M
 clashes-spec =
     tie.close
     (tie.spec
-    enum-told
-    enum-known-phase
-    clashes-posted-requires
-    enum-known-phase-2
-    clashes-open-requires
+    (λ c. search needs)
+    (λ c. search needs)
+    (λ c κs. search needs)
+    (λ c. search needs)
+    (λ c κs. search needs)
     returns
     returns-2
     returns-3)

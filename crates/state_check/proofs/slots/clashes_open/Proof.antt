@@ -4,21 +4,6 @@ use Rattle.peer.specs.State.{clash}
 use Rattle.state_check.proofs.slots.clashes_open.Statement.{statement}
 use Rattle.state_check.proofs.slots.clashes_open.Tie as tie
 
-enum-told : tie.Need-enum-told
-enum-told c = search needs
-
-enum-known-phase : tie.Need-enum-known-phase
-enum-known-phase c = search needs
-
-overlaps-requires : tie.Need-overlaps-requires
-overlaps-requires c κs = search needs
-
-enum-known-phase-2 : tie.Need-enum-known-phase-2
-enum-known-phase-2 c = search needs
-
-clashes-requires : tie.Need-clashes-requires
-clashes-requires c κs = search needs
-
 returns : tie.Need-returns
 unfolding clash
 returns c = rw (c .enum-told .given .1)
@@ -34,11 +19,11 @@ pub clashes-open-spec : {M : Type 1} → statement M
 clashes-open-spec =
     tie.close
     (tie.spec
-    enum-told
-    enum-known-phase
-    overlaps-requires
-    enum-known-phase-2
-    clashes-requires
+    (λ c. search needs)
+    (λ c. search needs)
+    (λ c κs. search needs)
+    (λ c. search needs)
+    (λ c κs. search needs)
     returns
     returns-2
     returns-3)

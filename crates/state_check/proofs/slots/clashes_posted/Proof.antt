@@ -4,24 +4,9 @@ use Rattle.peer.specs.State.{clash}
 use Rattle.state_check.proofs.slots.clashes_posted.Statement.{statement}
 use Rattle.state_check.proofs.slots.clashes_posted.Tie as tie
 
-enum-told : tie.Need-enum-told
-enum-told c = search needs
-
-enum-known-phase : tie.Need-enum-known-phase
-enum-known-phase c = search needs
-
-overlaps-requires : tie.Need-overlaps-requires
-overlaps-requires c κs = search needs
-
 returns : tie.Need-returns
 unfolding clash
 returns c = rw (c .before .before .before .phase .given .1, ← c .before .overlaps .ensures, c .if1 .taken)
-
-enum-known-phase-2 : tie.Need-enum-known-phase-2
-enum-known-phase-2 c = search needs
-
-overlaps-requires-2 : tie.Need-overlaps-requires-2
-overlaps-requires-2 c κs = search needs
 
 returns-2 : tie.Need-returns-2
 unfolding clash
@@ -39,12 +24,12 @@ pub clashes-posted-spec : {M : Type 1} → statement M
 clashes-posted-spec =
     tie.close
     (tie.spec
-    enum-told
-    enum-known-phase
-    overlaps-requires
+    (λ c. search needs)
+    (λ c. search needs)
+    (λ c κs. search needs)
     returns
-    enum-known-phase-2
-    overlaps-requires-2
+    (λ c. search needs)
+    (λ c κs. search needs)
     returns-2
     returns-3
     returns-4)

@@ -18,32 +18,11 @@ compared k =
     ap (λ e. same w (engineWords e)) (sym (k .before .before .before .before .before .engine-in .ensures))
     ∙ ap (same w) (sym (k .before .before .before .save .ensures)) ∙ sym (k .are-same .ensures)
 
-no-state-requires : tie.Need-no-state-requires
-no-state-requires c κs = search needs
-
 returns : tie.Need-returns
 unfolding stateOf pick
 returns c =
     let w = c .before .before .before .args .words .now in
     rw (c .no-state .ensures, not-state w (λ e. omega arith))
-
-engine-in-requires : tie.Need-engine-in-requires
-engine-in-requires c κs = search needs
-
-slice-aggregate-save : tie.Need-slice-aggregate-save
-slice-aggregate-save c = search needs
-
-save-requires : tie.Need-save-requires
-save-requires c κs = search needs
-
-slice-aggregate-are-same : tie.Need-slice-aggregate-are-same
-slice-aggregate-are-same c = search needs
-
-are-same-requires : tie.Need-are-same-requires
-are-same-requires c κs = search needs
-
-no-state-requires-2 : tie.Need-no-state-requires-2
-no-state-requires-2 c κs = search needs
 
 returns-2 : tie.Need-returns-2
 unfolding stateOf pick
@@ -57,13 +36,13 @@ pub load-spec : {M : Type 1} → statement M
 load-spec =
     tie.close
     (tie.spec
-    no-state-requires
+    (λ c κs. search needs)
     returns
-    engine-in-requires
-    slice-aggregate-save
-    save-requires
-    slice-aggregate-are-same
-    are-same-requires
-    no-state-requires-2
+    (λ c κs. search needs)
+    (λ c. search needs)
+    (λ c κs. search needs)
+    (λ c. search needs)
+    (λ c κs. search needs)
+    (λ c κs. search needs)
     returns-2
     returns-3)

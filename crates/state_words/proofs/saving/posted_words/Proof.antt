@@ -4,12 +4,9 @@ use Rattle.state_words.specs.Saving.{phaseWords}
 use Rattle.state_words.proofs.saving.posted_words.Statement.{statement}
 use Rattle.state_words.proofs.saving.posted_words.Tie as tie
 
-bit-of-requires : tie.Need-bit-of-requires
-bit-of-requires c κs = search needs
-
 returns : tie.Need-returns
 unfolding phaseWords
 returns c = rw (c .bit-of .ensures)
 
 pub posted-words-spec : {M : Type 1} → statement M
-posted-words-spec = tie.close (tie.spec bit-of-requires returns)
+posted-words-spec = tie.close (tie.spec (λ c κs. search needs) returns)

@@ -4,21 +4,6 @@ use Rattle.state_words.specs.Saving.{phaseWords}
 use Rattle.state_words.proofs.saving.slot_words.Statement.{statement}
 use Rattle.state_words.proofs.saving.slot_words.Tie as tie
 
-enum-told : tie.Need-enum-told
-enum-told c = search needs
-
-enum-known-phase : tie.Need-enum-known-phase
-enum-known-phase c = search needs
-
-posted-words-requires : tie.Need-posted-words-requires
-posted-words-requires c κs = search needs
-
-enum-known-phase-2 : tie.Need-enum-known-phase-2
-enum-known-phase-2 c = search needs
-
-open-words-requires : tie.Need-open-words-requires
-open-words-requires c κs = search needs
-
 returns : tie.Need-returns
 unfolding phaseWords
 returns c = rw (c .enum-told .given .1)
@@ -33,11 +18,11 @@ pub slot-words-spec : {M : Type 1} → statement M
 slot-words-spec =
     tie.close
     (tie.spec
-    enum-told
-    enum-known-phase
-    posted-words-requires
-    enum-known-phase-2
-    open-words-requires
+    (λ c. search needs)
+    (λ c. search needs)
+    (λ c κs. search needs)
+    (λ c. search needs)
+    (λ c κs. search needs)
     returns
     returns-2
     returns-3)

@@ -4,15 +4,6 @@ use Rattle.trace.specs.Entries.{cancelAt}
 use Rattle.trace.proofs.reading.cancel_at.Statement.{statement}
 use Rattle.trace.proofs.reading.cancel_at.Tie as tie
 
-pair-at-requires : tie.Need-pair-at-requires
-pair-at-requires c κs = search needs
-
-enum-told : tie.Need-enum-told
-enum-told c = search needs
-
-enum-known-peer : tie.Need-enum-known-peer
-enum-known-peer c = search needs
-
 returns : tie.Need-returns
 unfolding cancelAt
 returns c = rw (← c .before .before .pair-at .ensures, c .enum-told .given .1)
@@ -22,4 +13,4 @@ unfolding cancelAt
 returns-2 c = rw (← c .before .before .before .pair-at .ensures, c .before .peer .given .1)
 
 pub cancel-at-spec : {M : Type 1} → statement M
-cancel-at-spec = tie.close (tie.spec pair-at-requires enum-told enum-known-peer returns returns-2)
+cancel-at-spec = tie.close (tie.spec (λ c κs. search needs) (λ c. search needs) (λ c. search needs) returns returns-2)

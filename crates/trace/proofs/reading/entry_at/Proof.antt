@@ -6,31 +6,13 @@ use Rattle.trace.specs.Entries.{entryAt}
 use Rattle.trace.proofs.reading.entry_at.Statement.{statement}
 use Rattle.trace.proofs.reading.entry_at.Tie as tie
 
-number-at-requires : tie.Need-number-at-requires
-number-at-requires c κs = search needs
-
-enum-told : tie.Need-enum-told
-enum-told c = search needs
-
-enum-known-first : tie.Need-enum-known-first
-enum-known-first c = search needs
-
-post-at-requires : tie.Need-post-at-requires
-post-at-requires c κs = search needs
-
 returns : tie.Need-returns
 unfolding entryAt pick
 returns c = rw (← c .before .before .before .before .before .number-at .ensures, c .before .before .before .first .given .1, eq-eqb _ _ (c .before .if1 .taken)) (c .post-at .ensures)
 
-packet-at-requires : tie.Need-packet-at-requires
-packet-at-requires c κs = search needs
-
 returns-2 : tie.Need-returns-2
 unfolding entryAt pick
 returns-2 c = rw (← c .before .before .before .before .before .before .number-at .ensures, c .before .before .before .before .first .given .1, ne-eqb _ _ (c .before .before .if1 .left), eq-eqb _ _ (c .before .if2 .taken)) (c .packet-at .ensures)
-
-cancel-at-requires : tie.Need-cancel-at-requires
-cancel-at-requires c κs = search needs
 
 returns-3 : tie.Need-returns-3
 unfolding entryAt pick
@@ -48,14 +30,14 @@ pub entry-at-spec : {M : Type 1} → statement M
 entry-at-spec =
     tie.close
     (tie.spec
-    number-at-requires
-    enum-told
-    enum-known-first
-    post-at-requires
+    (λ c κs. search needs)
+    (λ c. search needs)
+    (λ c. search needs)
+    (λ c κs. search needs)
     returns
-    packet-at-requires
+    (λ c κs. search needs)
     returns-2
-    cancel-at-requires
+    (λ c κs. search needs)
     returns-3
     returns-4
     returns-5)

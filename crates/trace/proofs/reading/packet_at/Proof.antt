@@ -11,15 +11,6 @@ use Rattle.trace.proofs.NumberLaws.{pair-inside}
 use Rattle.trace.proofs.reading.packet_at.Statement.{statement}
 use Rattle.trace.proofs.reading.packet_at.Tie as tie
 
-pair-at-requires : tie.Need-pair-at-requires
-pair-at-requires c κs = search needs
-
-enum-told : tie.Need-enum-told
-enum-told c = search needs
-
-enum-known-peer : tie.Need-enum-known-peer
-enum-known-peer c = search needs
-
 sub-if1 : tie.Need-sub-if1
 sub-if1 c = pair-inside _ _ _ _ _ (sym (c .before .before .before .pair-at .ensures) ∙ c .before .peer .given .1) .0
 
@@ -30,9 +21,6 @@ returns c =
     let v = r .peer .given .0 .1 in
     let e = lt-leb (v .1 .0 + v .0) (length (r .before .before .before .before .args .s .now)) (omega arith) in
     rw (← r .before .before .pair-at .ensures, r .peer .given .1, e)
-
-add-end : tie.Need-add-end
-add-end c = search needs
 
 returns-2 : tie.Need-returns-2
 unfolding packetAt
@@ -47,4 +35,4 @@ returns-3 c =
     rw (← r .before .before .pair-at .ensures, r .peer .given .1, e)
 
 pub packet-at-spec : {M : Type 1} → statement M
-packet-at-spec = tie.close (tie.spec pair-at-requires enum-told enum-known-peer sub-if1 returns add-end returns-2 returns-3)
+packet-at-spec = tie.close (tie.spec (λ c κs. search needs) (λ c. search needs) (λ c. search needs) sub-if1 returns (λ c. search needs) returns-2 returns-3)

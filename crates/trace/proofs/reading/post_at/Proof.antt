@@ -6,27 +6,9 @@ use Rattle.trace.specs.Entries.{postAt}
 use Rattle.trace.proofs.reading.post_at.Statement.{statement}
 use Rattle.trace.proofs.reading.post_at.Tie as tie
 
-pair-at-requires : tie.Need-pair-at-requires
-pair-at-requires c κs = search needs
-
-enum-told : tie.Need-enum-told
-enum-told c = search needs
-
-enum-known-peer : tie.Need-enum-known-peer
-enum-known-peer c = search needs
-
 returns : tie.Need-returns
 unfolding postAt pick
 returns c = rw (← c .before .before .before .before .pair-at .ensures, c .before .before .peer .given .1, lt-leb _ _ (c .if1 .taken))
-
-receive-at-requires : tie.Need-receive-at-requires
-receive-at-requires c κs = search needs
-
-enum-told-2 : tie.Need-enum-told-2
-enum-told-2 c = search needs
-
-enum-known-receive : tie.Need-enum-known-receive
-enum-known-receive c = search needs
 
 returns-2 : tie.Need-returns-2
 unfolding postAt
@@ -44,13 +26,13 @@ pub post-at-spec : {M : Type 1} → statement M
 post-at-spec =
     tie.close
     (tie.spec
-    pair-at-requires
-    enum-told
-    enum-known-peer
+    (λ c κs. search needs)
+    (λ c. search needs)
+    (λ c. search needs)
     returns
-    receive-at-requires
-    enum-told-2
-    enum-known-receive
+    (λ c κs. search needs)
+    (λ c. search needs)
+    (λ c. search needs)
     returns-2
     returns-3
     returns-4)

@@ -4,24 +4,6 @@ use Rattle.trace.specs.Entries.{receiveAt}
 use Rattle.trace.proofs.reading.receive_at.Statement.{statement}
 use Rattle.trace.proofs.reading.receive_at.Tie as tie
 
-pair-at-requires : tie.Need-pair-at-requires
-pair-at-requires c κs = search needs
-
-enum-told : tie.Need-enum-told
-enum-told c = search needs
-
-enum-known-tag : tie.Need-enum-known-tag
-enum-known-tag c = search needs
-
-pair-at-requires-2 : tie.Need-pair-at-requires-2
-pair-at-requires-2 c κs = search needs
-
-enum-told-2 : tie.Need-enum-told-2
-enum-told-2 c = search needs
-
-enum-known-start : tie.Need-enum-known-start
-enum-known-start c = search needs
-
 returns : tie.Need-returns
 unfolding receiveAt
 returns c = rw (← c .before .before .pair-at .ensures, c .enum-told .given .1)
@@ -38,12 +20,12 @@ pub receive-at-spec : {M : Type 1} → statement M
 receive-at-spec =
     tie.close
     (tie.spec
-    pair-at-requires
-    enum-told
-    enum-known-tag
-    pair-at-requires-2
-    enum-told-2
-    enum-known-start
+    (λ c κs. search needs)
+    (λ c. search needs)
+    (λ c. search needs)
+    (λ c κs. search needs)
+    (λ c. search needs)
+    (λ c. search needs)
     returns
     returns-2
     returns-3)

@@ -5,24 +5,6 @@ use Rattle.trace.specs.Entries.{setUpAt}
 use Rattle.trace.proofs.reading.set_up_at.Statement.{statement}
 use Rattle.trace.proofs.reading.set_up_at.Tie as tie
 
-pair-at-requires : tie.Need-pair-at-requires
-pair-at-requires c κs = search needs
-
-enum-told : tie.Need-enum-told
-enum-told c = search needs
-
-enum-known-n : tie.Need-enum-known-n
-enum-known-n c = search needs
-
-number-at-requires : tie.Need-number-at-requires
-number-at-requires c κs = search needs
-
-enum-told-2 : tie.Need-enum-told-2
-enum-told-2 c = search needs
-
-enum-known-limit : tie.Need-enum-known-limit
-enum-known-limit c = search needs
-
 returns : tie.Need-returns
 unfolding setUpAt
 returns c = rw (← c .before .before .pair-at .ensures, c .enum-told .given .1)
@@ -39,12 +21,12 @@ pub set-up-at-spec : {M : Type 1} → statement M
 set-up-at-spec =
     tie.close
     (tie.spec
-    pair-at-requires
-    enum-told
-    enum-known-n
-    number-at-requires
-    enum-told-2
-    enum-known-limit
+    (λ c κs. search needs)
+    (λ c. search needs)
+    (λ c. search needs)
+    (λ c κs. search needs)
+    (λ c. search needs)
+    (λ c. search needs)
     returns
     returns-2
     returns-3)

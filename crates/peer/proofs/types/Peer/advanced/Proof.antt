@@ -4,11 +4,8 @@ use mathlib.Core.Path.{refl}
 use Rattle.peer.proofs.types.Peer.advanced.Statement.{statement}
 use Rattle.peer.proofs.types.Peer.advanced.Tie as tie
 
-wrapping-add-u32-requires : tie.Need-wrapping-add-u32-requires
-wrapping-add-u32-requires c κs = search needs
-
 returns : tie.Need-returns
 returns c = rw (c .wrapping-add-u32 .ensures) refl
 
 pub advanced-spec : {M : Type 1} → statement M
-advanced-spec = tie.close (tie.spec wrapping-add-u32-requires returns)
+advanced-spec = tie.close (tie.spec (λ c κs. search needs) returns)

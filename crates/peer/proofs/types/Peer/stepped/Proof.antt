@@ -4,11 +4,8 @@ use mathlib.Core.Path.{refl}
 use Rattle.peer.proofs.types.Peer.stepped.Statement.{statement}
 use Rattle.peer.proofs.types.Peer.stepped.Tie as tie
 
-with-phase-requires : tie.Need-with-phase-requires
-with-phase-requires c κs = search needs
-
 returns : tie.Need-returns
 returns c = rw (c .with-phase .ensures) refl
 
 pub stepped-spec : {M : Type 1} → statement M
-stepped-spec = tie.close (tie.spec with-phase-requires returns)
+stepped-spec = tie.close (tie.spec (λ c κs. search needs) returns)

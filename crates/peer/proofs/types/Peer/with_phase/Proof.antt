@@ -4,14 +4,8 @@ use mathlib.Core.Path.{refl}
 use Rattle.peer.proofs.types.Peer.with_phase.Statement.{statement}
 use Rattle.peer.proofs.types.Peer.with_phase.Tie as tie
 
-mul-slot : tie.Need-mul-slot
-mul-slot c = search needs
-
-element-set-from-slot : tie.Need-element-set-from-slot
-element-set-from-slot c = search needs
-
 returns : tie.Need-returns
 returns c = refl
 
 pub with-phase-spec : {M : Type 1} → statement M
-with-phase-spec = tie.close (tie.spec mul-slot element-set-from-slot returns)
+with-phase-spec = tie.close (tie.spec (λ c. search needs) (λ c. search needs) returns)

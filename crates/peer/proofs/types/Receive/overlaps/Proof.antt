@@ -23,9 +23,6 @@ returns-2 c =
     let s = c .before .before .before .before .args .other in
     sym (le-ltb (max (r .start) (s .start)) (min (r .start + r .capacity) (s .start + s .capacity)) (omega (arith, c .if2 .taken)))
 
-sub-result : tie.Need-sub-result
-sub-result c = search needs
-
 returns-3 : tie.Need-returns-3
 unfolding overlap
 returns-3 c =
@@ -45,4 +42,4 @@ returns-4 c =
     (λ h. omega (arith, w .if3 .left, w .before .before .before .if2 .left, w .before .before .before .before .before .if1 .left)) (λ h. omega (arith, w .if3 .left, w .before .before .before .if2 .left, w .before .before .before .before .before .if1 .left))
 
 pub overlaps-spec : {M : Type 1} → statement M
-overlaps-spec = tie.close (tie.spec returns returns-2 sub-result returns-3 returns-4)
+overlaps-spec = tie.close (tie.spec returns returns-2 (λ c. search needs) returns-3 returns-4)
