@@ -5,6 +5,7 @@ use lib.Dec.{ltb}
 use Rattle.laws.specs.Choose.{pick}
 use Rattle.protocol.specs.Refusals.{badLent, badPeer, badState}
 use Rattle.peer.specs.Calls.{Call}
+use Rattle.peer.specs.State.{areaLimit}
 use Rattle.engine.specs.declared.types.Gate.{Gate}
 use Rattle.engine.specs.SetUp.{lentFits, peerCount}
 use Rattle.engine.specs.Steps.{World, Turn, refusedTurn, peerTurn}
@@ -12,7 +13,7 @@ use Rattle.engine.specs.Steps.{World, Turn, refusedTurn, peerTurn}
 -- the number of peers and an area are within the set-up's limits, so that their product is small
 pub record Small (n area : ℕ) : Type 0 where
   pub few : n ≤ peerCount
-  pub short : area ≤ 8192
+  pub short : area ≤ areaLimit
 
 -- by whether the state can be, the number of peers, the area, the lengths of arena and map, and the peer's number
 unfoldable pub gateOf : Bool → ℕ → ℕ → ℕ → ℕ → ℕ → Gate

@@ -6,8 +6,9 @@ use lib.ListN.{length, getD, take, replicate}
 use lib.Dec.{leb, eqb}
 use Rattle.laws.specs.Choose.{pick}
 use Rattle.protocol.specs.Refusals.{badSetUp}
+use Rattle.protocol.specs.Limits.{packetLimit}
 use Rattle.peer.specs.declared.types.Peer.{Peer}
-use Rattle.peer.specs.State.{freshPeer, peerFits}
+use Rattle.peer.specs.State.{areaLimit, freshPeer, peerFits}
 use Rattle.engine.specs.declared.types.Engine.{Engine}
 use Rattle.engine.specs.declared.types.Ready.{Ready}
 use Rattle.engine.specs.declared.types.Started.{Started}
@@ -18,7 +19,7 @@ peerCount = 8
 -- "peers n, 1 to 8; area A, a multiple of 64 from 64 to 8,192; packet limit L, 64 to 8,192"
 unfoldable pub numbersFit : ℕ → ℕ → ℕ → Bool
 numbersFit n area limit =
-    leb 1 n && (leb n peerCount && (leb 64 area && (leb area 8192 && (eqb (area % 64) 0 && (leb 64 limit && leb limit 8192)))))
+    leb 1 n && (leb n peerCount && (leb 64 area && (leb area areaLimit && (eqb (area % 64) 0 && (leb 64 limit && leb limit packetLimit)))))
 
 -- "an arena of exactly n×A bytes"; the map is "exactly n×A/64 words"
 unfoldable pub lentFits : ℕ → ℕ → ℕ → ℕ → Bool

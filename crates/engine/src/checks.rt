@@ -1,9 +1,11 @@
 // The checks on numbers and lengths. Those that look at peers stand in the calls, where the engine is.
 use crate::types::Engine;
 use crate::types::Gate;
+use peer::Peer;
 use protocol::BAD_LENT;
 use protocol::BAD_PEER;
 use protocol::BAD_STATE;
+use protocol::PACKET_LIMIT;
 ghost use mathlib.Core.Path.{_≡_};
 ghost use mathlib.Core.Bool.{true};
 ghost use Rattle.engine.specs.Gates.{Small, gateOf};
@@ -22,7 +24,7 @@ pub(crate) fn numbers_fit(n: usize, area: usize, limit: usize) -> bool
     if area < 64 {
         return false;
     }
-    if 8192 < area {
+    if Peer::AREA_LIMIT < area {
         return false;
     }
     if area % 64 != 0 {
@@ -31,7 +33,7 @@ pub(crate) fn numbers_fit(n: usize, area: usize, limit: usize) -> bool
     if limit < 64 {
         return false;
     }
-    limit <= 8192
+    limit <= PACKET_LIMIT
 }
 
 // Whether arena and map have the lengths that the set-up numbers ask for.

@@ -7,7 +7,8 @@ use Rattle.laws.specs.Parts.{storeAt}
 use Rattle.peer.specs.declared.types.Peer.{Peer}
 use Rattle.peer.specs.declared.types.Step.{Step}
 use Rattle.peer.specs.Effects.{Effect}
-use Rattle.peer.specs.State.{peerFits}
+use Rattle.peer.specs.State.{areaLimit, peerFits}
+use Rattle.protocol.specs.Limits.{packetLimit}
 
 -- the step, and the lent arena, map and replies
 pub record Lent : Type 0 where
@@ -30,7 +31,7 @@ leavesAt place area p arena map replies f =
 pub record Mapped (area p map : ℕ) (q : Peer) : Type 0 where
   pub fits : peerFits area q ≡ true
   pub whole : area % 64 ≡ 0
-  pub short : area ≤ 8192
+  pub short : area ≤ areaLimit
   pub inMap : p * (area / 64) + area / 64 ≤ map
   pub mapSmall : map ≤ 1024
 
@@ -38,6 +39,6 @@ pub record Mapped (area p map : ℕ) (q : Peer) : Type 0 where
 pub record Owned (area limit p arena map : ℕ) (q : Peer) : Type 0 where
   pub mapped : Mapped area p map q
   pub low : 64 ≤ limit
-  pub high : limit ≤ 8192
+  pub high : limit ≤ packetLimit
   pub inArena : p * area + area ≤ arena
   pub arenaSmall : arena ≤ 65536

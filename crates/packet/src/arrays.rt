@@ -4,6 +4,7 @@ ghost use mathlib.Core.Path.{_≡_};
 ghost use Prim.Native.Nat.{_≤_};
 ghost use Rattle.protocol.specs.Arrays.{arrayAllowed, arrayLength, arrayWhole, countOf};
 ghost use Rattle.protocol.specs.Rules.{Sound};
+ghost use Rattle.protocol.specs.Limits.{packetLimit};
 
 // The bytes of the array that a count tells.
 pub(crate) fn length(row: TypeRow, count: u32) -> usize
@@ -21,7 +22,7 @@ pub(crate) fn length(row: TypeRow, count: u32) -> usize
 // The count that tells an array of n bytes.
 pub(crate) fn count_of(row: TypeRow, n: usize) -> u32
     requires { ⌜ Sound row ⌝ }
-    requires { ⌜ n ≤ 8192 ⌝ }
+    requires { ⌜ n ≤ packetLimit ⌝ }
     ensures { λ r. ⌜ r ≡ countOf row n ⌝ }
 {
     if row.unit == 0 {

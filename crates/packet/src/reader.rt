@@ -2,7 +2,6 @@
 use crate::flags;
 use crate::layout;
 use crate::lengths;
-use crate::limits::LIMIT;
 use crate::limits::VERSION;
 use crate::options;
 use crate::sections;
@@ -17,6 +16,7 @@ use protocol::CUT_SHORT;
 use protocol::Extent;
 use protocol::FoundRow;
 use protocol::Header;
+use protocol::PACKET_LIMIT;
 use protocol::Packet;
 use protocol::Read;
 use protocol::Refusal;
@@ -30,6 +30,7 @@ ghost use lib.ListN.{length};
 ghost use Rattle.protocol.specs.Reading.{headerIn, packetIn, readLengths, readFlags, readOf};
 ghost use Rattle.protocol.specs.Rules.{Sound, Inside};
 ghost use Rattle.protocol.specs.Types.{everyRow, servedRow, readerRows};
+ghost use Rattle.protocol.specs.Limits.{packetLimit};
 
 fn refused(refusal: Refusal) -> Read
     ensures { λ r. ⌜ r ≡ Read.Refused refusal ⌝ }
@@ -129,9 +130,9 @@ fn among(bytes: &[u8], limit: usize, all: bool) -> Read
 
 // Reads a packet of any type of the table: the reader alone, whose limit is 8,192 bytes.
 pub fn read(bytes: &[u8]) -> Read
-    ensures { λ r. ⌜ r ≡ readOf everyRow 8192 (now (bytes .entry)) ⌝ }
+    ensures { λ r. ⌜ r ≡ readOf everyRow packetLimit (now (bytes .entry)) ⌝ }
 {
-    among(bytes, LIMIT, true)
+    among(bytes, PACKET_LIMIT, true)
 }
 
 // Reads a packet that is at most limit bytes long, of the types that the receive engine serves: a

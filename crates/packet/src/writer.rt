@@ -3,7 +3,6 @@ use crate::arrays;
 use crate::flags;
 use crate::layout;
 use crate::lengths;
-use crate::limits::LIMIT;
 use crate::limits::VERSION;
 use crate::options;
 use crate::sections;
@@ -16,6 +15,7 @@ use protocol::FoundRow;
 use protocol::Header;
 use protocol::Length;
 use protocol::NO_ROOM;
+use protocol::PACKET_LIMIT;
 use protocol::Refusal;
 use protocol::TypeRow;
 use protocol::Written;
@@ -31,6 +31,7 @@ ghost use Rattle.protocol.specs.SectionsInTurn.{headLength};
 ghost use Rattle.protocol.specs.Writing.{baseBytes, mandatoryBytes, packetBytes, writeAs, writeOf};
 ghost use Rattle.protocol.specs.Totals.{limitedTo, totalOf};
 ghost use Rattle.protocol.specs.Rules.{Sound};
+ghost use Rattle.protocol.specs.Limits.{packetLimit};
 
 fn refused(refusal: Refusal) -> Written
     ensures { λ r. ⌜ r ≡ Written.Refused refusal ⌝ }
@@ -54,16 +55,16 @@ fn total(row: TypeRow, flags: u16, array: usize, raw: usize, size: usize) -> Len
     ensures { λ r. ⌜ r ≡ totalOf row flags array raw size ⌝ }
 {
     let head = head_length(row, flags);
-    if LIMIT < size {
+    if PACKET_LIMIT < size {
         return Length::Above;
     }
-    if LIMIT < array {
+    if PACKET_LIMIT < array {
         return Length::Above;
     }
     if !flags::raw_address(row, flags) {
         return limited(head + array + size);
     }
-    if LIMIT < raw {
+    if PACKET_LIMIT < raw {
         return Length::Above;
     }
     limited(head + array + 4 + raw + size)
@@ -72,7 +73,7 @@ fn total(row: TypeRow, flags: u16, array: usize, raw: usize, size: usize) -> Len
 fn limited(n: usize) -> Length
     ensures { λ r. ⌜ r ≡ limitedTo n ⌝ }
 {
-    if LIMIT < n {
+    if PACKET_LIMIT < n {
         Length::Above
     } else {
         Length::Bytes(n)
@@ -94,7 +95,7 @@ fn put_mandatory(out: &mut [u8], row: TypeRow, header: Header, flags: u16, n: us
     requires { ⌜ Sound row ⌝ }
     requires { ⌜ row .header ≤ length (now out) ⌝ }
     requires { ⌜ flags ≡ flagsOf row header ⌝ }
-    requires { ⌜ n ≤ 8192 ⌝ }
+    requires { ⌜ n ≤ packetLimit ⌝ }
     ensures { λ _. ⌜ now (out .exit) ≡ storeAt (now (out .entry)) 0 (mandatoryBytes row header n) ⌝ }
 {
     put_base(out, row.kind, flags);
@@ -115,7 +116,7 @@ fn put(
     requires { ⌜ flags ≡ flagsOf row header ⌝ }
     requires { ⌜ optionsFit row header ≡ true ⌝ }
     requires { ⌜ arrayAllowed row (length (now array)) ≡ true ⌝ }
-    requires { ⌜ length (packetBytes row header (now array) (now raw) (now «data»)) ≤ 8192 ⌝ }
+    requires { ⌜ length (packetBytes row header (now array) (now raw) (now «data»)) ≤ packetLimit ⌝ }
     requires { ⌜ length (packetBytes row header (now array) (now raw) (now «data»)) ≤ length (now out) ⌝ }
     ensures { λ _. ⌜ now (out .exit) ≡ storeAt (now (out .entry)) 0 (packetBytes row header (now (array .entry)) (now (raw .entry)) (now («data» .entry))) ⌝ }
 {

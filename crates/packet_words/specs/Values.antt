@@ -12,6 +12,7 @@ use Rattle.protocol.specs.declared.types.Packet.{Packet}
 use Rattle.protocol.specs.declared.types.Read.{Read}
 use Rattle.protocol.specs.Reading.{readOf}
 use Rattle.protocol.specs.Types.{everyRow}
+use Rattle.protocol.specs.Limits.{packetLimit}
 use Rattle.words.specs.Presence.{bitOf, cqBit, cqValue}
 use Rattle.packet_words.specs.Presence.{connidBit, connidValue}
 
@@ -38,4 +39,4 @@ tookAs values (Read.Packet p) = record { refusal = 0; values = storeAt values 0 
 -- with too few words nothing is read
 unfoldable pub readInto : List ℕ → List ℕ → Took
 readInto bytes values =
-    pick (leb valueCount (length values)) (tookAs values (readOf everyRow 8192 bytes)) (record { refusal = noRoom .number; values = values })
+    pick (leb valueCount (length values)) (tookAs values (readOf everyRow packetLimit bytes)) (record { refusal = noRoom .number; values = values })

@@ -13,6 +13,10 @@ use Rattle.peer.specs.declared.types.Peer.{Peer}
 abbrev pub slotCount : ℕ
 slotCount = 8
 
+-- "area A, a multiple of 64 from 64 to 8,192"
+abbrev pub areaLimit : ℕ
+areaLimit = 8192
+
 abbrev pub slotWith : Phase → Slot
 slotWith f = record { phase = f }
 

@@ -49,6 +49,9 @@ impl Peer {
     // The slots of a peer.
     pub const SLOTS: usize = 8;
 
+    // The longest area, in bytes.
+    pub const AREA_LIMIT: usize = 8192;
+
     // The bytes of a CTS, which a reply buffer has room for.
     pub const CTS_LENGTH: usize = 24;
 

@@ -1,3 +1,4 @@
+pub mod Limits
 pub mod Types
 pub mod Flags
 pub mod Layout

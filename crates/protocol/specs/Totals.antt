@@ -8,6 +8,7 @@ use Rattle.protocol.specs.declared.types.Length.{Length}
 use Rattle.protocol.specs.declared.types.Length.the-variants.{Bytes, Above}
 use Rattle.protocol.specs.Optional.{Section, flagged, sectionsOf}
 use Rattle.protocol.specs.Sections.{sizeOf}
+use Rattle.protocol.specs.Limits.{packetLimit}
 
 -- the bytes of the sections ss that are there, with an array of a bytes and a raw address of n
 abbrev pub sizes : TypeRow → ℕ → ℕ → ℕ → List Section → ℕ
@@ -15,7 +16,7 @@ sizes r f a n [] = 0
 sizes r f a n (s ∷ ss) = pick (flagged r f s) (sizeOf r a n s) 0 + sizes r f a n ss
 
 unfoldable pub limitedTo : ℕ → Length
-limitedTo n = pick (ltb 8192 n) Above (Bytes n)
+limitedTo n = pick (ltb packetLimit n) Above (Bytes n)
 
 -- with so many bytes of array and raw address, where they are there, and of data
 unfoldable pub totalOf : TypeRow → ℕ → ℕ → ℕ → ℕ → Length

@@ -21,6 +21,7 @@ use Rattle.protocol.specs.Lengths.{lengthsFit}
 use Rattle.protocol.specs.Optional.{flagsOf, optionsFit, sectionsOf}
 use Rattle.protocol.specs.Options.{sectionsBytes}
 use Rattle.protocol.specs.Refusals.{aboveLimit, badType, badFlags, badLength, noRoom}
+use Rattle.protocol.specs.Limits.{packetLimit}
 
 -- type 1, version 1, flags 2
 unfoldable pub baseBytes : ℕ → ℕ → List ℕ
@@ -45,7 +46,7 @@ refused k out = record { answer = Written.Refused k; out = out }
 -- refusals 6 and 21, then the packet
 unfoldable pub writeBytes : List ℕ → List ℕ → Outcome
 writeBytes bytes out =
-    pick (ltb 8192 (length bytes)) (refused aboveLimit out)
+    pick (ltb packetLimit (length bytes)) (refused aboveLimit out)
     (pick (ltb (length out) (length bytes)) (refused noRoom out)
     (record { answer = Written.Length (length bytes); out = storeAt out 0 bytes }))
 

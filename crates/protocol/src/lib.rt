@@ -1,6 +1,7 @@
 // What a packet of EFA RDM protocol v4 is: its types here, the definitions of reading and writing in
 // specs/, and what is proved of them in proofs/. There is no function: reader and writer stand in `packet`.
 mod flags;
+mod limits;
 mod places;
 mod refusals;
 mod sections;
@@ -10,6 +11,7 @@ mod types;
 pub use flags::CONNID;
 pub use flags::CQ_DATA;
 pub use flags::RAW_ADDRESS;
+pub use limits::PACKET_LIMIT;
 pub use places::COUNT;
 pub use places::CREDIT_REQUEST;
 pub use places::MSG_ID;

@@ -8,18 +8,19 @@ use Rattle.peer.specs.declared.types.Message.{Message}
 use Rattle.peer.specs.declared.types.Peer.{Peer}
 use Rattle.peer.specs.declared.types.Receive.{Receive}
 use Rattle.peer.specs.Formed.{Formed}
-use Rattle.peer.specs.State.{peerFits}
+use Rattle.peer.specs.State.{areaLimit, peerFits}
+use Rattle.protocol.specs.Limits.{packetLimit}
 
 -- a peer that can be, with a map word for each 64 bytes of its area
 pub record Mapped (area words : ℕ) (p : Peer) : Type 0 where
   pub whole : 64 * words ≡ area
-  pub small : area ≤ 8192
+  pub small : area ≤ areaLimit
   pub fits : peerFits area p ≡ true
 
 -- the longest packet is within the set-up's limits
 pub record Limited (limit : ℕ) : Type 0 where
   pub low : 64 ≤ limit
-  pub high : limit ≤ 8192
+  pub high : limit ≤ packetLimit
 
 -- a grant is due: length remains
 pub record Granting (limit : ℕ) (m : Message) : Type 0 where
@@ -29,12 +30,12 @@ pub record Granting (limit : ℕ) (m : Message) : Type 0 where
 -- a segment lies where the map has bits
 pub record Placed (words : ℕ) (o : Inbound) (h : Incoming) : Type 0 where
   pub inMap : o .receive .start + h .offset + h .size ≤ 64 * words
-  pub small : 64 * words ≤ 8192
+  pub small : 64 * words ≤ areaLimit
 
 -- an open message lies where the map has bits
 pub record Mapping (words : ℕ) (o : Inbound) : Type 0 where
   pub inMap : o .receive .start + o .message .length ≤ 64 * words
-  pub small : 64 * words ≤ 8192
+  pub small : 64 * words ≤ areaLimit
 
 -- a packet that was read, for a peer that can be
 pub record Judging (words : ℕ) (p : Peer) (h : Incoming) : Type 0 where
@@ -48,7 +49,7 @@ pub record Accepting (limit : ℕ) (o : Inbound) (area words reply : ℕ) : Type
   pub inRange : o .message .length ≤ o .receive .capacity
   pub inLength : o .message .granted ≤ o .message .length
   pub whole : 64 * words ≡ area
-  pub small : area ≤ 8192
+  pub small : area ≤ areaLimit
   pub room : 24 ≤ reply
 
 -- the same, with n bytes to be stored at an offset in the message
@@ -64,7 +65,7 @@ pub record Beginning (limit : ℕ) (r : Receive) (h : Incoming) (n area words re
   pub inLength : h .offset + h .size ≤ h .length
   pub size : h .size ≡ n
   pub whole : 64 * words ≡ area
-  pub small : area ≤ 8192
+  pub small : area ≤ areaLimit
   pub room : 24 ≤ reply
 
 -- a packet with n bytes of data is to be judged, and the verdict carried out

@@ -17,6 +17,7 @@ use Rattle.replay.specs.declared.types.Ending.{Ending}
 use Rattle.replay.specs.declared.types.Replayed.{Replayed}
 use Rattle.replay.specs.Lines.{setUpLine, answerLine, endingLine}
 use Rattle.replay.specs.Decoding.{Decoded, decode}
+use Rattle.peer.specs.State.{areaLimit}
 
 -- ---- the calls of a run
 
@@ -84,7 +85,7 @@ begun n area limit s next budget arena map reply text =
 
 -- n times `each` elements are lent on of those that are there, or none where they are too few
 unfoldable pub lentOf : ℕ → ℕ → ℕ → ℕ
-lentOf n each there = pick (leb n peerCount && (leb each 8192 && leb (n * each) there)) (n * each) 0
+lentOf n each there = pick (leb n peerCount && (leb each areaLimit && leb (n * each) there)) (n * each) 0
 
 -- the first elements of arena and map as they are left
 abbrev pub putBack : List ℕ → List ℕ → ReplayLeaves → ReplayLeaves

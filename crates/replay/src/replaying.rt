@@ -5,6 +5,7 @@ use crate::types::Ending;
 use crate::types::Replayed;
 use engine::Engine;
 use engine::Ready;
+use peer::Peer;
 use trace::SetUp;
 ghost use mathlib.Core.List.{List};
 ghost use mathlib.Core.Path.{_≡_};
@@ -12,9 +13,6 @@ ghost use Prim.Native.Nat.{ℕ, _+_, _*_, _≤_};
 ghost use lib.ListN.{length};
 ghost use Rattle.replay.specs.Lines.{endingLine};
 ghost use Rattle.replay.specs.Replaying.{told, begun as begunOn, lentOf, hasRoom, replayOf};
-
-// The longest area, in bytes.
-const AREA: usize = 8192;
 
 // The room for the first and the last line, and for the line of an entry.
 const ENDS: usize = 64;
@@ -28,7 +26,7 @@ fn lent(n: usize, each: usize, there: usize) -> usize
     if Engine::PEERS < n {
         return 0;
     }
-    if AREA < each {
+    if Peer::AREA_LIMIT < each {
         return 0;
     }
     if there < n * each {
