@@ -72,13 +72,11 @@ fn whole(row: TypeRow, flags: u16, bytes: &[u8], at: Sections) -> Read
     if !lengths::fit(shape, fields, size) {
         return refused(BAD_LENGTH);
     }
-    let array = at.array;
     let raw_address = at.raw;
     Read::Packet(Packet {
         header,
         shape,
         tagged: row.tagged,
-        array,
         raw_address,
         data: Span { at: data_at, size },
     })

@@ -1,4 +1,4 @@
-// Where a packet's counted array, its optional headers and its data lie.
+// Where a packet's optional headers and its data lie.
 use crate::arrays;
 use crate::flags;
 use crate::layout;
@@ -38,11 +38,11 @@ fn connid_at(row: TypeRow, after: usize) -> usize
     if at == 0 { after } else { at }
 }
 
-// The sections of a packet of n bytes, with its array, and its raw address, which ends before at.
-fn from(row: TypeRow, flags: u16, array: Span, raw: Span, at: usize, n: usize) -> Extent
+// The sections of a packet of n bytes, with its raw address, which ends before at.
+fn from(row: TypeRow, flags: u16, raw: Span, at: usize, n: usize) -> Extent
     requires { ⌜ Sound row ⌝ }
     requires { ⌜ at < 2 ^ 48 ⌝ }
-    ensures { λ r. ⌜ r ≡ sectionsFrom row flags array raw at n ⌝ }
+    ensures { λ r. ⌜ r ≡ sectionsFrom row flags raw at n ⌝ }
 {
     let after = at + cq_data_length(row, flags);
     let data_at = after + connid_length(row, flags);
@@ -50,7 +50,6 @@ fn from(row: TypeRow, flags: u16, array: Span, raw: Span, at: usize, n: usize) -
         return Extent::Cut;
     }
     Extent::Whole(Sections {
-        array,
         raw,
         cq_at: at,
         connid_at: connid_at(row, after),
@@ -58,22 +57,22 @@ fn from(row: TypeRow, flags: u16, array: Span, raw: Span, at: usize, n: usize) -
     })
 }
 
-// The sections of a packet with these flags and with its array, which ends before at.
-fn behind(row: TypeRow, flags: u16, bytes: &[u8], array: Span, at: usize) -> Extent
+// The sections of a packet with these flags that follow its array, which ends before at.
+fn behind(row: TypeRow, flags: u16, bytes: &[u8], at: usize) -> Extent
     requires { ⌜ Sound row ⌝ }
     requires { ⌜ at < 2 ^ 41 ⌝ }
-    ensures { λ r. ⌜ r ≡ sectionsBehind row flags (now (bytes .entry)) array at ⌝ }
+    ensures { λ r. ⌜ r ≡ sectionsBehind row flags (now (bytes .entry)) at ⌝ }
 {
     let n = bytes.len();
     if !flags::raw_address(row, flags) {
-        return from(row, flags, array, Span { at: 0, size: 0 }, at, n);
+        return from(row, flags, Span { at: 0, size: 0 }, at, n);
     }
     let start = at + 4;
     if n < start {
         return Extent::Cut;
     }
     let size = wire::read_u32(bytes, at) as usize;
-    from(row, flags, array, Span { at: start, size }, start + size, n)
+    from(row, flags, Span { at: start, size }, start + size, n)
 }
 
 // The sections of a packet with these flags.
@@ -86,8 +85,8 @@ pub(crate) fn find(row: TypeRow, flags: u16, bytes: &[u8]) -> Extent
         return Extent::Cut;
     }
     if row.unit == 0 {
-        return behind(row, flags, bytes, Span { at: 0, size: 0 }, at);
+        return behind(row, flags, bytes, at);
     }
     let size = arrays::length(row, layout::count(row, bytes));
-    behind(row, flags, bytes, Span { at, size }, at + size)
+    behind(row, flags, bytes, at + size)
 }

@@ -11,7 +11,7 @@ use Rattle.laws.specs.Choose.{pick}
 use Rattle.protocol.specs.Layout.{multiuse}
 use Rattle.protocol.specs.Rules.{Inside, Sound}
 use Rattle.protocol.specs.Optional.{connid, cq-data, flagged, raw-address}
-use Rattle.protocol.specs.Sections.{arraySpan, extentOf, rawSpan}
+use Rattle.protocol.specs.Sections.{extentOf, rawSpan}
 use Rattle.protocol.specs.SectionsInTurn.{afterArray, afterRaw, connidLength, cqDataLength, sectionsAt, sectionsBehind, sectionsFrom}
 use Rattle.protocol.specs.declared.sections.Extent.the-variants.{Cut, Whole}
 use Rattle.protocol.specs.declared.sections.Sections.{Sections}
@@ -27,12 +27,12 @@ unfolding cqDataLength connidLength
 options-short r f s = omega (arith, pick-small (flagged r f cq-data) 8, connid-small r (flagged r f connid) s)
 
 -- a packet that ends before its raw address does is cut short
-pub cut-before : (r : TypeRow) (f : ℕ) (arr raw : Span) (at n : ℕ) → n < at → sectionsFrom r f arr raw at n ≡ Cut
+pub cut-before : (r : TypeRow) (f : ℕ) (raw : Span) (at n : ℕ) → n < at → sectionsFrom r f raw at n ≡ Cut
 unfolding sectionsFrom pick
-cut-before r f arr raw at n h = rw (lt-ltb n (at + cqDataLength r f + connidLength r f) (omega arith))
+cut-before r f raw at n h = rw (lt-ltb n (at + cqDataLength r f + connidLength r f) (omega arith))
 
-module _ (r : TypeRow) (f : ℕ) (arr raw : Span) (at n : ℕ) (s : Sound r) (h : r .header ≤ at) where
-  sections-inside : at + cqDataLength r f + connidLength r f ≤ n → Inside r f (sectionsAt r f arr raw at) n
+module _ (r : TypeRow) (f : ℕ) (raw : Span) (at n : ℕ) (s : Sound r) (h : r .header ≤ at) where
+  sections-inside : at + cqDataLength r f + connidLength r f ≤ n → Inside r f (sectionsAt r f raw at) n
   unfolding cqDataLength connidLength
   sections-inside k =
       record {
@@ -45,16 +45,16 @@ module _ (r : TypeRow) (f : ℕ) (arr raw : Span) (at n : ℕ) (s : Sound r) (h 
         body = k;
       }
 
-  from-inside : (t : Sections) → sectionsFrom r f arr raw at n ≡ Whole t → Inside r f t n
+  from-inside : (t : Sections) → sectionsFrom r f raw at n ≡ Whole t → Inside r f t n
   unfolding sectionsFrom
   from-inside t e =
       ⊎-elim (λ w. let z : _≡_ {A = ℕ} 0 1 = cc in absurd (omega arith))
-      (λ w. let q : sectionsAt r f arr raw at ≡ t = cc in rw (← q) (sections-inside (ltb-false n _ (w .0))))
-      (pick-cases (ltb n (at + cqDataLength r f + connidLength r f)) Cut (Whole (sectionsAt r f arr raw at)) (Whole t) e)
+      (λ w. let q : sectionsAt r f raw at ≡ t = cc in rw (← q) (sections-inside (ltb-false n _ (w .0))))
+      (pick-cases (ltb n (at + cqDataLength r f + connidLength r f)) Cut (Whole (sectionsAt r f raw at)) (Whole t) e)
 
 -- the sections that are found lie inside the packet
 pub extent-inside : (r : TypeRow) (f : ℕ) (bs : List ℕ) (t : Sections) → Sound r → extentOf r f bs ≡ Whole t → Inside r f t (length bs)
 unfolding sectionsBehind afterArray
 extent-inside r f bs t s e =
-    from-inside r f (arraySpan r bs (r .header)) (rawSpan (flagged r f raw-address) bs (afterArray r bs)) (afterRaw r f bs) (length bs) s (unfold afterRaw in omega arith) t
+    from-inside r f (rawSpan (flagged r f raw-address) bs (afterArray r bs)) (afterRaw r f bs) (length bs) s (unfold afterRaw in omega arith) t
     (unfold afterRaw in sym (extent-in-steps r f bs) ∙ e)

@@ -14,7 +14,7 @@ use Rattle.protocol.specs.Flags.{cqDataFlag, connidFlag, hasFlag, rawAdd
 use Rattle.protocol.specs.Optional.{Section, array, connid, cq-data, flagged, hasCqData, optionsFit, ordinal, raw-address, sectionsOf}
 use Rattle.protocol.specs.Options.{connidBytes, cqDataBytes, rawAddressBytes, sectionsBytes}
 use Rattle.protocol.specs.Rules.{Sound}
-use Rattle.protocol.specs.Sections.{arraySpan, before, beginOf, connidAt, dataAt, endOf, extentOf, rawSpan, sectionsIn}
+use Rattle.protocol.specs.Sections.{before, beginOf, connidAt, dataAt, endOf, extentOf, rawSpan, sectionsIn}
 use Rattle.protocol.specs.SectionsInTurn.{afterArray, afterRaw, connidLength, cqDataLength, sectionsAt, sectionsBehind, sectionsFrom}
 use Rattle.protocol.specs.Totals.{sizes}
 use Rattle.protocol.specs.Writing.{mandatoryBytes, packetBytes}
@@ -64,17 +64,6 @@ before-connid true true = refl
 before-connid true false = refl
 before-connid false true = refl
 before-connid false false = refl
-
-none-before : (a q z : Bool) → before array (arrayFirst a (behind q z)) ≡ []
-unfolding pick
-none-before true true true = refl
-none-before true true false = refl
-none-before true false true = refl
-none-before true false false = refl
-none-before false true true = refl
-none-before false true false = refl
-none-before false false true = refl
-none-before false false false = refl
 
 module _ (r : TypeRow) (f : ℕ) (bs : List ℕ) where
   -- ---- where they lie
@@ -126,10 +115,6 @@ module _ (r : TypeRow) (f : ℕ) (bs : List ℕ) where
       ∙ past-array (hasArray r) (before s (behind (r .request) (eqb (r .connid) 0))) refl
       ∙ ap (endOf r f bs (afterArray r bs)) e
 
-  array-begin : beginOf r f bs array ≡ r .header
-  unfolding beginOf sectionsOf
-  array-begin = ap (endOf r f bs (r .header)) (none-before (hasArray r) (r .request) (eqb (r .connid) 0))
-
   raw-begin : beginOf r f bs raw-address ≡ afterArray r bs
   raw-begin = begin-behind raw-address [] refl (before-raw (r .request) (eqb (r .connid) 0))
 
@@ -141,18 +126,17 @@ module _ (r : TypeRow) (f : ℕ) (bs : List ℕ) where
   unfolding afterRaw
   connid-begin = begin-behind connid _ refl (before-connid (r .request) (eqb (r .connid) 0)) ∙ cq-end (afterArray r bs) (r .request) refl
 
-  sections-in : sectionsIn r f bs ≡ sectionsAt r f (arraySpan r bs (r .header)) (rawSpan (flagged r f raw-address) bs (afterArray r bs)) (afterRaw r f bs)
+  sections-in : sectionsIn r f bs ≡ sectionsAt r f (rawSpan (flagged r f raw-address) bs (afterArray r bs)) (afterRaw r f bs)
   unfolding sectionsIn
   sections-in =
       λ i. record {
-        array = arraySpan r bs (array-begin i);
         raw = rawSpan (flagged r f raw-address) bs (raw-begin i);
         «cq_at» = cq-begin i;
         «connid_at» = connidAt r (connid-begin i);
         «data_at» = data-at i;
       }
 
-  pub extent-in-steps : extentOf r f bs ≡ sectionsBehind r f bs (arraySpan r bs (r .header)) (afterArray r bs)
+  pub extent-in-steps : extentOf r f bs ≡ sectionsBehind r f bs (afterArray r bs)
   unfolding extentOf sectionsBehind sectionsFrom afterRaw
   extent-in-steps = ap₂ (λ (n : ℕ) (t : Sections). pick (ltb (length bs) n) Cut (Whole t)) data-at sections-in
 

@@ -275,7 +275,7 @@ module _ (bs : List ℕ) (r : TypeRow) (rule : Sound r) (b : (i : ℕ) → getD 
   unfolding packetIn headerIn
   options-written = options-again r (leAt 2 bs 2) rule flags _ refl (has-cq-data _ bs _)
 
-  array-given : arrayAllowed r (length (bytesAt bs (p .array))) ≡ true
+  array-given : arrayAllowed r (length (bytesAt bs (arraySpan r bs (r .header)))) ≡ true
   unfolding arrayAllowed packetIn
   array-given =
       ⊎-elim (λ e. rw e) (λ e.
@@ -283,7 +283,7 @@ module _ (bs : List ℕ) (r : TypeRow) (rule : Sound r) (b : (i : ℕ) → getD 
       length-array bs b r rule (leAt 2 bs 2) fits told ∙ pick-false _ _ e in
       rw (e, z)) (tested (hasArray r))
 
-  packet-zeroed : (packetBytes r (p .header) (bytesAt bs (p .array)) (bytesAt bs (p .«raw_address»)) (bytesAt bs (p .«data»)) ≡ zeroed (leAt 2 bs 2) r p bs)
+  packet-zeroed : (packetBytes r (p .header) (bytesAt bs (arraySpan r bs (r .header))) (bytesAt bs (p .«raw_address»)) (bytesAt bs (p .«data»)) ≡ zeroed (leAt 2 bs 2) r p bs)
       × (length (zeroed (leAt 2 bs 2) r p bs) ≡ length bs)
   unfolding mandatoryBytes packetIn headerIn
   packet-zeroed =
@@ -292,8 +292,8 @@ module _ (bs : List ℕ) (r : TypeRow) (rule : Sound r) (b : (i : ℕ) → getD 
       let (e, inside) = connid-again bs b r rule f fits told p refl in
       let room = header-fits bs b r rule f fits told in
       let n : length (padded (p .header .connid) r p bs) ≡ length bs = length-store bs _ _ (rw length-replicate inside) in
-      let again = fields-again (flagged r f connid) (layout r) (countOf r (length (bytesAt bs (p .array)))) (p .header) bs (part bs 0 4)
-      (bytesAt bs (p .array)
+      let again = fields-again (flagged r f connid) (layout r) (countOf r (length (bytesAt bs (arraySpan r bs (r .header))))) (p .header) bs (part bs 0 4)
+      (bytesAt bs (arraySpan r bs (r .header))
       ++ (rawAddressBytes (p .header .«raw_address») (bytesAt bs (p .«raw_address»))
       ++ (cqDataBytes (p .header .«cq_data») ++ (connidBytes r (p .header .connid) ++ drop (p .«data» .at) bs))))
       4 (rule .once) b room (length-part bs 0 4 (omega (arith, room))) (numbers-kept bs b r rule f fits told) in (
@@ -318,7 +318,7 @@ module _ (limit : ℕ) (bs : List ℕ) (r : TypeRow) (a : ReadAs limit bs r) (b 
   unfolding packetIn headerIn
   row-again = ap rowOf (row-kind (getD bs 0 0) r (a .row)) ∙ a .row
 
-  no-bytes : bytesAt bs (q .array) ≡ []
+  no-bytes : bytesAt bs (arraySpan r bs (r .header)) ≡ []
   unfolding packetIn arraySpan part
   no-bytes = ap (bytesAt bs) (pick-false _ _ none)
 

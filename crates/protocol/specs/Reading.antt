@@ -42,7 +42,6 @@ packetIn r f bs s =
       header = headerIn r f bs s;
       shape = r .shape;
       tagged = r .tagged;
-      array = s .array;
       «raw_address» = s .raw;
       «data» = span (s .«data_at») (length bs - s .«data_at»);
     }

@@ -26,6 +26,7 @@ use Rattle.protocol.specs.declared.table.TypeRow.{TypeRow}
 use Rattle.protocol.specs.declared.types.CqData.{CqData}
 use Rattle.protocol.specs.declared.types.Header.{Header}
 use Rattle.protocol.specs.declared.types.Packet.{Packet}
+use Rattle.protocol.specs.Sections.{arraySpan}
 
 abbrev pub cqDataOrZero : CqData → ℕ
 cqDataOrZero CqData.Absent = 0
@@ -81,7 +82,7 @@ LengthIsPackets =
 -- a packet of the row r that is read from bs tells what was written
 pub record RowTells (r : TypeRow) (h : Header) (arr raw body bs : List ℕ) (p : Packet) : Type 0 where
   pub own : map (numberIn (p .header .fields)) (ownFields r) ≡ map (numberIn (h .fields)) (ownFields r)
-  pub array : bytesAt bs (p .array) ≡ arr
+  pub array : bytesAt bs (arraySpan r bs (r .header)) ≡ arr
   pub rawAddress : pick (p .header .«raw_address») (some (bytesAt bs (p .«raw_address»))) none ≡ pick (h .«raw_address») (some raw) none
   pub cqData : p .header .«cq_data» ≡ h .«cq_data»
   pub connid : p .header .connid ≡ h .connid

@@ -45,7 +45,7 @@ dataAt r f bs = endOf r f bs (r .header) (sectionsOf r)
 abbrev pub span : ℕ → ℕ → Span
 span at size = record { at = at; size = size }
 
--- the array begins at `at`
+-- the array begins at `at`; no type of the table has one, and a packet that is read does not tell it
 unfoldable pub arraySpan : TypeRow → List ℕ → ℕ → Span
 arraySpan r bs at = pick (hasArray r) (span at (arrayLength r (countIn r bs))) (span 0 0)
 
@@ -60,7 +60,6 @@ connidAt r at = pick (eqb (placeOf r multiuse) 0) at (placeOf r multiuse)
 unfoldable pub sectionsIn : TypeRow → ℕ → List ℕ → Sections
 sectionsIn r f bs =
     record {
-      array = arraySpan r bs (beginOf r f bs array);
       raw = rawSpan (flagged r f raw-address) bs (beginOf r f bs raw-address);
       «cq_at» = beginOf r f bs cq-data;
       «connid_at» = connidAt r (beginOf r f bs connid);

@@ -32,11 +32,10 @@ cqDataLength r f = pick (flagged r f cq-data) 8 0
 unfoldable pub connidLength : TypeRow → ℕ → ℕ
 connidLength r f = pick (flagged r f connid) (r .connid) 0
 
--- the sections of a packet whose array lies at `arr`, and its raw address at `raw` and ends before `at`
-abbrev pub sectionsAt : TypeRow → ℕ → Span → Span → ℕ → Sections
-sectionsAt r f arr raw at =
+-- the sections of a packet whose raw address lies at `raw` and ends before `at`
+abbrev pub sectionsAt : TypeRow → ℕ → Span → ℕ → Sections
+sectionsAt r f raw at =
     record {
-      array = arr;
       raw = raw;
       «cq_at» = at;
       «connid_at» = connidAt r (at + cqDataLength r f);
@@ -44,13 +43,13 @@ sectionsAt r f arr raw at =
     }
 
 -- the same of a packet of n bytes
-unfoldable pub sectionsFrom : TypeRow → ℕ → Span → Span → ℕ → ℕ → Extent
-sectionsFrom r f arr raw at n = pick (ltb n (at + cqDataLength r f + connidLength r f)) Cut (Whole (sectionsAt r f arr raw at))
+unfoldable pub sectionsFrom : TypeRow → ℕ → Span → ℕ → ℕ → Extent
+sectionsFrom r f raw at n = pick (ltb n (at + cqDataLength r f + connidLength r f)) Cut (Whole (sectionsAt r f raw at))
 
--- the same behind an array that lies at `arr` and ends before `at`
-unfoldable pub sectionsBehind : TypeRow → ℕ → List ℕ → Span → ℕ → Extent
-sectionsBehind r f bs arr at =
-    sectionsFrom r f arr (rawSpan (flagged r f raw-address) bs at) (at + pick (flagged r f raw-address) (4 + leAt 4 bs at) 0) (length bs)
+-- the same behind an array that ends before `at`
+unfoldable pub sectionsBehind : TypeRow → ℕ → List ℕ → ℕ → Extent
+sectionsBehind r f bs at =
+    sectionsFrom r f (rawSpan (flagged r f raw-address) bs at) (at + pick (flagged r f raw-address) (4 + leAt 4 bs at) 0) (length bs)
 
 -- the headers without the raw address
 unfoldable pub headLength : TypeRow → ℕ → ℕ

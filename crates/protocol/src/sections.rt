@@ -1,9 +1,8 @@
-// Where a packet's counted array, its optional headers and its data lie.
+// Where a packet's optional headers and its data lie.
 use crate::types::Span;
 
-// The array and the raw address, and where CQ data, connid and data begin.
+// The raw address, and where CQ data, connid and data begin.
 pub struct Sections {
-    pub array: Span,
     pub raw: Span,
     pub cq_at: usize,
     pub connid_at: usize,

@@ -41,14 +41,13 @@ pub struct Span {
 }
 
 // A packet that was read: its numbers, what the table says of its type, and where its raw address,
-// its data and its counted array lie. Raw address and array are empty where there is none.
+// which is empty where there is none, and its data lie.
 pub struct Packet {
     pub header: Header,
     pub shape: Shape,
     pub tagged: bool,
     pub raw_address: Span,
     pub data: Span,
-    pub array: Span,
 }
 
 // Why a packet is refused: the number of 01's table.

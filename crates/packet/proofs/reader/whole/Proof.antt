@@ -16,8 +16,8 @@ returns c =
 returns-2 : tie.Need-returns-2
 unfolding readLengths packetIn pick
 returns-2 c =
-    let f = c .before .before .before in
-    rw (← f .before .before .header .ensures, ← f .fit .ensures, not-false (f .fit .result) (c .before .before .if1 .left))
+    let f = c .before .before in
+    rw (← f .before .before .header .ensures, ← f .fit .ensures, not-false (f .fit .result) (c .before .if1 .left))
 
 pub whole-spec : {M : Type 1} → statement M
 whole-spec =

@@ -30,7 +30,7 @@ returns-2 c =
     let f = c .before .before in
     let a = f .before .before .args in
     rw (← f .raw-address .ensures, not-false (f .raw-address .result) (c .before .if1 .left))
-    (sym (cut-before (a .row) (a .flags) _ _ _ (length (a .bytes .now)) (omega arith)))
+    (sym (cut-before (a .row) (a .flags) _ _ (length (a .bytes .now)) (omega arith)))
 
 add-from : tie.Need-add-from
 add-from c = omega (arith, c .before .before .before .before .before .pre .1)

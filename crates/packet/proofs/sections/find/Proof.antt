@@ -4,11 +4,10 @@ use Rattle.protocol.proofs.ArrayLaws.{array-small}
 use Rattle.protocol.proofs.ReadingLaws.{cut-before}
 use Rattle.protocol.proofs.RowLaws.{after-no-array, header-bounds}
 use Rattle.protocol.proofs.StepLaws.{extent-in-steps}
-use Rattle.protocol.specs.Sections.{arraySpan}
 use Rattle.protocol.specs.SectionsInTurn.{afterArray, sectionsBehind}
 use Prim.Native.Nat.{_^_, _<_}
 use borrow.Author.Needs.{needs}
-use borrow.Author.Tests.{eq-eqb, ne-eqb}
+use borrow.Author.Tests.{ne-eqb}
 use mathlib.Core.Path.{sym, _∙_}
 use native.Mathlib.Omega.{arith}
 use Rattle.packet.proofs.sections.find.Statement.{statement}
@@ -26,16 +25,15 @@ returns : tie.Need-returns
 unfolding sectionsBehind afterArray
 returns c =
     let a = c .before .before .before .args in
-    sym (extent-in-steps (a .row) (a .flags) (a .bytes .now) ∙ cut-before _ _ _ _ _ _ (omega arith))
+    sym (extent-in-steps (a .row) (a .flags) (a .bytes .now) ∙ cut-before _ _ _ _ _ (omega arith))
 
 behind-requires : tie.Need-behind-requires
 behind-requires c κs = let s = c .before .before .before .before .before in (s .pre, omega (arith, header-bounds (s .args .row) (s .pre)))
 
 returns-2 : tie.Need-returns-2
-unfolding arraySpan pick
 returns-2 c =
     let a = c .before .before .before .before .before .before .args in
-    rw (c .behind .ensures, extent-in-steps (a .row) (a .flags) (a .bytes .now), after-no-array (a .row) (a .bytes .now) (c .before .if2 .taken), eq-eqb _ _ (c .before .if2 .taken))
+    rw (c .behind .ensures, extent-in-steps (a .row) (a .flags) (a .bytes .now), after-no-array (a .row) (a .bytes .now) (c .before .if2 .taken))
 
 add-behind : tie.Need-add-behind
 add-behind c = let s = c .before .before .before .before .before .before .before in omega (arith, header-bounds (s .args .row) (s .pre), array-short c)
@@ -46,7 +44,7 @@ behind-requires-2 c κs =
     (s .pre, omega (arith, header-bounds (s .args .row) (s .pre), array-short c))
 
 returns-3 : tie.Need-returns-3
-unfolding afterArray arraySpan pick
+unfolding afterArray pick
 returns-3 c =
     let n = c .before .before in
     let a = n .before .before .before .before .before .before .args in
