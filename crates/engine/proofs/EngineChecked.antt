@@ -8,7 +8,6 @@ use mathlib.Core.Bool.{Bool, true, false, _&&_, true≢false, and-false}
 use mathlib.Core.List.{List, [], _∷_, map}
 use mathlib.Core.Logic.{_⊎_, _↔_, inl, inr, ⊎-elim}
 use mathlib.Core.Path.{_≡_, refl, sym, ap, _∙_, subst}
-use native.Mathlib.Nat.{mul-assoc}
 use native.Mathlib.Omega.{arith}
 use Rattle.laws.specs.Choose.{pick}
 use Rattle.peer.specs.Calls.{Call, peerStep}
@@ -22,6 +21,7 @@ use Rattle.peer.specs.declared.types.Peer.{Peer}
 use Rattle.engine.specs.Checks.{TurnFails, WithIds, Outside, SetUpFails, SetUpIsChecked, TurnsAreChecked, WrongLengths, cannotBe, checksAt, highLimit, longArea, lowLimit, manyPeers, noPeer, turnRefusedAs, own, readySays, shortArea, unevenArea}
 use Rattle.engine.specs.SetUp.{Prepared, allPeersFit, engineFits, lentFits, numbersFit, peerAt, setUp}
 use Rattle.engine.specs.Steps.{World, callTurn, peerTurn, putBack, wordsOf}
+use Rattle.engine.proofs.AreaBits.{word-of}
 use Rattle.laws.proofs.Choosing.{and-left, and-right, branch, tested}
 use Rattle.laws.proofs.Comparing.{both-tests, eq-words, le-words}
 use Rattle.peer.proofs.AcceptOrRefuse.{step-checked}
@@ -73,11 +73,7 @@ module _ (n area limit : ℕ) where
 
   -- of an area that is a multiple of 64
   map-words : area % 64 ≡ 0 → n * area / 64 ≡ n * (area / 64)
-  map-words z =
-      let k : ℕ = area / 64 in
-      let whole : area ≡ k * 64 = omega arith in
-      let product : n * area ≡ n * k * 64 = ap (λ (x : ℕ). n * x) whole ∙ sym (mul-assoc n k 64) in
-      omega (arith, product)
+  map-words z = omega (arith, word-of n area 0 z)
 
   module _ (z : area % 64 ≡ 0) (arena map : ℕ) where
     right : lentFits n area arena map ≡ true → WrongLengths n area arena map → ⊥

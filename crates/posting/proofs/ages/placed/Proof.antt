@@ -6,7 +6,7 @@ use Rattle.posting.proofs.ages.placed.Tie as tie
 
 returns : tie.Need-returns
 unfolding placed
-returns c = rw (c .with-phase .ensures, c .before .renumbered .ensures, c .before .before .count-posted .ensures)
+returns c = simp (c .with-phase .ensures, c .before .renumbered .ensures, c .before .before .count-posted .ensures)
 
 pub placed-spec : {M : Type 1} → statement M
 placed-spec =
