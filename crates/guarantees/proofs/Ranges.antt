@@ -7,10 +7,9 @@ use mathlib.Core.Path.{_≡_, sym, ap, subst, subst₂}
 use native.Mathlib.Decide.{ℕ-discrete}
 use Rattle.engine.specs.Steps.{World}
 use Rattle.guarantees.specs.Delivery.{AllWrite, OwnRange, Writes}
-use Rattle.lending.specs.Acts.{callOf}
+use Rattle.peer.specs.Calls.{Call, callOf}
 use Rattle.guarantees.specs.Runs.{Request, Seen, freshWorld, noStarts, turnOf}
 use Rattle.laws.specs.Choose.{pick}
-use Rattle.peer.specs.Calls.{Call}
 use Rattle.peer.specs.Expected.{enter, targetOfCall}
 use Rattle.peer.specs.Origins.{Origin, noOrigins, noteOrigin}
 use Rattle.peer.specs.Plain.{Plain, freshPlain}
@@ -29,7 +28,7 @@ written p [] w starts l gs t from = tt
 written p (q ∷ qs) w starts l gs t from = go (ℕ-discrete (q .peer) p) (written p qs)
   where
     c : Call
-    c = callOf (q .act)
+    c = callOf (q .call)
 
     entered : Answer → Plain
     entered a = enter (w .engine .limit) l c a

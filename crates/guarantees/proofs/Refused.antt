@@ -16,12 +16,12 @@ use Rattle.engine.specs.SetUp.{Prepared, engineFits, lentFits, notStarted, numb
 use Rattle.engine.specs.Steps.{Turn, World, callTurn, peerTurn, putBack, refusedTurn, withPeer, wordsOf}
 use Rattle.engine.specs.declared.types.Engine.{Engine}
 use Rattle.guarantees.specs.Refusals.{NeverBadState, RefusedLeavesAll, RefusedSetUp, listFor}
-use Rattle.lending.specs.Acts.{Act, bufferOf, callOf}
+use Rattle.peer.specs.Calls.{Call, LentCall, callOf, cancel, packet, post, report}
+use Rattle.peer.specs.LentCalls.{bufferOf}
 use Rattle.guarantees.specs.Runs.{freshWorld, turnOf, worldAfter}
 use Rattle.laws.specs.Parts.{storeAt}
 use Rattle.protocol.specs.Checks.{refused}
 use Rattle.protocol.specs.declared.types.Refusal.{Refusal}
-use Rattle.peer.specs.Calls.{Call, cancel, packet, post, report}
 use Rattle.peer.specs.Effects.{Effect, refuse}
 use Rattle.peer.specs.Refusing.{among, refusalsOf}
 use Rattle.peer.specs.State.{freshPeer}
@@ -35,17 +35,17 @@ use Rattle.laws.proofs.Storing.{store-nothing, store-own}
 use Rattle.peer.proofs.StepCases.{step-refusing}
 
 -- a turn that is a refusal leaves all
-abbrev Leaves : World → Act → Turn → Type 0
+abbrev Leaves : World → LentCall → Turn → Type 0
 Leaves w a t =
     (k : Refusal) → t .answer ≡ Answer.Refused k → (among (listFor a) (k .number) ≡ true) × (t .world ≡ w) × (t .reply ≡ [])
 
-refused-leaves : (w : World) (a : Act) (m : Refusal) → among (listFor a) (m .number) ≡ true → Leaves w a (refusedTurn w m)
+refused-leaves : (w : World) (a : LentCall) (m : Refusal) → among (listFor a) (m .number) ≡ true → Leaves w a (refusedTurn w m)
 refused-leaves w a m e k x =
     let is : m ≡ k = cc in
     (ap (λ (n : Refusal). among (listFor a) (n .number)) (sym is) ∙ e, refl, refl)
 
 -- the peer's own refusal, put back
-own-leaves : (w : World) (p : ℕ) (a : Act) → lentFits (w .engine .n) (w .engine .area) (length (w .arena)) (length (w .map)) ≡ true → p < w .engine .n
+own-leaves : (w : World) (p : ℕ) (a : LentCall) → lentFits (w .engine .n) (w .engine .area) (length (w .arena)) (length (w .map)) ≡ true → p < w .engine .n
     → Leaves w a (peerTurn w p (callOf a))
 unfolding peerTurn
 own-leaves w p a e h k x =
@@ -70,7 +70,7 @@ own-leaves w p a e h k x =
             → _≡_ {A = World} (record { engine = d; arena = a; map = m }) (record { engine = f; arena = b; map = n })
         worlds x y z = λ i. record { engine = x i; arena = y i; map = z i }
 
-called-leaves : (w : World) (p : ℕ) (a : Act) → Leaves w a (callTurn w p (callOf a))
+called-leaves : (w : World) (p : ℕ) (a : LentCall) → Leaves w a (callTurn w p (callOf a))
 unfolding callTurn
 called-leaves w p a =
     branch (Leaves w a) (engineFits (w .engine)) _ _
@@ -82,8 +82,8 @@ called-leaves w p a =
 pub refused-leaves-all : RefusedLeavesAll
 unfolding RefusedLeavesAll turnOf
 refused-leaves-all w q k e =
-    let (number, world, reply) = called-leaves w (q .peer) (q .act) k e in
-    (number, world, ap (storeAt (bufferOf (q .act)) 0) reply ∙ store-nothing (bufferOf (q .act)) 0)
+    let (number, world, reply) = called-leaves w (q .peer) (q .call) k e in
+    (number, world, ap (storeAt (bufferOf (q .call)) 0) reply ∙ store-nothing (bufferOf (q .call)) 0)
 
 pub refused-set-up : RefusedSetUp
 unfolding RefusedSetUp setUp
@@ -94,7 +94,7 @@ refused-set-up n area limit arena map k =
     (λ x y. (cc, refl))
 
 -- a call in a good world is refused 4, or by its peer
-good-refusal : (w : World) → Good w → (p : ℕ) (a : Act) (k : Refusal) → callTurn w p (callOf a) .answer ≡ Answer.Refused k
+good-refusal : (w : World) → Good w → (p : ℕ) (a : LentCall) (k : Refusal) → callTurn w p (callOf a) .answer ≡ Answer.Refused k
     → (k .number ≡ 4) ⊎ (among (refusalsOf (callOf a)) (k .number) ≡ true)
 good-refusal w g p a k e = elim (decLt p (w .engine .n)) as (λ d. (k .number ≡ 4) ⊎ (among (refusalsOf (callOf a)) (k .number) ≡ true)) [
   | yes h ↦ inr (step-refusing (w .engine .area) (w .engine .limit) (peerAt (w .engine) p) (wordsOf w p) (callOf a) k
@@ -113,12 +113,12 @@ not-listed (report i) = (refl, refl)
 pub never-bad-state : NeverBadState
 unfolding NeverBadState turnOf
 never-bad-state n area limit arena map ready before q k e = (
-  λ x. ⊎-elim (λ y. omega arith) (λ y. clashing _ y (ap (among (refusalsOf (callOf (q .act)))) x ∙ not-listed (callOf (q .act)) .0)) refusal,
-  λ x. ⊎-elim (λ y. omega arith) (λ y. clashing _ y (ap (among (refusalsOf (callOf (q .act)))) x ∙ not-listed (callOf (q .act)) .1)) refusal,
+  λ x. ⊎-elim (λ y. omega arith) (λ y. clashing _ y (ap (among (refusalsOf (callOf (q .call)))) x ∙ not-listed (callOf (q .call)) .0)) refusal,
+  λ x. ⊎-elim (λ y. omega arith) (λ y. clashing _ y (ap (among (refusalsOf (callOf (q .call)))) x ∙ not-listed (callOf (q .call)) .1)) refusal,
 )
   where
     w : World
     w = worldAfter (freshWorld n area limit arena map) before
 
-    refusal : (k .number ≡ 4) ⊎ (among (refusalsOf (callOf (q .act))) (k .number) ≡ true)
-    refusal = good-refusal w (good-after (freshWorld n area limit arena map) before (fresh-good n area limit arena map ready)) (q .peer) (q .act) k e
+    refusal : (k .number ≡ 4) ⊎ (among (refusalsOf (callOf (q .call))) (k .number) ≡ true)
+    refusal = good-refusal w (good-after (freshWorld n area limit arena map) before (fresh-good n area limit arena map ready)) (q .peer) (q .call) k e

@@ -8,11 +8,11 @@ use Rattle.protocol.specs.Refusals.{badLent, badPeer, badState}
 use Rattle.engine.specs.SetUp.{engineFits, lentFits, peerAt}
 use Rattle.engine.specs.Steps.{Turn, World, callTurn, peerTurn, putBack, refusedTurn, wordsOf}
 use Rattle.guarantees.specs.Replies.{ReplyUntouched, RestUntouched}
-use Rattle.lending.specs.Acts.{bufferOf, callOf}
+use Rattle.peer.specs.Calls.{Call, callOf, peerStep}
+use Rattle.peer.specs.LentCalls.{bufferOf}
 use Rattle.guarantees.specs.Runs.{Request, turnOf}
 use Rattle.laws.specs.Parts.{storeAt}
 use Rattle.protocol.specs.declared.types.Refusal.{Refusal}
-use Rattle.peer.specs.Calls.{Call, peerStep}
 use Rattle.laws.proofs.Choosing.{pick-either}
 use Rattle.laws.proofs.Storing.{drop-store, length-store, store-nothing}
 use Rattle.peer.specs.Effects.{Effect}
@@ -28,20 +28,20 @@ called P w p c shut own =
     (pick-either P (ltb p (w .engine .n)) own (shut badPeer)) (shut badLent)) (shut badState)
 
 -- a grant's reply is a CTS of 24 bytes, for which there is room; no other answer comes with a reply
-replies : (w : World) (q : Request) → Replying (length (bufferOf (q .act))) (turnOf w q .reply) (turnOf w q .answer)
+replies : (w : World) (q : Request) → Replying (length (bufferOf (q .call))) (turnOf w q .reply) (turnOf w q .answer)
 unfolding turnOf peerTurn putBack
 replies w q =
-    called (λ (t : Turn). Replying (length (bufferOf (q .act))) (t .reply) (t .answer)) w (q .peer) (callOf (q .act)) (λ k. refl)
-    (subst (λ (n : ℕ). Replying n (f .reply) (f .answer)) (room-of (q .act))
-    (step-replies (w .engine .area) (w .engine .limit) (peerAt (w .engine) (q .peer)) (wordsOf w (q .peer)) (callOf (q .act))))
+    called (λ (t : Turn). Replying (length (bufferOf (q .call))) (t .reply) (t .answer)) w (q .peer) (callOf (q .call)) (λ k. refl)
+    (subst (λ (n : ℕ). Replying n (f .reply) (f .answer)) (room-of (q .call))
+    (step-replies (w .engine .area) (w .engine .limit) (peerAt (w .engine) (q .peer)) (wordsOf w (q .peer)) (callOf (q .call))))
   where
     f : Effect
-    f = peerStep (w .engine .area) (w .engine .limit) (peerAt (w .engine) (q .peer)) (wordsOf w (q .peer)) (callOf (q .act))
+    f = peerStep (w .engine .area) (w .engine .limit) (peerAt (w .engine) (q .peer)) (wordsOf w (q .peer)) (callOf (q .call))
 
 pub reply-untouched : ReplyUntouched
 unfolding ReplyUntouched
 reply-untouched w q e =
-    ap (storeAt (bufferOf (q .act)) 0) (granted-or-not (turnOf w q .answer) (replies w q) .0 e) ∙ store-nothing (bufferOf (q .act)) 0
+    ap (storeAt (bufferOf (q .call)) 0) (granted-or-not (turnOf w q .answer) (replies w q) .0 e) ∙ store-nothing (bufferOf (q .call)) 0
 
 pub rest-untouched : RestUntouched
 unfolding RestUntouched
@@ -50,7 +50,7 @@ rest-untouched w q e =
     let size′ : 0 + length (turnOf w q .reply) ≡ 24 = omega (arith, size) in
     record {
       room = room;
-      size = length-store (bufferOf (q .act)) 0 (turnOf w q .reply) (omega arith);
-      rest = subst (λ (n : ℕ). drop n (storeAt (bufferOf (q .act)) 0 (turnOf w q .reply)) ≡ drop n (bufferOf (q .act))) size′
-          (drop-store (bufferOf (q .act)) 0 (turnOf w q .reply) (omega arith));
+      size = length-store (bufferOf (q .call)) 0 (turnOf w q .reply) (omega arith);
+      rest = subst (λ (n : ℕ). drop n (storeAt (bufferOf (q .call)) 0 (turnOf w q .reply)) ≡ drop n (bufferOf (q .call))) size′
+          (drop-store (bufferOf (q .call)) 0 (turnOf w q .reply) (omega arith));
     }

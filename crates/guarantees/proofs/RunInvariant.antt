@@ -11,13 +11,13 @@ use Rattle.laws.specs.Parts.{storeAt}
 use Rattle.laws.proofs.Listing.{getD-any}
 use Rattle.laws.proofs.Storing.{length-part, length-store, store-next, store-nothing}
 use Rattle.protocol.specs.declared.types.Refusal.{Refusal}
-use Rattle.peer.specs.Calls.{peerStep}
+use Rattle.peer.specs.Calls.{callOf, peerStep}
 use Rattle.peer.specs.State.{freshPeer}
 use Rattle.peer.specs.declared.types.Answer.{Answer}
 use Rattle.peer.specs.declared.types.Call.{Call}
 use Rattle.peer.specs.declared.types.Peer.{Peer}
 use Rattle.peer.specs.declared.types.Request.{Request}
-use Rattle.lending.specs.Acts.{Inside, actOf, callOf, placeOf}
+use Rattle.peer.specs.LentCalls.{LiesWithin, lentCallOf, replyPlace}
 use Rattle.lending.specs.Lending.{Lent, leavesAt}
 use Rattle.engine.specs.Gates.{gateOf}
 use Rattle.engine.specs.Leaves.{world}
@@ -30,7 +30,7 @@ use Rattle.guarantees.specs.Runs.{requestOf, turnOf, worldAfter}
 use Rattle.guarantees.proofs.CheckedOnce.{CheckedOnce, once-good, once-in-peers, once-passed, once-shut, once-turn}
 
 -- of a reply buffer only the length counts
-turn-lent : (w : World) (bytes a b : List ℕ) (peer : ℕ) (c : Call) → length a ≡ length b → Inside (length bytes) (length a) c
+turn-lent : (w : World) (bytes a b : List ℕ) (peer : ℕ) (c : Call) → length a ≡ length b → LiesWithin (length bytes) (length a) c
     → turnOf w (requestOf bytes a (record { peer = peer; call = c })) ≡ turnOf w (requestOf bytes b (record { peer = peer; call = c }))
 unfolding turnOf
 turn-lent w bytes a b peer (Call.Post receive) h i = refl
@@ -70,7 +70,7 @@ module _ (bytes buffers : List ℕ) (form : Answer → List ℕ) where
     leaves-turn : (q : Request) (qs : List Request) → let t = turnOf w (requestOf bytes buffers q) in let l = form (t .answer) in
         at + length l + length (outputOf bytes buffers form (t .world) qs) ≤ length output
         → leavesWith taken w replies output at (q ∷ qs)
-        ≡ leavesWith (taken + 1) (t .world) (storeAt replies (placeOf (q .call)) (t .reply)) (storeAt output at l) (at + length l) qs
+        ≡ leavesWith (taken + 1) (t .world) (storeAt replies (replyPlace (q .call)) (t .reply)) (storeAt output at l) (at + length l) qs
     unfolding outputOf repliesAfter worldAfter
     leaves-turn q qs h =
         let t = turnOf w (requestOf bytes buffers q) in
@@ -106,7 +106,7 @@ module _ {bytes buffers : List ℕ} {form : Answer → List ℕ} {size most : �
   run-end g = g .whole ∙ leaves-end bytes buffers form taken w replies output at
 
   module _ {q : Request} {qs : List Request} (g : RunInvariant bytes buffers form size most all (q ∷ qs) w replies output at taken)
-      (i : Inside (length bytes) (length replies) (q .call)) where
+      (i : LiesWithin (length bytes) (length replies) (q .call)) where
     -- the answer of the next call has room
     pub run-room : (a : Answer) → at + length (form a) ≤ length output
     run-room a =
@@ -116,8 +116,8 @@ module _ {bytes buffers : List ℕ} {form : Answer → List ℕ} {size most : �
         omega (arith, g .short a)
 
     -- the next call is made
-    run-next : (t : Turn) → t ≡ turnOf w (requestOf bytes replies q) → length (storeAt replies (placeOf (q .call)) (t .reply)) ≡ length replies
-        → RunInvariant bytes buffers form size most all qs (t .world) (storeAt replies (placeOf (q .call)) (t .reply))
+    run-next : (t : Turn) → t ≡ turnOf w (requestOf bytes replies q) → length (storeAt replies (replyPlace (q .call)) (t .reply)) ≡ length replies
+        → RunInvariant bytes buffers form size most all qs (t .world) (storeAt replies (replyPlace (q .call)) (t .reply))
         (storeAt output at (form (t .answer))) (at + length (form (t .answer))) (taken + 1)
     run-next t u n =
         let e : turnOf w (requestOf bytes buffers q) ≡ t = sym (u ∙ turn-lent w bytes replies buffers (q .peer) (q .call) (g .lent) i) in
@@ -144,25 +144,25 @@ module _ {bytes buffers : List ℕ} {form : Answer → List ℕ} {size most : �
       pub run-shut : (k : Refusal) → o ≡ Gate.Shut k → CallMade bytes buffers form size most all qs good output at taken w replies (Answer.Refused k)
       run-shut k z =
           let e : refusedTurn w k ≡ turnOf w (requestOf bytes replies q) =
-          unfold turnOf in sym (once-shut w (q .peer) s o y k (callOf (actOf bytes replies (q .call))) z) in
-          let n = store-nothing replies (placeOf (q .call)) in
+          unfold turnOf in sym (once-shut w (q .peer) s o y k (callOf (lentCallOf bytes replies (q .call))) z) in
+          let n = store-nothing replies (replyPlace (q .call)) in
           record { once = s; next = λ at′ output′ a b. rw (a, b) (rw n at (run-next (refusedTurn w k) e (ap length n))) }
 
       -- its peer makes its step
       pub run-open : o ≡ Gate.Open → (d : Peer) (l : Lent) → length (l .reply) ≡ length replies
-          → l ≡ leavesAt (placeOf (q .call)) (w .engine .area) (q .peer) (w .arena) (w .map) replies
-          (peerStep (w .engine .area) (w .engine .limit) (getD (w .engine .peers) (q .peer) d) (wordsOf w (q .peer)) (callOf (actOf bytes replies (q .call))))
+          → l ≡ leavesAt (replyPlace (q .call)) (w .engine .area) (q .peer) (w .arena) (w .map) replies
+          (peerStep (w .engine .area) (w .engine .limit) (getD (w .engine .peers) (q .peer) d) (wordsOf w (q .peer)) (callOf (lentCallOf bytes replies (q .call))))
           → CallMade bytes buffers form size most all qs good output at taken
           (world (withPeer (w .engine) (q .peer) (l .step .peer)) (l .arena) (l .map)) (l .reply) (l .step .answer)
       unfolding putBack
       run-open z d l n e =
           let p = q .peer in
-          let call = callOf (actOf bytes replies (q .call)) in
+          let call = callOf (lentCallOf bytes replies (q .call)) in
           let below = once-passed w p s o y z .peer in
           let f = peerStep (w .engine .area) (w .engine .limit) (getD (w .engine .peers) p freshPeer) (wordsOf w p) call in
           let own = turn-own w (once-good w p s o y z) p below call in
-          let e′ : l ≡ leavesAt (placeOf (q .call)) (w .engine .area) p (w .arena) (w .map) replies f =
-          e ∙ ap (λ (x : Peer). leavesAt (placeOf (q .call)) (w .engine .area) p (w .arena) (w .map) replies (peerStep (w .engine .area) (w .engine .limit) x (wordsOf w p) call))
+          let e′ : l ≡ leavesAt (replyPlace (q .call)) (w .engine .area) p (w .arena) (w .map) replies f =
+          e ∙ ap (λ (x : Peer). leavesAt (replyPlace (q .call)) (w .engine .area) p (w .arena) (w .map) replies (peerStep (w .engine .area) (w .engine .limit) x (wordsOf w p) call))
           (getD-any (w .engine .peers) p d freshPeer (once-in-peers w p s o y z)) in
           let t : putBack w p f ≡ turnOf w (requestOf bytes replies q) = unfold turnOf in sym own in
           subst

@@ -9,7 +9,7 @@ use Rattle.engine.specs.Leaves.{world}
 use Rattle.engine.specs.SetUp.{Prepared, engineOf, lentFits, notStarted, numbersFit, peerCount, setUp}
 use Rattle.engine.specs.Steps.{World, callTurn}
 use Rattle.engine.specs.declared.types.Ready.{Ready}
-use Rattle.lending.specs.Acts.{callOf}
+use Rattle.peer.specs.Calls.{callOf}
 use Rattle.guarantees.specs.Runs.{Request, freshWorld, turnOf, worldAfter}
 use Rattle.peer.specs.State.{freeSlot, freshPeer, slotCount}
 use Rattle.peer.specs.declared.types.Peer.{Peer}
@@ -45,4 +45,4 @@ fresh-good n area limit arena map e =
 pub good-after : (w : World) (qs : List Request) → Good w → Good (worldAfter w qs)
 unfolding worldAfter turnOf
 good-after w [] g = g
-good-after w (q ∷ qs) g = good-after (callTurn w (q .peer) (callOf (q .act)) .world) qs (good-called w g (q .peer) (callOf (q .act)))
+good-after w (q ∷ qs) g = good-after (callTurn w (q .peer) (callOf (q .call)) .world) qs (good-called w g (q .peer) (callOf (q .call)))

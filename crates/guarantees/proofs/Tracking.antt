@@ -9,11 +9,11 @@ use native.Mathlib.Omega.{arith}
 use Rattle.engine.specs.SetUp.{peerAt}
 use Rattle.engine.specs.Steps.{Turn, World, callTurn, putBack, wordsOf}
 use Rattle.guarantees.specs.Delivery.{Writes, demanded}
-use Rattle.lending.specs.Acts.{Act, bufferOf, callOf, cancel, packet, post, report}
+use Rattle.peer.specs.Calls.{LentCall, callOf, cancel, packet, peerStep, post, report}
+use Rattle.peer.specs.LentCalls.{bufferOf}
 use Rattle.guarantees.specs.Runs.{Request, Seen, bytesSeen, replySeen, seenAt, turnOf}
 use Rattle.laws.specs.Parts.{part, storeAt}
 use Rattle.peer.specs.Answers.{onDone}
-use Rattle.peer.specs.Calls.{peerStep}
 use Rattle.peer.specs.Claims.{WriteClaim}
 use Rattle.peer.specs.Coverage.{Segment, byteOf, bytesFrom, inside}
 use Rattle.peer.specs.Effects.{Effect}
@@ -60,7 +60,7 @@ buffer-reply : (buffer reply : List ℕ) → length reply ≡ 24 → 24 ≤ leng
 buffer-reply buffer reply e h = ap (λ (n : ℕ). take n (storeAt buffer 0 reply)) (sym e) ∙ (unfold part in part-store buffer 0 reply (omega arith))
 
 -- the room that a call lends for its reply
-pub room-of : (a : Act) → roomOf (callOf a) ≡ length (bufferOf a)
+pub room-of : (a : LentCall) → roomOf (callOf a) ≡ length (bufferOf a)
 room-of (post r) = refl
 room-of (packet bs buffer) = refl
 room-of (cancel i) = refl
@@ -96,12 +96,12 @@ bytes-seen arena base area starts gs a h d =
 
 -- ---- the peer's own call
 
-module _ (p : ℕ) (w : World) (starts : List ℕ) (l : Plain) (t : Tracks p w starts l) (a : Act) where
+module _ (p : ℕ) (w : World) (starts : List ℕ) (l : Plain) (t : Tracks p w starts l) (a : LentCall) where
   abbrev f : Effect
   f = peerStep (w .engine .area) (w .engine .limit) (peerAt (w .engine) p) (wordsOf w p) (callOf a)
 
   abbrev own : Request
-  own = record { peer = p; act = a }
+  own = record { peer = p; call = a }
 
   turn : turnOf w own ≡ putBack w p f
   unfolding turnOf
@@ -204,36 +204,36 @@ module _ (p : ℕ) (w : World) (starts : List ℕ) (l : Plain) (t : Tracks p w s
           (subst (λ (x : Answer). WriteClaim (w .engine .area) t′ x (f .at) (f .bytes)) (step .answer) (yields .writes))
 
 module _ (p : ℕ) (w : World) (starts : List ℕ) (l : Plain) (t : Tracks p w starts l) (q : Request) where
-  is : q .peer ≡ p → record { peer = p; act = q .act } ≡ q
-  is e = ap (λ (n : ℕ). record { peer = n; act = q .act }) (sym e)
+  is : q .peer ≡ p → record { peer = p; call = q .call } ≡ q
+  is e = ap (λ (n : ℕ). record { peer = n; call = q .call }) (sym e)
 
-  pub own-seen : q .peer ≡ p → seenAt p w starts q ≡ demanded (w .engine .area) (w .engine .limit) l (callOf (q .act))
-  own-seen e = subst (λ (r : Request). seenAt p w starts r ≡ demanded (w .engine .area) (w .engine .limit) l (callOf (q .act))) (is e) (seen p w starts l t (q .act))
+  pub own-seen : q .peer ≡ p → seenAt p w starts q ≡ demanded (w .engine .area) (w .engine .limit) l (callOf (q .call))
+  own-seen e = subst (λ (r : Request). seenAt p w starts r ≡ demanded (w .engine .area) (w .engine .limit) l (callOf (q .call))) (is e) (seen p w starts l t (q .call))
 
-  pub own-stays : q .peer ≡ p → Stays p w (turnOf w q .world) (noteStart starts (callOf (q .act)) (turnOf w q .answer))
-      (enter (w .engine .limit) l (callOf (q .act)) (expected (w .engine .area) (w .engine .limit) l (callOf (q .act))))
+  pub own-stays : q .peer ≡ p → Stays p w (turnOf w q .world) (noteStart starts (callOf (q .call)) (turnOf w q .answer))
+      (enter (w .engine .limit) l (callOf (q .call)) (expected (w .engine .area) (w .engine .limit) l (callOf (q .call))))
   own-stays e =
-      subst (λ (r : Request). Stays p w (turnOf w r .world) (noteStart starts (callOf (q .act)) (turnOf w r .answer))
-      (enter (w .engine .limit) l (callOf (q .act)) (expected (w .engine .area) (w .engine .limit) l (callOf (q .act))))) (is e) (stays p w starts l t (q .act))
+      subst (λ (r : Request). Stays p w (turnOf w r .world) (noteStart starts (callOf (q .call)) (turnOf w r .answer))
+      (enter (w .engine .limit) l (callOf (q .call)) (expected (w .engine .area) (w .engine .limit) l (callOf (q .call))))) (is e) (stays p w starts l t (q .call))
 
-  pub own-writes : q .peer ≡ p → (gs : List Origin) → Trace l gs → Writes p w (turnOf w q .world) l gs (callOf (q .act)) (turnOf w q .answer)
+  pub own-writes : q .peer ≡ p → (gs : List Origin) → Trace l gs → Writes p w (turnOf w q .world) l gs (callOf (q .call)) (turnOf w q .answer)
   own-writes e gs from =
-      subst (λ (r : Request). Writes p w (turnOf w r .world) l gs (callOf (q .act)) (turnOf w r .answer)) (is e) (writes p w starts l t (q .act) gs from)
+      subst (λ (r : Request). Writes p w (turnOf w r .world) l gs (callOf (q .call)) (turnOf w r .answer)) (is e) (writes p w starts l t (q .call) gs from)
 
   -- ---- another's call
 
   pub other-stays : (q .peer ≡ p → ⊥) → Stays p w (turnOf w q .world) starts l
   unfolding turnOf
-  other-stays d = elim (decLt (q .peer) (w .engine .n)) as (λ x. Fine (callTurn w (q .peer) (callOf (q .act)))) [
-    | yes h ↦ subst Fine (sym (turn-own w (t .good) (q .peer) h (callOf (q .act)))) (made h)
-    | no h ↦ subst Fine (sym (turn-none w (t .good) (q .peer) (omega (arith, h)) (callOf (q .act)))) (record { tracks = t; area = refl; limit = refl })
+  other-stays d = elim (decLt (q .peer) (w .engine .n)) as (λ x. Fine (callTurn w (q .peer) (callOf (q .call)))) [
+    | yes h ↦ subst Fine (sym (turn-own w (t .good) (q .peer) h (callOf (q .call)))) (made h)
+    | no h ↦ subst Fine (sym (turn-none w (t .good) (q .peer) (omega (arith, h)) (callOf (q .call)))) (record { tracks = t; area = refl; limit = refl })
   ]
     where
       Fine : Turn → Type 0
       Fine u = Stays p w (u .world) starts l
 
       f : Effect
-      f = peerStep (w .engine .area) (w .engine .limit) (peerAt (w .engine) (q .peer)) (wordsOf w (q .peer)) (callOf (q .act))
+      f = peerStep (w .engine .area) (w .engine .limit) (peerAt (w .engine) (q .peer)) (wordsOf w (q .peer)) (callOf (q .call))
 
       made : q .peer < w .engine .n → Fine (putBack w (q .peer) f)
       made h =
@@ -256,4 +256,4 @@ module _ (p : ℕ) (w : World) (starts : List ℕ) (l : Plain) (t : Tracks p w s
           e x = d (sym x)
 
           k : Kept (w .engine .area) (peerAt (w .engine) (q .peer)) (wordsOf w (q .peer)) f
-          k = kept w (t .good) (q .peer) h (callOf (q .act))
+          k = kept w (t .good) (q .peer) h (callOf (q .call))

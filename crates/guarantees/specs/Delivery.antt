@@ -8,7 +8,7 @@ use mathlib.Core.Path.{_≡_}
 use Rattle.engine.specs.SetUp.{setUp}
 use Rattle.engine.specs.Steps.{World}
 use Rattle.engine.specs.declared.types.Ready.{Ready}
-use Rattle.lending.specs.Acts.{callOf}
+use Rattle.peer.specs.Calls.{Call, callOf, packet}
 use Rattle.guarantees.specs.Runs.{Request, Seen, callsOf, freshWorld, noStarts, observe, turnOf}
 use Rattle.laws.specs.Choose.{pick}
 use Rattle.laws.specs.Parts.{storeAt}
@@ -16,7 +16,6 @@ use Rattle.protocol.specs.Reading.{readOf}
 use Rattle.protocol.specs.declared.types.Packet.{Packet}
 use Rattle.protocol.specs.declared.types.Read.{Read}
 use Rattle.protocol.specs.Types.{servedRow}
-use Rattle.peer.specs.Calls.{Call}
 use Rattle.peer.specs.Claims.{AllBytes, BytesClaim, CountsUp, Distinct, DoneClaim, GrantClaim, InOrder, TruncateClaim, idsOf, isDone, isMatch, receivesOf, takes}
 use Rattle.peer.specs.Expected.{enter, expected, expectedBytes, plainStep, targetOfCall}
 use Rattle.peer.specs.Says.{said}
@@ -59,10 +58,10 @@ pub record Delivered (area limit : ℕ) (l : Plain) (gs : List Origin) (c : Call
   -- done exactly at the packet with which accepted segments cover every byte
   pub done : DoneClaim (targetOfCall limit l c) (s .answer)
   -- in message order, to the receive posted first of those that fit
-  pub order : (bs : List ℕ) (room : ℕ) (q : Packet) → c ≡ Call.packet bs room → readOf servedRow limit bs ≡ Read.Packet q → takes (s .answer) ≡ true
+  pub order : (bs : List ℕ) (room : ℕ) (q : Packet) → c ≡ packet bs room → readOf servedRow limit bs ≡ Read.Packet q → takes (s .answer) ≡ true
       → targetOfCall limit l c .matched ≡ true → InOrder l q (targetOfCall limit l c)
   -- truncated exactly if the message is longer than the oldest fitting receive
-  pub truncated : (bs : List ℕ) (room : ℕ) (q : Packet) → c ≡ Call.packet bs room → readOf servedRow limit bs ≡ Read.Packet q
+  pub truncated : (bs : List ℕ) (room : ℕ) (q : Packet) → c ≡ packet bs room → readOf servedRow limit bs ≡ Read.Packet q
       → TruncateClaim l q (targetOfCall limit l c) (s .answer)
   -- the message is that of the packet that matched it, in the receive that was posted; done answers that packet's CQ data
   pub origin : OriginClaim (originOfCall limit l gs c (s .answer)) (targetOfCall limit l c) (s .answer)
@@ -118,10 +117,10 @@ pub record Writes (p : ℕ) (w w′ : World) (l : Plain) (gs : List Origin) (c :
 unfoldable pub AllWrite : ℕ → World → Plain → List Origin → List Request → Type 0
 AllWrite p w l gs [] = Unit {0}
 AllWrite p w l gs (q ∷ qs) =
-    (q .peer ≡ p → Writes p w (turnOf w q .world) l gs (callOf (q .act)) (turnOf w q .answer))
+    (q .peer ≡ p → Writes p w (turnOf w q .world) l gs (callOf (q .call)) (turnOf w q .answer))
     × AllWrite p (turnOf w q .world)
-    (pick (eqb (q .peer) p) (enter (w .engine .limit) l (callOf (q .act)) (turnOf w q .answer)) l)
-    (pick (eqb (q .peer) p) (noteOrigin (targetOfCall (w .engine .limit) l (callOf (q .act))) gs (callOf (q .act)) (turnOf w q .answer)) gs) qs
+    (pick (eqb (q .peer) p) (enter (w .engine .limit) l (callOf (q .call)) (turnOf w q .answer)) l)
+    (pick (eqb (q .peer) p) (noteOrigin (targetOfCall (w .engine .limit) l (callOf (q .call))) gs (callOf (q .call)) (turnOf w q .answer)) gs) qs
 
 -- "Each accepted segment puts its own data into its own range of its own buffer and changes no other arena byte", in every run
 unfoldable pub OwnRange : Type 0

@@ -6,7 +6,7 @@ use lib.ListN.{length}
 use Rattle.laws.specs.Parts.{storeAt}
 use Rattle.peer.specs.declared.types.Answer.{Answer}
 use Rattle.peer.specs.declared.types.Request as code
-use Rattle.lending.specs.Acts.{placeOf}
+use Rattle.peer.specs.LentCalls.{replyPlace}
 use Rattle.engine.specs.Steps.{World}
 use Rattle.guarantees.specs.Runs.{Request, requestOf, turnOf, worldAfter}
 
@@ -20,7 +20,7 @@ module _ (bytes replies : List ℕ) where
   repliesAfter w now [] = now
   repliesAfter w now (q ∷ qs) =
       repliesAfter (turnOf w (requestOf bytes replies q) .world)
-      (storeAt now (placeOf (q .call)) (turnOf w (requestOf bytes replies q) .reply)) qs
+      (storeAt now (replyPlace (q .call)) (turnOf w (requestOf bytes replies q) .reply)) qs
 
   -- the answers, each in its form
   unfoldable pub outputOf : (Answer → List ℕ) → World → List code.Request → List ℕ

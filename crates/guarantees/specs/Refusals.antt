@@ -13,11 +13,12 @@ use Rattle.engine.specs.declared.types.Ready.{Ready}
 use Rattle.engine.specs.Checks.{readySays}
 use Rattle.engine.specs.SetUp.{setUp}
 use Rattle.engine.specs.Steps.{World}
-use Rattle.lending.specs.Acts.{Act, bufferOf, callOf}
+use Rattle.peer.specs.Calls.{LentCall, callOf}
+use Rattle.peer.specs.LentCalls.{bufferOf}
 use Rattle.guarantees.specs.Runs.{Request, bufferAfter, turnOf, worldAfter, freshWorld}
 
 -- the refusals of each call, in their order: 2, 3 and 4, then the peer's own
-abbrev pub listFor : Act → List ℕ
+abbrev pub listFor : LentCall → List ℕ
 listFor a = 2 ∷ 3 ∷ 4 ∷ refusalsOf (callOf a)
 
 -- for every world, also one that no run reaches, and every call
@@ -25,9 +26,9 @@ unfoldable pub RefusedLeavesAll : Type 0
 RefusedLeavesAll =
     (w : World) (q : Request) (k : Refusal)
     → turnOf w q .answer ≡ Answer.Refused k
-    → (among (listFor (q .act)) (k .number) ≡ true)
+    → (among (listFor (q .call)) (k .number) ≡ true)
     × (turnOf w q .world ≡ w)
-    × (bufferAfter w q ≡ bufferOf (q .act))
+    × (bufferAfter w q ≡ bufferOf (q .call))
 
 -- a set-up that is refused answers 1 and leaves the map
 unfoldable pub RefusedSetUp : Type 0

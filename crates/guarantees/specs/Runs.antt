@@ -8,11 +8,11 @@ use Rattle.laws.specs.Parts.{part, storeAt}
 use Rattle.peer.specs.declared.types.Answer.{Answer}
 use Rattle.peer.specs.Answers.{onDone, onGranted}
 use Rattle.peer.specs.declared.types.Request as code
-use Rattle.peer.specs.Calls.{Call}
+use Rattle.peer.specs.Calls.{Call, LentCall, callOf}
 use Rattle.peer.specs.Says.{Saying, said}
 use Rattle.peer.specs.Starts.{noteStart}
 use Rattle.peer.specs.State.{slotCount}
-use Rattle.lending.specs.Acts.{Act, actOf, bufferOf, callOf}
+use Rattle.peer.specs.LentCalls.{lentCallOf, bufferOf}
 use Rattle.engine.specs.Leaves.{world}
 use Rattle.engine.specs.SetUp.{setUp}
 use Rattle.engine.specs.Steps.{World, Turn, callTurn}
@@ -20,11 +20,11 @@ use Rattle.engine.specs.Steps.{World, Turn, callTurn}
 -- a call with what it lends, and its peer's number
 pub record Request : Type 0 where
   pub peer : ℕ
-  pub act : Act
+  pub call : LentCall
 
 -- a request of the code, whose packet lies in `bytes` and whose reply buffer in `replies`
 abbrev pub requestOf : List ℕ → List ℕ → code.Request → Request
-requestOf bytes replies q = record { peer = q .peer; act = actOf bytes replies (q .call) }
+requestOf bytes replies q = record { peer = q .peer; call = lentCallOf bytes replies (q .call) }
 
 -- ---- a run
 
@@ -34,11 +34,11 @@ freshWorld n area limit arena map =
     world (setUp n area limit (length arena) map .started .engine) arena (setUp n area limit (length arena) map .map)
 
 unfoldable pub turnOf : World → Request → Turn
-turnOf w q = callTurn w (q .peer) (callOf (q .act))
+turnOf w q = callTurn w (q .peer) (callOf (q .call))
 
 -- the reply buffer as the call leaves it
 abbrev pub bufferAfter : World → Request → List ℕ
-bufferAfter w q = storeAt (bufferOf (q .act)) 0 (turnOf w q .reply)
+bufferAfter w q = storeAt (bufferOf (q .call)) 0 (turnOf w q .reply)
 
 -- "each later one gets state, map and arena as the call before returned or left them"
 unfoldable pub worldAfter : World → List Request → World
@@ -76,7 +76,7 @@ unfoldable pub observe : ℕ → World → List ℕ → List Request → List Se
 observe p w starts [] = []
 observe p w starts (q ∷ qs) =
     pick (eqb (q .peer) p)
-    (seenAt p w starts q ∷ observe p (turnOf w q .world) (noteStart starts (callOf (q .act)) (turnOf w q .answer)) qs)
+    (seenAt p w starts q ∷ observe p (turnOf w q .world) (noteStart starts (callOf (q .call)) (turnOf w q .answer)) qs)
     (observe p (turnOf w q .world) starts qs)
 
 abbrev pub noStarts : List ℕ
@@ -85,4 +85,4 @@ noStarts = replicate slotCount 0
 -- the calls of peer p, in order
 unfoldable pub callsOf : ℕ → List Request → List Call
 callsOf p [] = []
-callsOf p (q ∷ qs) = pick (eqb (q .peer) p) (callOf (q .act) ∷ callsOf p qs) (callsOf p qs)
+callsOf p (q ∷ qs) = pick (eqb (q .peer) p) (callOf (q .call) ∷ callsOf p qs) (callsOf p qs)

@@ -8,8 +8,8 @@ ghost use mathlib.Core.Path.{_≡_};
 ghost use Prim.Native.Nat.{_*_, _/_};
 ghost use lib.ListN.{length};
 ghost use Rattle.laws.specs.Parts.{part};
-ghost use Rattle.peer.specs.Calls.{peerStep};
-ghost use Rattle.lending.specs.Acts.{Inside, actOf, callOf, placeOf};
+ghost use Rattle.peer.specs.Calls.{callOf, peerStep};
+ghost use Rattle.peer.specs.LentCalls.{LiesWithin, lentCallOf, replyPlace};
 ghost use Rattle.lending.specs.Lending.{Owned, leavesAt};
 
 // One call of peer p, whose gate is open. Of arena and map only the peer's own part is lent on, and
@@ -26,8 +26,8 @@ pub fn step(
     replies: &mut [u8],
 ) -> Step
     requires { ⌜ Owned area limit p (length (now arena)) (length (now map)) there ⌝ }
-    requires { ⌜ Inside (length (now bytes)) (length (now replies)) call ⌝ }
-    ensures { λ r. ⌜ record { step = r; arena = now (arena .exit); map = now (map .exit); reply = now (replies .exit) } ≡ leavesAt (placeOf call) area p (now (arena .entry)) (now (map .entry)) (now (replies .entry)) (peerStep area limit there (part (now (map .entry)) (p * (area / 64)) (area / 64)) (callOf (actOf (now (bytes .entry)) (now (replies .entry)) call))) ⌝ }
+    requires { ⌜ LiesWithin (length (now bytes)) (length (now replies)) call ⌝ }
+    ensures { λ r. ⌜ record { step = r; arena = now (arena .exit); map = now (map .exit); reply = now (replies .exit) } ≡ leavesAt (replyPlace call) area p (now (arena .entry)) (now (map .entry)) (now (replies .entry)) (peerStep area limit there (part (now (map .entry)) (p * (area / 64)) (area / 64)) (callOf (lentCallOf (now (bytes .entry)) (now (replies .entry)) call))) ⌝ }
 {
     match call {
         Call::Post(receive) => posting::post(there, area, receive),

@@ -16,7 +16,7 @@ use Rattle.engine.specs.Steps.{World}
 use Rattle.engine.specs.declared.types.Ready.{Ready}
 use Rattle.engine.proofs.Worlds.{Good}
 use Rattle.peer.specs.declared.types.Request as code
-use Rattle.lending.specs.Acts.{placeOf}
+use Rattle.peer.specs.LentCalls.{replyPlace}
 use Rattle.guarantees.specs.Outputs.{outputOf, repliesAfter, requestsOf}
 use Rattle.guarantees.specs.Runs.{Request, freshWorld, requestOf, turnOf, worldAfter}
 use Rattle.guarantees.proofs.SetUps.{fresh-good, good-after}
@@ -107,7 +107,7 @@ module _ (bytes buffers : List ℕ) where
 
   reply-next : (w : World) (now : List ℕ) (qs : List code.Request) (j : ℕ) (none : code.Request) → j < length qs
       → repliesAfter bytes buffers w now (take (suc j) qs)
-      ≡ storeAt (repliesAfter bytes buffers w now (take j qs)) (placeOf (getD qs j none .call))
+      ≡ storeAt (repliesAfter bytes buffers w now (take j qs)) (replyPlace (getD qs j none .call))
       (turnOf (worldAfter w (take j (requestsOf bytes buffers qs))) (requestOf bytes buffers (getD qs j none)) .reply)
   unfolding repliesAfter worldAfter
   reply-next w now [] j none l = absurd (omega arith)

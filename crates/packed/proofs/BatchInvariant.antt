@@ -9,7 +9,7 @@ use native.Mathlib.Omega.{arith}
 use Rattle.laws.specs.Parts.{storeAt}
 use Rattle.peer.specs.declared.types.Answer.{Answer}
 use Rattle.peer.specs.declared.types.Request.{Request}
-use Rattle.lending.specs.Acts.{Inside}
+use Rattle.peer.specs.LentCalls.{LiesWithin}
 use Rattle.engine.specs.Steps.{World}
 use Rattle.guarantees.specs.Outputs.{RunLeaves}
 use Rattle.guarantees.proofs.RunInvariant.{CallMade, RunInvariant, ended, run-end}
@@ -70,7 +70,7 @@ module _ {calls bytes buffers : List ℕ} {most : ℕ} {all : RunLeaves} {w : Wo
     batch-bad f = rw (g .place) at (run-end (rw (more, decode-bad (most - (taken + 1)) calls bytes buffers at (rw (g .run .lent) at f)) at (g .run)))
 
     module _ (q : Request) (f : requestAt calls (length bytes) (length replies) at ≡ FoundRequest.Request q) where
-      pub batch-inside : Inside (length bytes) (length replies) (q .call)
+      pub batch-inside : LiesWithin (length bytes) (length replies) (q .call)
       batch-inside = request-inside calls (length bytes) (length replies) at q f
 
       -- it is the next of the run

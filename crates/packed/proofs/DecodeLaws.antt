@@ -8,7 +8,7 @@ use mathlib.Core.Path.{_≡_, subst}
 use native.Mathlib.Omega.{arith}
 use Rattle.laws.proofs.Choosing.{branch}
 use Rattle.peer.specs.declared.types.Request.{Request}
-use Rattle.lending.specs.Acts.{Inside}
+use Rattle.peer.specs.LentCalls.{LiesWithin}
 use Rattle.packed.specs.Calls.{packetAt, postAt, requestAt}
 use Rattle.packed.specs.Running.{decode, onFound}
 use Rattle.packed.specs.declared.types.FoundRequest.{FoundRequest}
@@ -36,7 +36,7 @@ calls-few (suc k) w bytes replies at = found (requestAt w (length bytes) (length
 
 abbrev InsideFound : ℕ → ℕ → FoundRequest → Type 0
 InsideFound bytes replies FoundRequest.Bad = Unit {0}
-InsideFound bytes replies (FoundRequest.Request q) = Inside bytes replies (q .call)
+InsideFound bytes replies (FoundRequest.Request q) = LiesWithin bytes replies (q .call)
 
 found-inside : (w : List ℕ) (bytes replies at : ℕ) → InsideFound bytes replies (requestAt w bytes replies at)
 unfolding requestAt postAt packetAt
@@ -48,5 +48,5 @@ found-inside w bytes replies at =
     (λ g. branch P (leb (getD w (at + 4) 0 + getD w (at + 5) 0) replies) _ _ (λ l. (leb-true _ _ g, leb-true _ _ l)) (λ l. tt)) (λ g. tt))
     (λ h. branch P (eqb (getD w at 0) 3) _ _ (λ h. tt) (λ h. branch P (eqb (getD w at 0) 4) _ _ (λ h. tt) (λ h. tt))))
 
-pub request-inside : (w : List ℕ) (bytes replies at : ℕ) (q : Request) → requestAt w bytes replies at ≡ FoundRequest.Request q → Inside bytes replies (q .call)
+pub request-inside : (w : List ℕ) (bytes replies at : ℕ) (q : Request) → requestAt w bytes replies at ≡ FoundRequest.Request q → LiesWithin bytes replies (q .call)
 request-inside w bytes replies at q e = subst (InsideFound bytes replies) e (found-inside w bytes replies at)

@@ -18,7 +18,8 @@ use Rattle.protocol.specs.declared.types.Read.{Read}
 use Rattle.protocol.specs.Types.{servedRow}
 use Rattle.protocol.proofs.ReadNumbers.{read-numbers}
 use Rattle.protocol.proofs.Served.{any-read}
-use Rattle.peer.specs.Calls.{Call, peerStep, placed, renumbered, renumberedPhase}
+use Rattle.peer.specs.Calls.{Call, callOf, peerStep, placed, renumbered, renumberedPhase}
+use Rattle.peer.specs.Claims.{AreBytes}
 use Rattle.peer.specs.Effects.{Effect, accept, advance, begun, extended, grantOf, opened, settledAs, truncatedAt, withPhase}
 use Rattle.peer.specs.Incomings.{incomingOf}
 use Rattle.peer.specs.State.{freeSlot, freshPeer, phaseAt, slotCount, slotWith}
@@ -36,7 +37,7 @@ use Rattle.engine.specs.SetUp.{engineOf, peerAt, peerCount}
 use Rattle.engine.specs.Steps.{Turn, World, callTurn, putBack, wordsOf}
 use Rattle.engine.proofs.WorldTurns.{good-called, turn-none, turn-own}
 use Rattle.engine.proofs.Worlds.{Good, sized}
-use Rattle.lending.specs.Acts.{actOf, callOf}
+use Rattle.peer.specs.LentCalls.{lentCallOf}
 use Rattle.guarantees.specs.Outputs.{requestsOf}
 use Rattle.guarantees.specs.Runs.{turnOf, worldAfter}
 use Rattle.engine.proofs.SentencesHold.{fresh-peer}
@@ -129,18 +130,11 @@ settled-held limit p i o Progress.Partial h m = with-held p i (Phase.Open o) h (
 
 -- ---- every call
 
--- a packet's bytes are bytes
-abbrev pub BytesOf : Call → Type 0
-BytesOf (Call.post r) = Unit {0}
-BytesOf (Call.packet bs room) = (i : ℕ) → getD bs i 0 < 256
-BytesOf (Call.cancel i) = Unit {0}
-BytesOf (Call.report i) = Unit {0}
-
-step-held : (area limit : ℕ) (p : Peer) (ws : List ℕ) (c : Call) → PeerHeld p → BytesOf c → PeerHeld (peerStep area limit p ws c .peer)
+step-held : (area limit : ℕ) (p : Peer) (ws : List ℕ) (c : Call) → PeerHeld p → AreBytes c → PeerHeld (peerStep area limit p ws c .peer)
 unfolding truncatedAt begun accept
 step-held area limit p ws c h b = go (step-case area limit p ws c) b
   where
-    go : {c : Call} {f : Effect} → StepCase area limit p ws c f → BytesOf c → PeerHeld (f .peer)
+    go : {c : Call} {f : Effect} → StepCase area limit p ws c f → AreBytes c → PeerHeld (f .peer)
     go (refused c k e) b = h
     go (posted r i v x y) b = placed-held p r i h
     go (cancelled i x y) b = with-held p i Phase.Free h free-held
@@ -175,7 +169,7 @@ fresh-held n area limit =
           messages = λ i o e. free-held o (ap (λ (s : Slot). s .phase) (sym (free-slots slotCount i)) ∙ e);
         })
 
-called-held : (w : World) → Good w → Held (w .engine) → (p : ℕ) (c : Call) → BytesOf c → Held (callTurn w p c .world .engine)
+called-held : (w : World) → Good w → Held (w .engine) → (p : ℕ) (c : Call) → AreBytes c → Held (callTurn w p c .world .engine)
 called-held w g h p c b = elim (decLt p (w .engine .n)) as (λ d. Held (callTurn w p c .world .engine)) [
   | yes l ↦ subst (λ (t : Turn). Held (t .world .engine)) (sym (turn-own w g p l c)) (own l)
   | no l ↦ subst (λ (t : Turn). Held (t .world .engine)) (sym (turn-none w g p (omega (arith, l)) c)) h
@@ -205,9 +199,9 @@ batch-held bytes replies b w g h (q ∷ qs) =
     batch-held bytes replies b _ (good-called w g (q .peer) call) (called-held w g h (q .peer) call (within (q .call))) qs
   where
     call : Call
-    call = callOf (actOf bytes replies (q .call))
+    call = callOf (lentCallOf bytes replies (q .call))
 
-    within : (c : code.Call) → BytesOf (callOf (actOf bytes replies c))
+    within : (c : code.Call) → AreBytes (callOf (lentCallOf bytes replies c))
     within (code.Call.Post receive) = tt
     within (code.Call.Packet sent reply) = part-all (λ x. x < 256) 0 bytes (sent .at) (sent .size) b
     within (code.Call.Cancel slot) = tt

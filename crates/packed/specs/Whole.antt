@@ -9,7 +9,7 @@ use Rattle.engine.specs.SetUp.{setUp}
 use Rattle.engine.specs.Steps.{Turn, World}
 use Rattle.engine.specs.declared.types.Ready.{Ready}
 use Rattle.peer.specs.declared.types.Request as code
-use Rattle.lending.specs.Acts.{placeOf}
+use Rattle.peer.specs.LentCalls.{replyPlace}
 use Rattle.guarantees.specs.Outputs.{requestsOf}
 use Rattle.guarantees.specs.Runs.{Request, freshWorld, requestOf, turnOf, worldAfter}
 use Rattle.state_words.specs.Saving.{engineWords}
@@ -74,7 +74,7 @@ pub record PartOfRun (w : World) (earlier : List Request) (b : Batch) (k : Kept)
   pub repliesAt : ℕ → List ℕ
   pub repliesFirst : repliesAt 0 ≡ b .replies
   pub repliesNext : (j : ℕ) (none : code.Request) → j < length (callsIn b)
-      → repliesAt (suc j) ≡ storeAt (repliesAt j) (placeOf (getD (callsIn b) j none .call)) (turnAt w earlier b j none .reply)
+      → repliesAt (suc j) ≡ storeAt (repliesAt j) (replyPlace (getD (callsIn b) j none .call)) (turnAt w earlier b j none .reply)
   pub repliesLast : repliesAt (length (callsIn b)) ≡ k .replies
   -- what is left of arena, map and state
   pub arena : k .arena ≡ worldAfter w (earlier ++ requestsIn b) .arena

@@ -18,7 +18,7 @@ use Rattle.protocol.specs.Writing.{baseBytes, mandatoryBytes, packetBytes}
 use Rattle.protocol.specs.declared.types.Refusal.{Refusal}
 use Rattle.wire.specs.LittleEndian.{leBytes}
 use Rattle.peer.specs.Answers.{onDone, onGranted}
-use Rattle.peer.specs.Calls.{Call, cancel, packet, peerStep, placed, post, renumbered, renumberedPhase, report}
+use Rattle.peer.specs.Calls.{Call, cancel, onPacket, packet, peerStep, placed, post, renumbered, renumberedPhase, report}
 use Rattle.peer.specs.Claims.{SegmentIn, WriteClaim}
 use Rattle.peer.specs.Coverage.{Segment, allOf, byteOf, covers}
 use Rattle.peer.specs.Effects.{Effect, accept, advance, begun, extended, grantOf, inSlot, opened, progressOf, settledAs, truncatedAt, withPhase}
@@ -250,10 +250,7 @@ Replying room reply a = onGranted (reply ≡ []) (λ n. (length reply ≡ 24) ×
 
 -- of the calls only a packet is answered granted; its reply buffer is `room` bytes long
 abbrev pub roomOf : Call → ℕ
-roomOf (post r) = 0
-roomOf (packet bs room) = room
-roomOf (cancel i) = 0
-roomOf (report i) = 0
+roomOf c = onPacket 0 (λ bs room. room) c
 
 pub step-replies : (area limit : ℕ) (p : Peer) (ws : List ℕ) (c : Call)
     → Replying (roomOf c) (peerStep area limit p ws c .reply) (peerStep area limit p ws c .answer)

@@ -2,7 +2,7 @@
 use Prim.Native.Nat.{ℕ, _+_}
 use mathlib.Core.List.{List, [], _∷_}
 use mathlib.Core.Bool.{Bool, false, _||_}
-use lib.ListN.{set}
+use lib.ListN.{length, set}
 use lib.Dec.{leb, ltb}
 use Rattle.laws.specs.Choose.{pick}
 use Rattle.bitmap.specs.Map.{countSet, firstClear}
@@ -24,12 +24,42 @@ use Rattle.peer.specs.Judging.{judge}
 use Rattle.peer.specs.Matching.{vacancy}
 use Rattle.peer.specs.State.{slotCount, slotWith, phaseAt, inTheWay}
 
--- a call, without the peer's number and without what a run hands on: of a packet its bytes and the reply buffer's length
-pub data Call : Type 0 where
-  post : Receive → Call
-  packet : List ℕ → ℕ → Call
-  cancel : ℕ → Call
-  report : ℕ → Call
+-- ---- a call
+
+-- without the peer's number and without what a run hands on: of a packet its bytes, and of its reply buffer what `Reply` is
+pub data CallWith (Reply : Type 0) : Type 0 where
+  post : Receive → CallWith Reply
+  packet : List ℕ → Reply → CallWith Reply
+  cancel : ℕ → CallWith Reply
+  report : ℕ → CallWith Reply
+
+-- with the reply buffer as it is lent
+abbrev pub LentCall : Type 0
+LentCall = CallWith (List ℕ)
+
+-- with its length, by which a step goes
+abbrev pub Call : Type 0
+Call = CallWith ℕ
+
+-- "their kind, numbers, bytes lent to be read and lengths of buffers lent to be written"
+abbrev pub callOf : LentCall → Call
+callOf (post r) = post r
+callOf (packet bs buffer) = packet bs (length buffer)
+callOf (cancel i) = cancel i
+callOf (report i) = report i
+
+-- what is made of a post, and of a packet: `other` at each call else
+abbrev pub onPost {ℓ} : {A : Type ℓ} {Reply : Type 0} → A → (Receive → A) → CallWith Reply → A
+onPost other posting (post r) = posting r
+onPost other posting (packet bs reply) = other
+onPost other posting (cancel i) = other
+onPost other posting (report i) = other
+
+abbrev pub onPacket {ℓ} : {A : Type ℓ} {Reply : Type 0} → A → (List ℕ → Reply → A) → CallWith Reply → A
+onPacket other arriving (post r) = other
+onPacket other arriving (packet bs reply) = arriving bs reply
+onPacket other arriving (cancel i) = other
+onPacket other arriving (report i) = other
 
 -- ---- post
 

@@ -13,7 +13,7 @@ use Rattle.peer.specs.declared.types.Answer.{Answer}
 use Rattle.peer.specs.declared.types.Inbound.{Inbound}
 use Rattle.peer.specs.declared.types.Receive.{Receive}
 use Rattle.peer.specs.Answers.{onAccepted, onDone, onGranted, onTaken}
-use Rattle.peer.specs.Calls.{Call, cancel, packet, post, report}
+use Rattle.peer.specs.Calls.{Call, onPacket, packet}
 use Rattle.peer.specs.Coverage.{Segment, covers, inside, allOf}
 use Rattle.peer.specs.Expected.{enter, expected, expectedBytes, plainStep, targetOfCall}
 use Rattle.peer.specs.Incomings.{incomingOf, isLong}
@@ -158,10 +158,7 @@ Once =
 
 -- the id of an RTM, in its bytes: "msg_id 4"
 abbrev pub idAt : Plain → Target → Call → ℕ
-idAt l t (post r) = 0
-idAt l t (packet bs room) = leAt 4 bs 4
-idAt l t (cancel i) = 0
-idAt l t (report i) = 0
+idAt l t c = onPacket 0 (λ bs room. leAt 4 bs 4) c
 
 -- the ids of the messages that are matched, truncated ones too, in the order of their matches
 abbrev pub idsOf : ℕ → Plain → List Call → List Answer → List ℕ
@@ -169,10 +166,7 @@ idsOf limit l cs answers = numbersOf isMatch idAt limit l cs answers
 
 -- what is lent to be read are bytes
 abbrev pub AreBytes : Call → Type 0
-AreBytes (post r) = Unit {0}
-AreBytes (packet bs room) = (i : ℕ) → getD bs i 0 < 256
-AreBytes (cancel i) = Unit {0}
-AreBytes (report i) = Unit {0}
+AreBytes c = onPacket (Unit {0}) (λ bs room. (i : ℕ) → getD bs i 0 < 256) c
 
 abbrev pub AllBytes : List Call → Type 0
 AllBytes [] = Unit {0}

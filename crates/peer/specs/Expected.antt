@@ -23,7 +23,7 @@ use Rattle.peer.specs.declared.types.Fit.{Fit}
 use Rattle.peer.specs.declared.types.Vacancy.{Vacancy}
 use Rattle.peer.specs.declared.types.Answer.{Answer}
 use Rattle.peer.specs.Answers.{onDone, onGranted}
-use Rattle.peer.specs.Calls.{Call, post, packet, cancel, report}
+use Rattle.peer.specs.Calls.{Call, cancel, onPacket, packet, post, report}
 use Rattle.peer.specs.Coverage.{Segment, covers, allOf, bytesFrom}
 use Rattle.peer.specs.Effects.{opened, grantOf}
 use Rattle.peer.specs.Incomings.{incomingOf, isRtm, isLong}
@@ -154,10 +154,7 @@ expected area limit l (report i) =
 
 -- the entry that a packet's segment goes to, with the segment
 unfoldable pub targetOfCall : ℕ → Plain → Call → Target
-targetOfCall limit l (post r) = nowhere
-targetOfCall limit l (packet bs room) = expectPacket limit l bs room .target
-targetOfCall limit l (cancel i) = nowhere
-targetOfCall limit l (report i) = nowhere
+targetOfCall limit l c = onPacket nowhere (λ bs room. expectPacket limit l bs room .target) c
 
 -- the history goes on with a call and its answer
 unfoldable pub enter : ℕ → Plain → Call → Answer → Plain

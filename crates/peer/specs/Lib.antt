@@ -6,6 +6,7 @@ pub mod Judging
 pub mod Answers
 pub mod Effects
 pub mod Calls
+pub mod LentCalls
 pub mod Coverage
 pub mod Plain
 pub mod Expected

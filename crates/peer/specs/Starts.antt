@@ -5,11 +5,8 @@ use mathlib.Core.List.{List}
 use lib.ListN.{set}
 use Rattle.peer.specs.declared.types.Answer.{Answer}
 use Rattle.peer.specs.Answers.{onPosted}
-use Rattle.peer.specs.Calls.{Call, post, packet, cancel, report}
+use Rattle.peer.specs.Calls.{Call, onPost}
 
 -- the starts, by slot, after one call more and its answer
 abbrev pub noteStart : List ℕ → Call → Answer → List ℕ
-noteStart starts (post r) a = onPosted starts (λ i. set starts i (r .start)) a
-noteStart starts (packet bs room) a = starts
-noteStart starts (cancel i) a = starts
-noteStart starts (report i) a = starts
+noteStart starts c a = onPost starts (λ r. onPosted starts (λ i. set starts i (r .start)) a) c

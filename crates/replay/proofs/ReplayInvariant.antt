@@ -11,7 +11,7 @@ use Rattle.laws.specs.Parts.{storeAt}
 use Rattle.peer.specs.declared.types.Answer.{Answer}
 use Rattle.peer.specs.declared.types.Call.{Call}
 use Rattle.peer.specs.declared.types.Request.{Request}
-use Rattle.lending.specs.Acts.{Inside}
+use Rattle.peer.specs.LentCalls.{LiesWithin}
 use Rattle.engine.specs.Steps.{World}
 use Rattle.trace.specs.Entries.{entryAt}
 use Rattle.trace.specs.declared.types.FoundEntry.{FoundEntry}
@@ -44,7 +44,7 @@ replay-start s reply w text from at budget h =
     }
 
 -- a packet of the trace and the whole reply buffer lie in what is lent
-inside : (n room : ℕ) (c : Call) → PacketInside n c → Inside n room (withBuffer room c)
+inside : (n room : ℕ) (c : Call) → PacketInside n c → LiesWithin n room (withBuffer room c)
 inside n room (Call.Post receive) h = tt
 inside n room (Call.Packet sent reply) h = (h, omega arith)
 inside n room (Call.Cancel slot) h = tt
@@ -72,7 +72,7 @@ module _ {s buffer : List ℕ} {budget : ℕ} {all : RunLeaves} {last : Ending} 
     replay-bad f = stops (Ending.Bad place) (rw more (decode-bad (budget - (taken + 1)) s buffer place l f))
 
     module _ (q : Request) (next : ℕ) (f : entryAt s place ≡ FoundEntry.Entry q next) where
-      pub replay-inside : Inside (length s) (length reply) (withBuffer (length reply) (q .call))
+      pub replay-inside : LiesWithin (length s) (length reply) (withBuffer (length reply) (q .call))
       replay-inside = inside (length s) (length reply) (q .call) (entry-inside s place q next f)
 
       -- the entry is the next call of the run

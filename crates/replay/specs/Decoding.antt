@@ -4,6 +4,7 @@ use mathlib.Core.List.{List, [], _∷_}
 use lib.ListN.{length}
 use lib.Dec.{leb}
 use Rattle.laws.specs.Choose.{pick}
+use Rattle.peer.specs.LentCalls.{onPacketAt}
 use Rattle.peer.specs.declared.types.Call.{Call}
 use Rattle.peer.specs.declared.types.Request.{Request}
 use Rattle.trace.specs.declared.types.FoundEntry.{FoundEntry}
@@ -12,10 +13,7 @@ use Rattle.replay.specs.declared.types.Ending.{Ending}
 
 -- the whole reply buffer, of so many bytes, is lent to each packet
 abbrev pub withBuffer : ℕ → Call → Call
-withBuffer room (Call.Post receive) = Call.Post receive
-withBuffer room (Call.Packet sent reply) = Call.Packet sent (record { at = 0; size = room })
-withBuffer room (Call.Cancel slot) = Call.Cancel slot
-withBuffer room (Call.Report slot) = Call.Report slot
+withBuffer room c = onPacketAt c (λ sent reply. Call.Packet sent (record { at = 0; size = room })) c
 
 -- an entry as a request
 abbrev pub lentBuffer : ℕ → Request → Request

@@ -6,6 +6,7 @@ use lib.ListN.{length}
 use mathlib.Core.List.{List}
 use mathlib.Core.Path.{_≡_}
 use Rattle.laws.proofs.Choosing.{branch, pick-either}
+use Rattle.peer.specs.LentCalls.{onPacketAt}
 use Rattle.peer.specs.declared.types.Call.{Call}
 use Rattle.peer.specs.declared.types.Request.{Request}
 use Rattle.trace.specs.Entries.{cancelAt, entryAt, onNumber, onPair, packetAt, pairAt, postAt, postOf, receiveAt}
@@ -18,10 +19,7 @@ use Rattle.trace.specs.declared.types.Pair.{Pair}
 
 -- a packet's bytes stand within a trace of n
 abbrev pub PacketInside : ℕ → Call → Type 0
-PacketInside n (Call.Post receive) = Unit {0}
-PacketInside n (Call.Packet sent reply) = sent .at + sent .size ≤ n
-PacketInside n (Call.Cancel slot) = Unit {0}
-PacketInside n (Call.Report slot) = Unit {0}
+PacketInside n c = onPacketAt (Unit {0}) (λ sent reply. sent .at + sent .size ≤ n) c
 
 abbrev Holds : ℕ → FoundEntry → Type 0
 Holds n FoundEntry.Bad = Unit {0}

@@ -5,14 +5,13 @@ use mathlib.Core.Path.{_≡_}
 use mathlib.Core.List.{List, [], _∷_, _++_, map}
 use mathlib.Core.Bool.{true, false}
 use lib.ListN.{length, replicate}
-use Rattle.wire.specs.LittleEndian.{leBytes}
+use Rattle.wire.specs.LittleEndian.{leAt, leBytes, leOf}
 use Rattle.peer.specs.Says.{Saying, say, refused, posted, stored, granted, done, truncated}
-use Rattle.engine.specs.SetUp.{peerAt}
-use Rattle.lending.specs.Acts.{Act, post, packet}
-use Rattle.guarantees.specs.Runs.{Request, Seen, freshWorld, worldAfter, observe, noStarts}
+use Rattle.engine.specs.SetUp.{allPeersFit, engineFits, lentFits, numbersFit, peerAt, setUp}
+use Rattle.peer.specs.Calls.{LentCall, cancelAt, cancelEffect, countOlder, countPosted, packet, packetEffect, peerStep, placed, placedIn, post, postEffect, readEffect, renumbered, reportAt, reportEffect, someInTheWay}
+use Rattle.guarantees.specs.Runs.{Request, Seen, callsOf, freshWorld, noStarts, observe, turnOf, worldAfter}
 use Rattle.laws.specs.Choose.{pick}
 use Rattle.laws.specs.Parts.{part, storeAt}
-use Rattle.wire.specs.LittleEndian.{leOf, leAt}
 use Rattle.protocol.specs.Cts.{ctsBytes}
 use Rattle.protocol.specs.Flags.{hasFlag, flagsFit}
 use Rattle.protocol.specs.Arrays.{arrayLength, countOf}
@@ -26,15 +25,12 @@ use Rattle.protocol.specs.Sections.{arraySpan, rawSpan, beginOf, connidAt, data
 use Rattle.protocol.specs.Types.{rowIn, rowOf, admit}
 use Rattle.protocol.specs.Writing.{baseBytes, mandatoryBytes, packetBytes}
 use Rattle.bitmap.specs.Map.{bit, bitAt, setBit, clearBit, marked, cleared, touched, countSet, firstClear}
-use Rattle.peer.specs.Calls.{someInTheWay, countPosted, countOlder, renumbered, placed, placedIn, postEffect, readEffect, packetEffect, cancelAt, cancelEffect, reportAt, reportEffect, peerStep}
 use Rattle.peer.specs.Effects.{progressOf, grantOf, settledAs, accept, begun, truncatedAt, carry}
 use Rattle.peer.specs.Incomings.{incomingOf}
 use Rattle.peer.specs.Judging.{judgeMore, judgeAgain, judgeData, judgeFit, judgeNew, judgeFound, judge}
 use Rattle.peer.specs.Matching.{openHere, findOpen, sameOutside, fits, older, olderHere, oldest, vacancy, ahead, sameMedium, sameMessage}
 use Rattle.peer.specs.State.{freshPeer, overlap, inTheWay, phaseFits, clash, allFit, noneClash, pairsApart, peerFits}
-use Rattle.engine.specs.SetUp.{setUp, numbersFit, lentFits, allPeersFit, engineFits}
 use Rattle.engine.specs.Steps.{World, putBack, peerTurn, callTurn}
-use Rattle.guarantees.specs.Runs.{turnOf, callsOf}
 
 -- ---- packets
 
@@ -60,18 +56,18 @@ ctsData offset body = 4 ∷ 4 ∷ 0 ∷ 0 ∷ (leBytes 4 0 ++ leBytes 8 (length 
 
 -- ---- calls
 
-abbrev pub receive : ℕ → Act
+abbrev pub receive : ℕ → LentCall
 receive capacity = post (record { tagged = false; tag = 0; ignore = 0; start = 10; capacity = capacity })
 
-abbrev pub receiveTagged : ℕ → ℕ → Act
+abbrev pub receiveTagged : ℕ → ℕ → LentCall
 receiveTagged tag ignore = post (record { tagged = true; tag = tag; ignore = ignore; start = 0; capacity = 0 })
 
 -- with a reply buffer of 24 bytes
-abbrev pub give : List ℕ → Act
+abbrev pub give : List ℕ → LentCall
 give bs = packet bs (replicate 24 255)
 
-abbrev pub asPeer : Act → Request
-asPeer a = record { peer = 1; act = a }
+abbrev pub asPeer : LentCall → Request
+asPeer a = record { peer = 1; call = a }
 
 -- ---- the table
 
@@ -98,11 +94,11 @@ grants n =
 
 -- the calls, what each yields, and the next id after them
 pub record Case : Type 0 where
-  pub calls : List Act
+  pub calls : List LentCall
   pub yields : List Yield
   pub next : ℕ
 
-abbrev pub case : List Act → List Yield → ℕ → Case
+abbrev pub case : List LentCall → List Yield → ℕ → Case
 case calls yields next = record { calls = calls; yields = yields; next = next }
 
 abbrev abc : List ℕ
@@ -156,7 +152,7 @@ cases =
 abbrev yieldOf : Seen → Yield
 yieldOf s = record { answer = s .says; reply = s .reply; bytes = s .bytes }
 
-unfoldable pub run : List Act → Case
+unfoldable pub run : List LentCall → Case
 unfolding pick part storeAt leBytes leOf leAt ctsBytes hasFlag flagsFit flagged flagsOf sectionsOf layout fieldBytes numberAt fieldsIn
     lengthsFit rawAddressBytes cqDataBytes connidBytes connidOrZero cqDataIn connidIn headerIn packetIn readLengths readSections readFlags
     readTyped readOf arrayLength countOf countIn numberThere arraySpan rawSpan beginOf connidAt dataAt sectionsIn extentOf rowIn rowOf admit
