@@ -4,7 +4,8 @@ use lib.ListN.{length}
 use mathlib.Core.List.{List, [], _∷_, _++_}
 use mathlib.Core.Path.{_≡_, refl, sym, ap, _∙_, subst, subst₂}
 use Rattle.guarantees.specs.Delivery.{AllDelivered, Delivered, DeliveredAll, Delivery, SeenByHistory, answersIn, demanded, plainRun}
-use Rattle.guarantees.specs.Runs.{callsOf}
+use Rattle.guarantees.specs.Runs.{alone, callsOf}
+use Rattle.guarantees.specs.Receiving.{receiving}
 use Rattle.peer.specs.Calls.{Call}
 use Rattle.peer.specs.Claims.{BytesBySegments, CountsUp, Distinct, DoneWhenCovered, GrantsBounded, InOrder, MatchedByCount, MatchedInOrder, Once, TruncateClaim, TruncatedAboveCapacity, answersOf, history, idsOf, isDone, isMatch, plainAfter, receivesOf, takes}
 use Rattle.peer.specs.Expected.{enter, expected, targetOfCall}
@@ -62,7 +63,7 @@ module _ (area limit : ℕ) (low : 64 ≤ limit) where
 
   all-delivered : (cs before : List Call)
       → AllDelivered area limit (history area limit before) (originsOf area limit before) cs (plainRun area limit (history area limit before) cs)
-  unfolding AllDelivered plainRun
+  unfolding AllDelivered alone
   all-delivered [] before = tt
   all-delivered (c ∷ cs) before = (
     delivered before c,
@@ -72,7 +73,7 @@ module _ (area limit : ℕ) (low : 64 ≤ limit) where
 
 -- the answers seen are those that 01 demands
 answers-seen : (area limit : ℕ) (l : Plain) (cs : List Call) → answersIn (plainRun area limit l cs) ≡ answersOf area limit l cs
-unfolding plainRun answersOf
+unfolding alone answersOf
 answers-seen area limit l [] = refl
 answers-seen area limit l (c ∷ cs) = ap (λ (rest : List Answer). expected area limit l c ∷ rest) (answers-seen area limit _ cs)
 
@@ -90,5 +91,5 @@ delivered-all area limit calls low =
 pub delivery : Delivery
 unfolding Delivery SeenByHistory
 delivery n area limit p arena map ready h calls =
-    subst (DeliveredAll area limit (callsOf p calls)) (sym (seen-by-history n area limit p arena map ready h calls))
-    (delivered-all area limit (callsOf p calls) (sized n area limit (ready-fits n area limit (length arena) map ready .0) .limitLow))
+    subst (DeliveredAll area limit (callsOf receiving p calls)) (sym (seen-by-history n area limit p arena map ready h calls))
+    (delivered-all area limit (callsOf receiving p calls) (sized n area limit (ready-fits n area limit (length arena) map ready .0) .limitLow))

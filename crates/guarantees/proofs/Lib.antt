@@ -1,3 +1,4 @@
+pub mod ByHistory
 pub mod SetUps
 pub mod Refused
 pub mod Tracking

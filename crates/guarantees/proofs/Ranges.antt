@@ -8,7 +8,7 @@ use native.Mathlib.Decide.{ℕ-discrete}
 use Rattle.engine.specs.Steps.{World}
 use Rattle.guarantees.specs.Delivery.{AllWrite, OwnRange, Writes}
 use Rattle.peer.specs.Calls.{Call, callOf}
-use Rattle.guarantees.specs.Runs.{Request, Seen, freshWorld, noStarts, turnOf}
+use Rattle.guarantees.specs.Receiving.{Request, Seen, freshWorld, noStarts, turnOf}
 use Rattle.laws.specs.Choose.{pick}
 use Rattle.peer.specs.Expected.{enter, targetOfCall}
 use Rattle.peer.specs.Origins.{Origin, noOrigins, noteOrigin}

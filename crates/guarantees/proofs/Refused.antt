@@ -18,7 +18,8 @@ use Rattle.engine.specs.declared.types.Engine.{Engine}
 use Rattle.guarantees.specs.Refusals.{NeverBadState, RefusedLeavesAll, RefusedSetUp, listFor}
 use Rattle.peer.specs.Calls.{Call, LentCall, callOf, cancel, packet, post, report}
 use Rattle.peer.specs.LentCalls.{bufferOf}
-use Rattle.guarantees.specs.Runs.{freshWorld, turnOf, worldAfter}
+use Rattle.guarantees.specs.Runs.{worldAfter}
+use Rattle.guarantees.specs.Receiving.{freshWorld, receiving, turnOf}
 use Rattle.laws.specs.Parts.{storeAt}
 use Rattle.protocol.specs.Checks.{refused}
 use Rattle.protocol.specs.declared.types.Refusal.{Refusal}
@@ -118,7 +119,7 @@ never-bad-state n area limit arena map ready before q k e = (
 )
   where
     w : World
-    w = worldAfter (freshWorld n area limit arena map) before
+    w = worldAfter receiving (freshWorld n area limit arena map) before
 
     refusal : (k .number ≡ 4) ⊎ (among (refusalsOf (callOf (q .call))) (k .number) ≡ true)
     refusal = good-refusal w (good-after (freshWorld n area limit arena map) before (fresh-good n area limit arena map ready)) (q .peer) (q .call) k e

@@ -10,7 +10,7 @@ use Rattle.engine.specs.Steps.{Turn, World, callTurn, peerTurn, putBack, refuse
 use Rattle.guarantees.specs.Replies.{ReplyUntouched, RestUntouched}
 use Rattle.peer.specs.Calls.{Call, callOf, peerStep}
 use Rattle.peer.specs.LentCalls.{bufferOf}
-use Rattle.guarantees.specs.Runs.{Request, turnOf}
+use Rattle.guarantees.specs.Receiving.{Request, turnOf}
 use Rattle.laws.specs.Parts.{storeAt}
 use Rattle.protocol.specs.declared.types.Refusal.{Refusal}
 use Rattle.laws.proofs.Choosing.{pick-either}

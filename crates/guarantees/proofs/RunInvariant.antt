@@ -26,7 +26,8 @@ use Rattle.engine.specs.Steps.{Turn, World, putBack, refusedTurn, withPeer, wor
 use Rattle.engine.specs.declared.types.Gate.{Gate}
 use Rattle.engine.proofs.WorldTurns.{turn-own}
 use Rattle.guarantees.specs.Outputs.{RunLeaves, outputOf, repliesAfter, requestsOf}
-use Rattle.guarantees.specs.Runs.{requestOf, turnOf, worldAfter}
+use Rattle.guarantees.specs.Runs.{worldAfter}
+use Rattle.guarantees.specs.Receiving.{receiving, requestOf, turnOf}
 use Rattle.guarantees.proofs.CheckedOnce.{CheckedOnce, once-good, once-in-peers, once-passed, once-shut, once-turn}
 
 -- of a reply buffer only the length counts
@@ -45,7 +46,7 @@ module _ (bytes buffers : List ℕ) (form : Answer → List ℕ) where
   abbrev pub leavesWith : ℕ → World → List ℕ → List ℕ → ℕ → List Request → RunLeaves
   leavesWith taken w replies output at qs =
       record {
-        world = worldAfter w (requestsOf bytes buffers qs);
+        world = worldAfter receiving w (requestsOf bytes buffers qs);
         taken = taken + length qs;
         replies = repliesAfter bytes buffers w replies qs;
         output = storeAt output at (outputOf bytes buffers form w qs);

@@ -11,7 +11,7 @@ use Rattle.engine.specs.Steps.{Turn, World, callTurn, putBack, wordsOf}
 use Rattle.guarantees.specs.Delivery.{Writes, demanded}
 use Rattle.peer.specs.Calls.{LentCall, callOf, cancel, packet, peerStep, post, report}
 use Rattle.peer.specs.LentCalls.{bufferOf}
-use Rattle.guarantees.specs.Runs.{Request, Seen, bytesSeen, replySeen, seenAt, turnOf}
+use Rattle.guarantees.specs.Receiving.{Request, Seen, bytesSeen, replySeen, seenAt, turnOf}
 use Rattle.laws.specs.Parts.{part, storeAt}
 use Rattle.peer.specs.Answers.{onDone}
 use Rattle.peer.specs.Claims.{WriteClaim}
@@ -146,7 +146,7 @@ module _ (p : ℕ) (w : World) (starts : List ℕ) (l : Plain) (t : Tracks p w s
             (t .good .slots p (t .below)) (t .from));
       }
 
-  seen : seenAt p w starts own ≡ demanded (w .engine .area) (w .engine .limit) l (callOf a)
+  seen : seenAt w starts own ≡ demanded (w .engine .area) (w .engine .limit) l (callOf a)
   seen =
       ap (λ (u : Turn). record { answer = u .answer; says = said (u .answer); reply = replySeen (storeAt (bufferOf a) 0 (u .reply)) (u .answer); bytes = bytesSeen (u .world .arena) (p * w .engine .area) starts (u .answer) }) turn
       ∙ (unfold putBack in (three refl reply bytes ∙ ap (λ (x : Answer). record { answer = x; says = said x; reply = expectedReply target x; bytes = expectedBytes gs x }) (step .answer)))
@@ -207,8 +207,8 @@ module _ (p : ℕ) (w : World) (starts : List ℕ) (l : Plain) (t : Tracks p w s
   is : q .peer ≡ p → record { peer = p; call = q .call } ≡ q
   is e = ap (λ (n : ℕ). record { peer = n; call = q .call }) (sym e)
 
-  pub own-seen : q .peer ≡ p → seenAt p w starts q ≡ demanded (w .engine .area) (w .engine .limit) l (callOf (q .call))
-  own-seen e = subst (λ (r : Request). seenAt p w starts r ≡ demanded (w .engine .area) (w .engine .limit) l (callOf (q .call))) (is e) (seen p w starts l t (q .call))
+  pub own-seen : q .peer ≡ p → seenAt w starts q ≡ demanded (w .engine .area) (w .engine .limit) l (callOf (q .call))
+  own-seen e = subst (λ (r : Request). seenAt w starts r ≡ demanded (w .engine .area) (w .engine .limit) l (callOf (q .call))) (is e) (seen p w starts l t (q .call))
 
   pub own-stays : q .peer ≡ p → Stays p w (turnOf w q .world) (noteStart starts (callOf (q .call)) (turnOf w q .answer))
       (enter (w .engine .limit) l (callOf (q .call)) (expected (w .engine .area) (w .engine .limit) l (callOf (q .call))))

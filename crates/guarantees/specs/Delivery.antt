@@ -9,7 +9,8 @@ use Rattle.engine.specs.SetUp.{setUp}
 use Rattle.engine.specs.Steps.{World}
 use Rattle.engine.specs.declared.types.Ready.{Ready}
 use Rattle.peer.specs.Calls.{Call, callOf, packet}
-use Rattle.guarantees.specs.Runs.{Request, Seen, callsOf, freshWorld, noStarts, observe, turnOf}
+use Rattle.guarantees.specs.Runs.{alone, callsOf, observe}
+use Rattle.guarantees.specs.Receiving.{Request, Seen, freshWorld, noStarts, receiving, turnOf}
 use Rattle.laws.specs.Choose.{pick}
 use Rattle.laws.specs.Parts.{storeAt}
 use Rattle.protocol.specs.Reading.{readOf}
@@ -34,9 +35,8 @@ demanded area limit l c =
     }
 
 -- and of a list of them
-unfoldable pub plainRun : ℕ → ℕ → Plain → List Call → List Seen
-plainRun area limit l [] = []
-plainRun area limit l (c ∷ cs) = demanded area limit l c ∷ plainRun area limit (plainStep area limit l c .after) cs
+abbrev pub plainRun : ℕ → ℕ → Plain → List Call → List Seen
+plainRun area limit l cs = alone (demanded area limit) (λ (l : Plain) (c : Call). plainStep area limit l c .after) l cs
 
 -- in every run all that a peer sees (answers with every number, reply packets, and of done messages the bytes, read off the arena) is what
 -- 01 demands after the history of that peer's calls alone
@@ -46,7 +46,7 @@ SeenByHistory =
     → setUp n area limit (length arena) map .started .answer ≡ Ready.Ready
     → p < n
     → (calls : List Request)
-    → observe p (freshWorld n area limit arena map) noStarts calls ≡ plainRun area limit freshPlain (callsOf p calls)
+    → observe receiving p (freshWorld n area limit arena map) noStarts calls ≡ plainRun area limit freshPlain (callsOf receiving p calls)
 
 -- ---- each call of a run, by the peer's history before it
 
@@ -101,7 +101,7 @@ Delivery =
     → setUp n area limit (length arena) map .started .answer ≡ Ready.Ready
     → p < n
     → (calls : List Request)
-    → DeliveredAll area limit (callsOf p calls) (observe p (freshWorld n area limit arena map) noStarts calls)
+    → DeliveredAll area limit (callsOf receiving p calls) (observe receiving p (freshWorld n area limit arena map) noStarts calls)
 
 -- ---- what is written
 

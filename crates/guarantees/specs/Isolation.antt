@@ -5,7 +5,8 @@ use mathlib.Core.List.{List}
 use lib.ListN.{length}
 use Rattle.engine.specs.declared.types.Ready.{Ready}
 use Rattle.engine.specs.SetUp.{setUp}
-use Rattle.guarantees.specs.Runs.{Request, freshWorld, observe, callsOf, noStarts}
+use Rattle.guarantees.specs.Runs.{SeesTheSame}
+use Rattle.guarantees.specs.Receiving.{freshWorld, noStarts, receiving}
 
 -- "Take any two lists of calls .. Each list starts from a fresh set-up, with the same numbers in both .. Pick any one peer. Let its calls be
 -- the same in both lists, in the same order; let all other peers' calls, their number and their places, and the bytes first lying in the
@@ -17,6 +18,4 @@ Isolation =
     → setUp n area limit (length arena₁) map₁ .started .answer ≡ Ready.Ready
     → setUp n area limit (length arena₂) map₂ .started .answer ≡ Ready.Ready
     → p < n
-    → (calls₁ calls₂ : List Request)
-    → callsOf p calls₁ ≡ callsOf p calls₂
-    → observe p (freshWorld n area limit arena₁ map₁) noStarts calls₁ ≡ observe p (freshWorld n area limit arena₂ map₂) noStarts calls₂
+    → SeesTheSame receiving p noStarts (freshWorld n area limit arena₁ map₁) (freshWorld n area limit arena₂ map₂)

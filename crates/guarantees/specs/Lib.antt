@@ -1,4 +1,5 @@
 pub mod Runs
+pub mod Receiving
 pub mod Refusals
 pub mod Delivery
 pub mod Isolation

@@ -8,7 +8,8 @@ use Rattle.peer.specs.declared.types.Answer.{Answer}
 use Rattle.peer.specs.declared.types.Request as code
 use Rattle.peer.specs.LentCalls.{replyPlace}
 use Rattle.engine.specs.Steps.{World}
-use Rattle.guarantees.specs.Runs.{Request, requestOf, turnOf, worldAfter}
+use Rattle.guarantees.specs.Runs.{worldAfter}
+use Rattle.guarantees.specs.Receiving.{Request, receiving, requestOf, turnOf}
 
 module _ (bytes replies : List ℕ) where
   abbrev pub requestsOf : List code.Request → List Request
@@ -40,7 +41,7 @@ pub record RunLeaves : Type 0 where
 abbrev pub runLeaves : List ℕ → List ℕ → (Answer → List ℕ) → World → List ℕ → ℕ → List code.Request → RunLeaves
 runLeaves bytes replies form w output at qs =
     record {
-      world = worldAfter w (requestsOf bytes replies qs);
+      world = worldAfter receiving w (requestsOf bytes replies qs);
       taken = length qs;
       replies = repliesAfter bytes replies w replies qs;
       output = storeAt output at (outputOf bytes replies form w qs);

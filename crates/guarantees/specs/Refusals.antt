@@ -15,7 +15,8 @@ use Rattle.engine.specs.SetUp.{setUp}
 use Rattle.engine.specs.Steps.{World}
 use Rattle.peer.specs.Calls.{LentCall, callOf}
 use Rattle.peer.specs.LentCalls.{bufferOf}
-use Rattle.guarantees.specs.Runs.{Request, bufferAfter, turnOf, worldAfter, freshWorld}
+use Rattle.guarantees.specs.Runs.{worldAfter}
+use Rattle.guarantees.specs.Receiving.{Request, bufferAfter, freshWorld, receiving, turnOf}
 
 -- the refusals of each call, in their order: 2, 3 and 4, then the peer's own
 abbrev pub listFor : LentCall → List ℕ
@@ -43,5 +44,5 @@ NeverBadState =
     (n area limit : ℕ) (arena map : List ℕ)
     → setUp n area limit (length arena) map .started .answer ≡ Ready.Ready
     → (before : List Request) (q : Request) (k : Refusal)
-    → turnOf (worldAfter (freshWorld n area limit arena map) before) q .answer ≡ Answer.Refused k
+    → turnOf (worldAfter receiving (freshWorld n area limit arena map) before) q .answer ≡ Answer.Refused k
     → (k .number ≡ 2 → ⊥) × (k .number ≡ 3 → ⊥)

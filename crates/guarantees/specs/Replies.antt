@@ -7,7 +7,7 @@ use mathlib.Core.Bool.{true, false}
 use mathlib.Core.Path.{_≡_}
 use Rattle.engine.specs.Steps.{World}
 use Rattle.peer.specs.LentCalls.{bufferOf}
-use Rattle.guarantees.specs.Runs.{Request, bufferAfter, turnOf}
+use Rattle.guarantees.specs.Receiving.{Request, bufferAfter, turnOf}
 use Rattle.peer.specs.Claims.{isGrant}
 
 -- "no other answer touches the reply buffer"

@@ -1,88 +1,58 @@
--- Runs, and what one peer sees of one (01, "The two runs of demand 3").
-use Prim.Native.Nat.{ℕ, _+_, _*_}
+-- Runs, and what one peer sees of one (01, "The two runs of demand 3"), over any calls that peers make: specs/Receiving.antt has the engine's.
+use Prim.Native.Nat.{ℕ}
 use mathlib.Core.List.{List, [], _∷_}
-use lib.ListN.{length, getD, take, replicate}
+use mathlib.Core.Path.{_≡_}
 use lib.Dec.{eqb}
 use Rattle.laws.specs.Choose.{pick}
-use Rattle.laws.specs.Parts.{part, storeAt}
-use Rattle.peer.specs.declared.types.Answer.{Answer}
-use Rattle.peer.specs.Answers.{onDone, onGranted}
-use Rattle.peer.specs.declared.types.Request as code
-use Rattle.peer.specs.Calls.{Call, LentCall, callOf}
-use Rattle.peer.specs.Says.{Saying, said}
-use Rattle.peer.specs.Starts.{noteStart}
-use Rattle.peer.specs.State.{slotCount}
-use Rattle.peer.specs.LentCalls.{lentCallOf, bufferOf}
-use Rattle.engine.specs.Leaves.{world}
-use Rattle.engine.specs.SetUp.{setUp}
-use Rattle.engine.specs.Steps.{World, Turn, callTurn}
 
--- a call with what it lends, and its peer's number
-pub record Request : Type 0 where
+-- what a run is made of
+pub record Calling : Type 1 where
+  -- what is handed from call to call
+  pub World : Type 0
+  -- a call with what it lends, and as two runs are compared: its "kind, numbers, bytes lent to be read and lengths of buffers lent to be written"
+  pub Lent : Type 0
+  pub Compared : Type 0
+  pub compared : Lent → Compared
+  -- what a call of a peer leaves
+  pub after : World → ℕ → Lent → World
+  -- what the peer keeps in mind of its earlier calls, by which it reads what this one left
+  pub Noted : Type 0
+  pub noting : World → ℕ → Noted → Lent → Noted
+  -- what it sees of the call
+  pub Sight : Type 0
+  pub sight : World → ℕ → Noted → Lent → Sight
+
+-- a call with its peer's number
+pub record RequestWith (Lent : Type 0) : Type 0 where
   pub peer : ℕ
-  pub call : LentCall
-
--- a request of the code, whose packet lies in `bytes` and whose reply buffer in `replies`
-abbrev pub requestOf : List ℕ → List ℕ → code.Request → Request
-requestOf bytes replies q = record { peer = q .peer; call = lentCallOf bytes replies (q .call) }
-
--- ---- a run
-
--- "The first call gets the fresh state, the cleared map and the arena": what the set-up returned and left
-unfoldable pub freshWorld : ℕ → ℕ → ℕ → List ℕ → List ℕ → World
-freshWorld n area limit arena map =
-    world (setUp n area limit (length arena) map .started .engine) arena (setUp n area limit (length arena) map .map)
-
-unfoldable pub turnOf : World → Request → Turn
-turnOf w q = callTurn w (q .peer) (callOf (q .call))
-
--- the reply buffer as the call leaves it
-abbrev pub bufferAfter : World → Request → List ℕ
-bufferAfter w q = storeAt (bufferOf (q .call)) 0 (turnOf w q .reply)
+  pub call : Lent
 
 -- "each later one gets state, map and arena as the call before returned or left them"
-unfoldable pub worldAfter : World → List Request → World
-worldAfter w [] = w
-worldAfter w (q ∷ qs) = worldAfter (turnOf w q .world) qs
+unfoldable pub worldAfter : (s : Calling) → s .World → List (RequestWith (s .Lent)) → s .World
+worldAfter s w [] = w
+worldAfter s w (q ∷ qs) = worldAfter s (s .after w (q .peer) (q .call)) qs
 
--- ---- what peer p sees
-
--- what one call yields: the answer, and the numbers that it says in 01's words; "the first 24 reply bytes if granted, else none"; and of a
--- done message its bytes
-pub record Seen : Type 0 where
-  pub answer : Answer
-  pub says : Saying
-  pub reply : List ℕ
-  pub bytes : List ℕ
-
-abbrev pub replySeen : List ℕ → Answer → List ℕ
-replySeen buffer a = onGranted [] (λ n. take 24 buffer) a
-
--- "the arena from p×A + start on, for the message's length", where the peer's area begins at base
-abbrev pub bytesSeen : List ℕ → ℕ → List ℕ → Answer → List ℕ
-bytesSeen arena base starts a = onDone [] (λ i id n cq. part arena (base + getD starts i 0) n) a
-
-abbrev pub seenAt : ℕ → World → List ℕ → Request → Seen
-seenAt p w starts q =
-    record {
-      answer = turnOf w q .answer;
-      says = said (turnOf w q .answer);
-      reply = replySeen (bufferAfter w q) (turnOf w q .answer);
-      bytes = bytesSeen (turnOf w q .world .arena) (p * w .engine .area) starts (turnOf w q .answer);
-    }
-
--- what peer p sees of its calls in a run from w, with the starts so far
-unfoldable pub observe : ℕ → World → List ℕ → List Request → List Seen
-observe p w starts [] = []
-observe p w starts (q ∷ qs) =
+-- what peer p sees of its calls in a run from w
+unfoldable pub observe : (s : Calling) → ℕ → s .World → s .Noted → List (RequestWith (s .Lent)) → List (s .Sight)
+observe s p w noted [] = []
+observe s p w noted (q ∷ qs) =
     pick (eqb (q .peer) p)
-    (seenAt p w starts q ∷ observe p (turnOf w q .world) (noteStart starts (callOf (q .call)) (turnOf w q .answer)) qs)
-    (observe p (turnOf w q .world) starts qs)
-
-abbrev pub noStarts : List ℕ
-noStarts = replicate slotCount 0
+    (s .sight w (q .peer) noted (q .call) ∷ observe s p (s .after w (q .peer) (q .call)) (s .noting w (q .peer) noted (q .call)) qs)
+    (observe s p (s .after w (q .peer) (q .call)) noted qs)
 
 -- the calls of peer p, in order
-unfoldable pub callsOf : ℕ → List Request → List Call
-callsOf p [] = []
-callsOf p (q ∷ qs) = pick (eqb (q .peer) p) (callOf (q .call) ∷ callsOf p qs) (callsOf p qs)
+unfoldable pub callsOf : (s : Calling) → ℕ → List (RequestWith (s .Lent)) → List (s .Compared)
+callsOf s p [] = []
+callsOf s p (q ∷ qs) = pick (eqb (q .peer) p) (s .compared (q .call) ∷ callsOf s p qs) (callsOf s p qs)
+
+-- what a receiver of one peer's calls alone makes of them, from its history on
+unfoldable pub alone : {H C S : Type 0} → (H → C → S) → (H → C → H) → H → List C → List S
+alone demanded entered l [] = []
+alone demanded entered l (c ∷ cs) = demanded l c ∷ alone demanded entered (entered l c) cs
+
+-- "Let its calls be the same in both lists, in the same order .. Then each of that peer's calls gets the same answer in both runs"
+abbrev pub SeesTheSame : (s : Calling) → ℕ → s .Noted → s .World → s .World → Type 0
+SeesTheSame s p noted w₁ w₂ =
+    (calls₁ calls₂ : List (RequestWith (s .Lent)))
+    → callsOf s p calls₁ ≡ callsOf s p calls₂
+    → observe s p w₁ noted calls₁ ≡ observe s p w₂ noted calls₂

@@ -18,7 +18,8 @@ use Rattle.engine.proofs.Worlds.{Good}
 use Rattle.peer.specs.declared.types.Request as code
 use Rattle.peer.specs.LentCalls.{replyPlace}
 use Rattle.guarantees.specs.Outputs.{outputOf, repliesAfter, requestsOf}
-use Rattle.guarantees.specs.Runs.{Request, freshWorld, requestOf, turnOf, worldAfter}
+use Rattle.guarantees.specs.Runs.{worldAfter}
+use Rattle.guarantees.specs.Receiving.{Request, freshWorld, receiving, requestOf, turnOf}
 use Rattle.guarantees.proofs.SetUps.{fresh-good, good-after}
 use Rattle.state_words.specs.Loading.{stateAfter}
 use Rattle.state_words.specs.RoundTrip.{Held, LoadedAgain}
@@ -33,7 +34,7 @@ use Rattle.packed.proofs.SettingUp.{start-ready, start-refused, start-s
 use Rattle.packed.proofs.EightWords.{length-answer, length-answers}
 
 -- requests one after the other
-after-append : (w : World) (a b : List Request) → worldAfter w (a ++ b) ≡ worldAfter (worldAfter w a) b
+after-append : (w : World) (a b : List Request) → worldAfter receiving w (a ++ b) ≡ worldAfter receiving (worldAfter receiving w a) b
 unfolding worldAfter
 after-append w [] b = refl
 after-append w (q ∷ a) b = after-append (turnOf w q .world) a b
@@ -47,9 +48,9 @@ abbrev keptFrom : World → Batch → Kept
 keptFrom w b =
     record {
       taken = length (callsIn b);
-      state = engineWords (worldAfter w (requestsIn b) .engine);
-      arena = worldAfter w (requestsIn b) .arena;
-      map = worldAfter w (requestsIn b) .map;
+      state = engineWords (worldAfter receiving w (requestsIn b) .engine);
+      arena = worldAfter receiving w (requestsIn b) .arena;
+      map = worldAfter receiving w (requestsIn b) .map;
       replies = repliesAfter (b .bytes) (b .replies) w (b .replies) (callsIn b);
       answers = storeAt (b .answers) 0 (outputOf (b .bytes) (b .replies) answerWords w (callsIn b));
     }
@@ -61,8 +62,8 @@ run-from w b h =
     (ap (λ (s : List ℕ). record {
       taken = length (callsIn b);
       state = s;
-      arena = worldAfter w (requestsIn b) .arena;
-      map = worldAfter w (requestsIn b) .map;
+      arena = worldAfter receiving w (requestsIn b) .arena;
+      map = worldAfter receiving w (requestsIn b) .map;
       replies = repliesAfter (b .bytes) (b .replies) w (b .replies) (callsIn b);
       answers = storeAt (b .answers) 0 (outputOf (b .bytes) (b .replies) answerWords w (callsIn b));
     }) (pick-true _ _ (saved-is-state (w .engine) h)))
@@ -74,11 +75,11 @@ pub record Stands (w : World) : Type 0 where
   pub held : Held (w .engine)
 
 stores : (w : World) (bs : List Batch) → Stands w → AllBytes bs
-    → (storeAfter (storeWith w) bs ≡ storeWith (worldAfter w (requestsInAll bs))) × Stands (worldAfter w (requestsInAll bs))
+    → (storeAfter (storeWith w) bs ≡ storeWith (worldAfter receiving w (requestsInAll bs))) × Stands (worldAfter receiving w (requestsInAll bs))
 unfolding storeAfter requestsInAll worldAfter
 stores w [] s a = (refl, s)
 stores w (b ∷ bs) s (bytes, a) =
-    let w′ = worldAfter w (requestsIn b) in
+    let w′ = worldAfter receiving w (requestsIn b) in
     let s′ : Stands w′ =
     record { good = good-after w (requestsIn b) (s .good); held = batch-held (b .bytes) (b .replies) bytes w (s .good) (s .held) (callsIn b) } in
     let (e, t) = stores w′ bs s′ a in
@@ -93,7 +94,7 @@ part-behind a b at n = ap (take n) (drop-append-add a b at)
 module _ (bytes buffers : List ℕ) where
   answer-at : (w : World) (qs : List code.Request) (j : ℕ) (none : code.Request) → j < length qs
       → part (outputOf bytes buffers answerWords w qs) (8 * j) 8
-      ≡ answerWords (turnOf (worldAfter w (take j (requestsOf bytes buffers qs))) (requestOf bytes buffers (getD qs j none)) .answer)
+      ≡ answerWords (turnOf (worldAfter receiving w (take j (requestsOf bytes buffers qs))) (requestOf bytes buffers (getD qs j none)) .answer)
   unfolding outputOf worldAfter
   answer-at w [] j none l = absurd (omega arith)
   answer-at w (q ∷ qs) zero none l =
@@ -108,7 +109,7 @@ module _ (bytes buffers : List ℕ) where
   reply-next : (w : World) (now : List ℕ) (qs : List code.Request) (j : ℕ) (none : code.Request) → j < length qs
       → repliesAfter bytes buffers w now (take (suc j) qs)
       ≡ storeAt (repliesAfter bytes buffers w now (take j qs)) (replyPlace (getD qs j none .call))
-      (turnOf (worldAfter w (take j (requestsOf bytes buffers qs))) (requestOf bytes buffers (getD qs j none)) .reply)
+      (turnOf (worldAfter receiving w (take j (requestsOf bytes buffers qs))) (requestOf bytes buffers (getD qs j none)) .reply)
   unfolding repliesAfter worldAfter
   reply-next w now [] j none l = absurd (omega arith)
   reply-next w now (q ∷ qs) zero none l = refl
@@ -126,7 +127,7 @@ rest-stays l s = rw (← store-start l s (length s) refl) (drop-append-seam s (d
 
 module _ (w : World) (earlier : List Request) (b : Batch) where
   abbrev before : World
-  before = worldAfter w earlier
+  before = worldAfter receiving w earlier
 
   part-of-run : PartOfRun w earlier b (keptFrom before b)
   unfolding repliesAfter
@@ -200,4 +201,4 @@ runs-are-one-run n area limit arena map state before b z bytes =
     let (e, s) = began n area limit arena map state z in
     let w = freshWorld n area limit arena map in
     let (x, t) = stores w before (stands n area limit arena map state e) bytes in
-    rw (← s, x, run-from (worldAfter w (requestsInAll before)) b (t .held)) (part-of-run w (requestsInAll before) b)
+    rw (← s, x, run-from (worldAfter receiving w (requestsInAll before)) b (t .held)) (part-of-run w (requestsInAll before) b)

@@ -8,7 +8,7 @@ use Rattle.peer.specs.declared.types.Answer.{Answer}
 use Rattle.peer.specs.declared.types.Request.{Request}
 use Rattle.engine.specs.Steps.{World}
 use Rattle.guarantees.specs.Outputs.{outputOf}
-use Rattle.guarantees.specs.Runs.{requestOf, turnOf}
+use Rattle.guarantees.specs.Receiving.{requestOf, turnOf}
 use Rattle.packed.specs.Answers.{answerWords}
 
 pub length-answer : (a : Answer) → length (answerWords a) ≡ 8

@@ -39,7 +39,8 @@ use Rattle.engine.proofs.WorldTurns.{good-called, turn-none, turn-own}
 use Rattle.engine.proofs.Worlds.{Good, sized}
 use Rattle.peer.specs.LentCalls.{lentCallOf}
 use Rattle.guarantees.specs.Outputs.{requestsOf}
-use Rattle.guarantees.specs.Runs.{turnOf, worldAfter}
+use Rattle.guarantees.specs.Runs.{worldAfter}
+use Rattle.guarantees.specs.Receiving.{receiving, turnOf}
 use Rattle.engine.proofs.SentencesHold.{fresh-peer}
 use Rattle.state_words.specs.RoundTrip.{Held, MessageHeld, PeerHeld}
 use Rattle.peer.specs.declared.types.Call as code
@@ -192,7 +193,7 @@ called-held w g h p c b = elim (decLt p (w .engine .n)) as (λ d. Held (callTurn
 
 -- the calls of a batch, whose packets lie in its bytes
 pub batch-held : (bytes replies : List ℕ) → ((i : ℕ) → getD bytes i 0 < 256) → (w : World) → Good w → Held (w .engine) → (qs : List Request)
-    → Held (worldAfter w (requestsOf bytes replies qs) .engine)
+    → Held (worldAfter receiving w (requestsOf bytes replies qs) .engine)
 unfolding worldAfter turnOf
 batch-held bytes replies b w g h [] = h
 batch-held bytes replies b w g h (q ∷ qs) =

@@ -11,7 +11,8 @@ use Rattle.engine.specs.declared.types.Ready.{Ready}
 use Rattle.peer.specs.declared.types.Request as code
 use Rattle.peer.specs.LentCalls.{replyPlace}
 use Rattle.guarantees.specs.Outputs.{requestsOf}
-use Rattle.guarantees.specs.Runs.{Request, freshWorld, requestOf, turnOf, worldAfter}
+use Rattle.guarantees.specs.Runs.{worldAfter}
+use Rattle.guarantees.specs.Receiving.{Request, freshWorld, receiving, requestOf, turnOf}
 use Rattle.state_words.specs.Saving.{engineWords}
 use Rattle.packed.specs.Answers.{answerWords}
 use Rattle.packed.specs.Running.{Kept, budgetOf, decode, runOf}
@@ -63,7 +64,7 @@ AllBytes (b ∷ bs) = ((i : ℕ) → getD (b .bytes) i 0 < 256) × AllBytes bs
 
 -- in the run from w, where the requests `earlier` came before those of the batch b, which left k: the turn of its call j, if it has one
 abbrev pub turnAt : World → List Request → Batch → ℕ → code.Request → Turn
-turnAt w earlier b j none = turnOf (worldAfter w (earlier ++ take j (requestsIn b))) (requestOf (b .bytes) (b .replies) (getD (callsIn b) j none))
+turnAt w earlier b j none = turnOf (worldAfter receiving w (earlier ++ take j (requestsIn b))) (requestOf (b .bytes) (b .replies) (getD (callsIn b) j none))
 
 pub record PartOfRun (w : World) (earlier : List Request) (b : Batch) (k : Kept) : Type 0 where
   pub taken : k .taken ≡ length (callsIn b)
@@ -77,9 +78,9 @@ pub record PartOfRun (w : World) (earlier : List Request) (b : Batch) (k : Kept)
       → repliesAt (suc j) ≡ storeAt (repliesAt j) (replyPlace (getD (callsIn b) j none .call)) (turnAt w earlier b j none .reply)
   pub repliesLast : repliesAt (length (callsIn b)) ≡ k .replies
   -- what is left of arena, map and state
-  pub arena : k .arena ≡ worldAfter w (earlier ++ requestsIn b) .arena
-  pub map : k .map ≡ worldAfter w (earlier ++ requestsIn b) .map
-  pub state : k .state ≡ engineWords (worldAfter w (earlier ++ requestsIn b) .engine)
+  pub arena : k .arena ≡ worldAfter receiving w (earlier ++ requestsIn b) .arena
+  pub map : k .map ≡ worldAfter receiving w (earlier ++ requestsIn b) .map
+  pub state : k .state ≡ engineWords (worldAfter receiving w (earlier ++ requestsIn b) .engine)
 
 -- a set-up that answers 0 is one that was not refused, as the runs of `guarantees` begin
 unfoldable pub StartIsReady : Type 0

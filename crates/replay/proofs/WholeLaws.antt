@@ -23,7 +23,7 @@ use Rattle.engine.proofs.Worlds.{good-fits}
 use Rattle.trace.specs.Entries.{setUpAt}
 use Rattle.trace.specs.declared.types.SetUp.{SetUp}
 use Rattle.guarantees.specs.Outputs.{outputOf}
-use Rattle.guarantees.specs.Runs.{freshWorld}
+use Rattle.guarantees.specs.Receiving.{freshWorld}
 use Rattle.guarantees.proofs.SetUps.{fresh-good}
 use Rattle.replay.specs.Decoding.{Decoded, decode}
 use Rattle.replay.specs.Lines.{answerLine, endingLine, setUpLine}

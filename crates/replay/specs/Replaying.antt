@@ -12,7 +12,8 @@ use Rattle.engine.specs.Steps.{World}
 use Rattle.trace.specs.declared.types.SetUp.{SetUp}
 use Rattle.trace.specs.Entries.{setUpAt}
 use Rattle.guarantees.specs.Outputs.{RunLeaves, outputOf, repliesAfter, requestsOf, runLeaves}
-use Rattle.guarantees.specs.Runs.{freshWorld, worldAfter}
+use Rattle.guarantees.specs.Runs.{worldAfter}
+use Rattle.guarantees.specs.Receiving.{freshWorld, receiving}
 use Rattle.replay.specs.declared.types.Ending.{Ending}
 use Rattle.replay.specs.declared.types.Replayed.{Replayed}
 use Rattle.replay.specs.Lines.{setUpLine, answerLine, endingLine}
@@ -54,8 +55,8 @@ unfoldable pub reported : List ℕ → List ℕ → World → List ℕ → Decod
 reported s reply w text d =
     record {
       replayed = record { taken = length (d .calls); written = length (report s reply w d); ending = d .ending };
-      arena = worldAfter w (requestsOf s reply (d .calls)) .arena;
-      map = worldAfter w (requestsOf s reply (d .calls)) .map;
+      arena = worldAfter receiving w (requestsOf s reply (d .calls)) .arena;
+      map = worldAfter receiving w (requestsOf s reply (d .calls)) .map;
       reply = repliesAfter s reply w reply (d .calls);
       text = storeAt text 0 (report s reply w d);
     }

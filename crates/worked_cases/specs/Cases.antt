@@ -9,7 +9,8 @@ use Rattle.wire.specs.LittleEndian.{leAt, leBytes, leOf}
 use Rattle.peer.specs.Says.{Saying, say, refused, posted, stored, granted, done, truncated}
 use Rattle.engine.specs.SetUp.{allPeersFit, engineFits, lentFits, numbersFit, peerAt, setUp}
 use Rattle.peer.specs.Calls.{LentCall, cancelAt, cancelEffect, countOlder, countPosted, packet, packetEffect, peerStep, placed, placedIn, post, postEffect, readEffect, renumbered, reportAt, reportEffect, someInTheWay}
-use Rattle.guarantees.specs.Runs.{Request, Seen, callsOf, freshWorld, noStarts, observe, turnOf, worldAfter}
+use Rattle.guarantees.specs.Runs.{callsOf, observe, worldAfter}
+use Rattle.guarantees.specs.Receiving.{Request, Seen, freshWorld, noStarts, receiving, turnOf}
 use Rattle.laws.specs.Choose.{pick}
 use Rattle.laws.specs.Parts.{part, storeAt}
 use Rattle.protocol.specs.Cts.{ctsBytes}
@@ -167,8 +168,8 @@ run calls =
     let all : List Request = map asPeer calls in
     record {
       calls = calls;
-      yields = map yieldOf (observe 1 start noStarts all);
-      next = peerAt (worldAfter start all .engine) 1 .next;
+      yields = map yieldOf (observe receiving 1 start noStarts all);
+      next = peerAt (worldAfter receiving start all .engine) 1 .next;
     }
 
 abbrev pub CasesHold : Type 0
