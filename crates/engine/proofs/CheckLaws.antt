@@ -12,7 +12,7 @@ use native.Mathlib.Nat.{mul-le-mul}
 use native.Mathlib.Numerals.{add-one}
 use native.Mathlib.Omega.{arith}
 use Rattle.protocol.specs.Refusals.{badLent, badPeer, badState}
-use Rattle.engine.specs.Gates.{Small, gateOf, throughGate}
+use Rattle.engine.specs.Gates.{SmallArena, gateOf, throughGate}
 use Rattle.lending.specs.Lending.{Owned}
 use Rattle.engine.specs.SetUp.{allPeersFit, engineFits, lentFits, numbersFit, peerCount}
 use Rattle.engine.specs.Steps.{World, callTurn, peerTurn, refusedTurn}
@@ -28,7 +28,7 @@ use Rattle.laws.proofs.Choosing.{and-left, and-right, pick-first}
 
 -- ---- the numbers
 
-pub small : (n area limit : ℕ) → numbersFit n area limit ≡ true → Small n area
+pub small : (n area limit : ℕ) → numbersFit n area limit ≡ true → SmallArena n area
 unfolding numbersFit
 small n area limit e =
     let a = and-right (leb 1 n) _ e in
@@ -39,10 +39,10 @@ small n area limit e =
       short = leb-true area 8192 (and-left _ (eqb (area % 64) 0 && (leb 64 limit && leb limit 8192)) d);
     }
 
-pub arena-small : (n area : ℕ) → Small n area → n * area ≤ 65536
+pub arena-small : (n area : ℕ) → SmallArena n area → n * area ≤ 65536
 arena-small n area s = mul-le-mul (s .few) (s .short)
 
-pub map-small : (n area : ℕ) → Small n area → n * (area / 64) ≤ 1024
+pub map-small : (n area : ℕ) → SmallArena n area → n * (area / 64) ≤ 1024
 map-small n area s =
     let w : area / 64 ≤ 128 = omega (arith, s .short) in
     mul-le-mul (s .few) w
@@ -66,7 +66,7 @@ module _ (area n : ℕ) (ps : List Peer) (i : ℕ) where
 -- the walk has come to peer i with `fits`: the state can be if it `fits` and the peers from i on can be
 pub record Walked (e : Engine) (fits : Bool) (i : ℕ) : Type 0 where
   pub eight : length (e .peers) ≡ peerCount
-  pub small : fits ≡ true → Small (e .n) (e .area)
+  pub small : fits ≡ true → SmallArena (e .n) (e .area)
   pub rest : engineFits e ≡ (fits && allPeersFit (e .area) (drop i (take (e .n) (e .peers))))
 
 module _ {e : Engine} where

@@ -7,7 +7,7 @@ use mathlib.Core.Path.{_≡_, sym, ap, ap₂, _∙_}
 use native.Mathlib.Omega.{arith}
 use Rattle.bitmap.specs.Map.{cleared}
 use Rattle.engine.specs.Gates.{throughGate}
-use Rattle.engine.specs.Leaves.{CallLeaves, leaves}
+use Rattle.engine.specs.Leaves.{CallLeaves, callLeaves}
 use Rattle.engine.specs.SetUp.{peerAt}
 use Rattle.engine.specs.declared.types.Gate.{Gate}
 use Rattle.lending.specs.Lending.{Lent, leavesAt}
@@ -57,7 +57,7 @@ module _ (w : World) {p : ℕ} {g : Gate} (x : Gated (w .engine) (length (w .are
   -- a refused call leaves what it is lent
   pub shut-leaves : {k : Refusal} (c : Call) (reply : List ℕ) → g ≡ Gate.Shut k
       → _≡_ {A = CallLeaves} (record { outcome = record { engine = w .engine; answer = Answer.Refused k }; arena = w .arena; map = w .map; reply = reply })
-      (leaves reply (callTurn w p c))
+      (callLeaves reply (callTurn w p c))
   shut-leaves c reply z = rw (← shut-turn c z) (rw (store-nothing reply 0))
 
   module _ (z : g ≡ Gate.Open) where
@@ -78,12 +78,12 @@ module _ (w : World) {p : ℕ} {g : Gate} (x : Gated (w .engine) (length (w .are
     -- a packet's
     pub packet-call : (d : Peer) (bs reply : List ℕ) (l : Lent)
         → l ≡ leavesAt 0 (w .engine .area) p (w .arena) (w .map) reply (packetEffect (w .engine .limit) (getD (w .engine .peers) p d) (wordsOf w p) bs (length reply))
-        → putIn (w .engine) p l ≡ leaves reply (callTurn w p (packet bs (length reply)))
+        → putIn (w .engine) p l ≡ callLeaves reply (callTurn w p (packet bs (length reply)))
     unfolding peerTurn putBack peerStep throughGate
     packet-call d bs reply l e =
         ap (putIn (w .engine) p)
         (e ∙ ap (λ (y : Peer). leavesAt 0 (w .engine .area) p (w .arena) (w .map) reply (packetEffect (w .engine .limit) y (wordsOf w p) bs (length reply))) (step-of d))
-        ∙ ap (leaves reply) (sym (through w p (packet bs (length reply)) Gate.Open x z))
+        ∙ ap (callLeaves reply) (sym (through w p (packet bs (length reply)) Gate.Open x z))
 
 -- ---- the map, cleared whole
 

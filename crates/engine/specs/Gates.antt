@@ -11,7 +11,7 @@ use Rattle.engine.specs.SetUp.{lentFits, peerCount}
 use Rattle.engine.specs.Steps.{World, Turn, refusedTurn, peerTurn}
 
 -- the number of peers and an area are within the set-up's limits, so that their product is small
-pub record Small (n area : ℕ) : Type 0 where
+pub record SmallArena (n area : ℕ) : Type 0 where
   pub few : n ≤ peerCount
   pub short : area ≤ areaLimit
 

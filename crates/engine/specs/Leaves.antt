@@ -21,8 +21,8 @@ pub record CallLeaves : Type 0 where
   pub reply : List ℕ
 
 -- the reply packet is put at the start of the reply buffer
-abbrev pub leaves : List ℕ → Turn → CallLeaves
-leaves reply t =
+abbrev pub callLeaves : List ℕ → Turn → CallLeaves
+callLeaves reply t =
     record {
       outcome = record { engine = t .world .engine; answer = t .answer };
       arena = t .world .arena;

@@ -9,7 +9,7 @@ use peer::Receive;
 ghost use mathlib.Core.Path.{_≡_};
 ghost use lib.ListN.{length};
 ghost use Rattle.peer.specs.Calls.{post, packet, cancel, report};
-ghost use Rattle.engine.specs.Leaves.{world, silent, leaves};
+ghost use Rattle.engine.specs.Leaves.{world, silent, callLeaves};
 ghost use Rattle.engine.specs.Steps.{callTurn};
 
 // A receive is posted for a peer.
@@ -47,7 +47,7 @@ pub fn packet(
     map: &mut [u64],
     reply: &mut [u8],
 ) -> Outcome
-    ensures { λ r. ⌜ record { outcome = r; arena = now (arena .exit); map = now (map .exit); reply = now (reply .exit) } ≡ leaves (now (reply .entry)) (callTurn (world engine (now (arena .entry)) (now (map .entry))) peer (packet (now (bytes .entry)) (length (now (reply .entry))))) ⌝ }
+    ensures { λ r. ⌜ record { outcome = r; arena = now (arena .exit); map = now (map .exit); reply = now (reply .exit) } ≡ callLeaves (now (reply .entry)) (callTurn (world engine (now (arena .entry)) (now (map .entry))) peer (packet (now (bytes .entry)) (length (now (reply .entry))))) ⌝ }
 {
     let n = engine.n;
     let area = engine.area;

@@ -8,7 +8,7 @@ use protocol::BAD_STATE;
 use protocol::PACKET_LIMIT;
 ghost use mathlib.Core.Path.{_≡_};
 ghost use mathlib.Core.Bool.{true};
-ghost use Rattle.engine.specs.Gates.{Small, gateOf};
+ghost use Rattle.engine.specs.Gates.{SmallArena, gateOf};
 ghost use Rattle.engine.specs.SetUp.{numbersFit, lentFits};
 
 // The limits of the three set-up numbers.
@@ -38,7 +38,7 @@ pub(crate) fn numbers_fit(n: usize, area: usize, limit: usize) -> bool
 
 // Whether arena and map have the lengths that the set-up numbers ask for.
 pub(crate) fn lent_fits(n: usize, area: usize, arena: usize, map: usize) -> bool
-    requires { ⌜ Small n area ⌝ }
+    requires { ⌜ SmallArena n area ⌝ }
     ensures { λ r. ⌜ r ≡ lentFits n area arena map ⌝ }
 {
     if arena != n * area {
@@ -49,7 +49,7 @@ pub(crate) fn lent_fits(n: usize, area: usize, arena: usize, map: usize) -> bool
 
 // The refusals 2, 3 and 4, in this order.
 pub(crate) fn gate(fits: bool, n: usize, area: usize, arena: usize, map: usize, peer: usize) -> Gate
-    requires { ⌜ (fits ≡ true → Small n area) ⌝ }
+    requires { ⌜ (fits ≡ true → SmallArena n area) ⌝ }
     ensures { λ r. ⌜ r ≡ gateOf fits n area arena map peer ⌝ }
 {
     if !fits {

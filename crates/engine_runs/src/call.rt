@@ -1,7 +1,7 @@
 // A line of standard input, as the call that it asks for.
 use crate::drive;
 use crate::line;
-use crate::line::Numbers;
+use crate::line::LineNumbers;
 use crate::print;
 use peer::Receive;
 ghost use Prim.Native.Nat.{_≤_};
@@ -30,7 +30,7 @@ const SHOW: u64 = 0x73686f77;
 const NEVER: usize = 8;
 
 // The lengths of arena, map and reply buffer that a call is lent.
-pub(crate) struct Lent {
+pub(crate) struct LentLengths {
     pub arena: usize,
     pub map: usize,
     pub reply: usize,
@@ -45,7 +45,7 @@ pub(crate) enum Ask {
 }
 
 // What a line asks for.
-pub(crate) enum Call {
+pub(crate) enum Command {
     None,
     Bad,
     SetUp(usize, usize, usize),
@@ -53,14 +53,14 @@ pub(crate) enum Call {
     Ask(usize, Ask),
     // the peer, and how many bytes the packet has
     Packet(usize, usize),
-    Lend(Lent),
+    Lend(LentLengths),
     Limit(usize),
     Show,
 }
 
 // A call, and the bytes of its packet.
 pub(crate) struct Line {
-    pub call: Call,
+    pub call: Command,
     pub bytes: [u8; 128],
 }
 
@@ -77,7 +77,7 @@ fn takes(name: u64) -> usize {
 }
 
 // A post's kind is 0, plain, or 1, tagged.
-fn post(v: [u64; 6]) -> Call {
+fn post(v: [u64; 6]) -> Command {
     let receive = Receive {
         tagged: v[1] == 1,
         tag: v[2],
@@ -86,45 +86,45 @@ fn post(v: [u64; 6]) -> Call {
         capacity: v[5] as usize,
     };
     if v[1] < 2 {
-        Call::Ask(v[0] as usize, Ask::Post(receive))
+        Command::Ask(v[0] as usize, Ask::Post(receive))
     } else {
-        Call::Bad
+        Command::Bad
     }
 }
 
 // No more is lent than there is.
-fn lend(arena: usize, map: usize, reply: usize) -> Call {
+fn lend(arena: usize, map: usize, reply: usize) -> Command {
     if drive::ARENA < arena || drive::MAP < map || drive::REPLY < reply {
-        Call::Bad
+        Command::Bad
     } else {
-        Call::Lend(Lent { arena, map, reply })
+        Command::Lend(LentLengths { arena, map, reply })
     }
 }
 
-fn packet(peer: usize, digits: usize) -> Call {
+fn packet(peer: usize, digits: usize) -> Command {
     if digits % 2 == 0 {
-        Call::Packet(peer, digits / 2)
+        Command::Packet(peer, digits / 2)
     } else {
-        Call::Bad
+        Command::Bad
     }
 }
 
 // A call by its name, its numbers, and the digits of its packet.
-fn call_of(name: u64, numbers: Numbers, digits: usize) -> Call {
+fn call_of(name: u64, numbers: LineNumbers, digits: usize) -> Command {
     let v = numbers.values;
     if numbers.n != takes(name) {
-        return Call::Bad;
+        return Command::Bad;
     }
     let x = v[0] as usize;
     let y = v[1] as usize;
     let z = v[2] as usize;
     match name {
-        SHOW => Call::Show,
-        LIMIT => Call::Limit(x),
+        SHOW => Command::Show,
+        LIMIT => Command::Limit(x),
         PACKET => packet(x, digits),
-        CANCEL => Call::Ask(x, Ask::Cancel(y)),
-        REPORT => Call::Ask(x, Ask::Report(y)),
-        SET_UP => Call::SetUp(x, y, z),
+        CANCEL => Command::Ask(x, Ask::Cancel(y)),
+        REPORT => Command::Ask(x, Ask::Report(y)),
+        SET_UP => Command::SetUp(x, y, z),
         LEND => lend(x, y, z),
         _ => post(v),
     }
@@ -158,7 +158,7 @@ fn named(text: &[u8], name: u64, end: usize) -> Line
 // What a line asks for. Comments and blank lines are passed over, and a title is printed at once.
 pub(crate) fn read(text: &[u8]) -> Line {
     let none = Line {
-        call: Call::None,
+        call: Command::None,
         bytes: [0; 128],
     };
     if text.len() == 0 || text[0] == b'#' {

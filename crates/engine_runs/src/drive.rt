@@ -1,7 +1,7 @@
 // What a run hands from call to call, and the calls of the engine.
 use crate::call::Ask;
-use crate::call::Call;
-use crate::call::Lent;
+use crate::call::Command;
+use crate::call::LentLengths;
 use crate::print;
 use engine::Engine;
 use engine::Outcome;
@@ -25,11 +25,11 @@ pub(crate) struct Run {
     pub engine: Engine,
     pub arena: [u8; 512],
     pub map: [u64; 8],
-    pub lent: Lent,
+    pub lent: LentLengths,
 }
 
-fn whole() -> Lent {
-    Lent {
+fn whole() -> LentLengths {
+    LentLengths {
         arena: ARENA,
         map: MAP,
         reply: REPLY,
@@ -80,7 +80,7 @@ fn answered(
     engine: Engine,
     peer: usize,
     what: Ask,
-    lent: Lent,
+    lent: LentLengths,
     arena: &[u8],
     map: &[u64],
 ) -> Outcome {
@@ -112,7 +112,7 @@ fn received(
     engine: Engine,
     peer: usize,
     packet: &[u8],
-    lent: Lent,
+    lent: LentLengths,
     arena: &mut [u8],
     map: &mut [u64],
     reply: &mut [u8],
@@ -159,28 +159,28 @@ fn packet(run: Run, peer: usize, bytes: &[u8], length: usize) -> Run {
 }
 
 // Does what a line asks for.
-pub(crate) fn turn(mut run: Run, call: Call, bytes: &[u8], line: usize) -> Run {
+pub(crate) fn turn(mut run: Run, call: Command, bytes: &[u8], line: usize) -> Run {
     match call {
-        Call::None => run,
-        Call::Bad => {
+        Command::None => run,
+        Command::Bad => {
             print::bad(line);
             run
         }
-        Call::SetUp(n, area, limit) => set_up(n, area, limit),
-        Call::Lend(lent) => {
+        Command::SetUp(n, area, limit) => set_up(n, area, limit),
+        Command::Lend(lent) => {
             run.lent = lent;
             run
         }
-        Call::Limit(limit) => {
+        Command::Limit(limit) => {
             run.engine.limit = limit;
             run
         }
-        Call::Show => {
+        Command::Show => {
             let arena = run.arena;
             print::arena(&arena);
             run
         }
-        Call::Ask(peer, what) => ask(run, peer, what),
-        Call::Packet(peer, length) => packet(run, peer, bytes, length),
+        Command::Ask(peer, what) => ask(run, peer, what),
+        Command::Packet(peer, length) => packet(run, peer, bytes, length),
     }
 }

@@ -18,7 +18,7 @@ const ROOM: usize = 128;
 // The digits of a packet where something else is among them: an odd count, and more than there is room for.
 const NO_PACKET: usize = 257;
 
-pub(crate) struct Numbers {
+pub(crate) struct LineNumbers {
     pub values: [u64; 6],
     pub n: usize,
 }
@@ -38,7 +38,7 @@ const NO_NUMBER: Number = Number {
 };
 
 // The bytes of a packet, with two digits each.
-pub(crate) struct Packet {
+pub(crate) struct HexPacket {
     pub bytes: [u8; 128],
     pub digits: usize,
 }
@@ -143,7 +143,7 @@ fn read_number(text: &[u8], start: usize, end: usize) -> Number
 }
 
 // The numbers between two places, with a space before each.
-pub(crate) fn read_numbers(text: &[u8], start: usize, end: usize) -> Numbers
+pub(crate) fn read_numbers(text: &[u8], start: usize, end: usize) -> LineNumbers
     requires { ⌜ end ≤ length (now text) ⌝ }
 {
     let mut values = [0u64; 6];
@@ -153,7 +153,7 @@ pub(crate) fn read_numbers(text: &[u8], start: usize, end: usize) -> Numbers
         let stop = find(text, at + 1, b' ');
         let number = read_number(text, at + 1, stop);
         if n == MOST || !number.ends {
-            return Numbers {
+            return LineNumbers {
                 values,
                 n: NO_NUMBERS,
             };
@@ -162,11 +162,11 @@ pub(crate) fn read_numbers(text: &[u8], start: usize, end: usize) -> Numbers
         n += 1;
         at = stop;
     }
-    Numbers { values, n }
+    LineNumbers { values, n }
 }
 
 // A packet with one byte of the text more: half a byte, or a space.
-fn with_half(packet: Packet, byte: u8) -> Packet {
+fn with_half(packet: HexPacket, byte: u8) -> HexPacket {
     let mut bytes = packet.bytes;
     let digits = packet.digits;
     let k = digits / 2;
@@ -175,27 +175,27 @@ fn with_half(packet: Packet, byte: u8) -> Packet {
         return packet;
     }
     if 16 <= digit {
-        return Packet {
+        return HexPacket {
             bytes,
             digits: NO_PACKET,
         };
     }
     if ROOM <= k {
-        return Packet {
+        return HexPacket {
             bytes,
             digits: NO_PACKET,
         };
     }
     bytes[k] = (bytes[k] << 4) | (digit as u8);
-    Packet {
+    HexPacket {
         bytes,
         digits: digits + 1,
     }
 }
 
 // The bytes of a packet from a place on, with spaces between groups of digits.
-pub(crate) fn read_packet(text: &[u8], start: usize) -> Packet {
-    let mut packet = Packet {
+pub(crate) fn read_packet(text: &[u8], start: usize) -> HexPacket {
+    let mut packet = HexPacket {
         bytes: [0; ROOM],
         digits: 0,
     };

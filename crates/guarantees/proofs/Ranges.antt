@@ -8,7 +8,7 @@ use native.Mathlib.Decide.{ℕ-discrete}
 use Rattle.engine.specs.Steps.{World}
 use Rattle.guarantees.specs.Delivery.{AllWrite, OwnRange, Writes}
 use Rattle.peer.specs.Calls.{Call, callOf}
-use Rattle.guarantees.specs.Receiving.{Request, Seen, freshWorld, noStarts, turnOf}
+use Rattle.guarantees.specs.Receiving.{LentRequest, Seen, freshWorld, noStarts, turnOf}
 use Rattle.laws.specs.Choose.{pick}
 use Rattle.peer.specs.Expected.{enter, targetOfCall}
 use Rattle.peer.specs.Origins.{Origin, noOrigins, noteOrigin}
@@ -19,10 +19,10 @@ use Rattle.guarantees.proofs.Tracking.{Tracks, other-stays, own-seen, o
 use Rattle.laws.proofs.Choosing.{pick-false, pick-true}
 use Rattle.peer.proofs.OriginsHold.{Trace, call-traced, fresh-traced}
 
-abbrev Rest : ℕ → List Request → Type 0
+abbrev Rest : ℕ → List LentRequest → Type 0
 Rest p qs = (w : World) (starts : List ℕ) (l : Plain) (gs : List Origin) → Tracks p w starts l → Trace l gs → AllWrite p w l gs qs
 
-written : (p : ℕ) (qs : List Request) → Rest p qs
+written : (p : ℕ) (qs : List LentRequest) → Rest p qs
 unfolding AllWrite
 written p [] w starts l gs t from = tt
 written p (q ∷ qs) w starts l gs t from = go (ℕ-discrete (q .peer) p) (written p qs)

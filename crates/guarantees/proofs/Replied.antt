@@ -10,7 +10,7 @@ use Rattle.engine.specs.Steps.{Turn, World, callTurn, peerTurn, putBack, refuse
 use Rattle.guarantees.specs.Replies.{ReplyUntouched, RestUntouched}
 use Rattle.peer.specs.Calls.{Call, callOf, peerStep}
 use Rattle.peer.specs.LentCalls.{bufferOf}
-use Rattle.guarantees.specs.Receiving.{Request, turnOf}
+use Rattle.guarantees.specs.Receiving.{LentRequest, turnOf}
 use Rattle.laws.specs.Parts.{storeAt}
 use Rattle.protocol.specs.declared.types.Refusal.{Refusal}
 use Rattle.laws.proofs.Choosing.{pick-either}
@@ -28,7 +28,7 @@ called P w p c shut own =
     (pick-either P (ltb p (w .engine .n)) own (shut badPeer)) (shut badLent)) (shut badState)
 
 -- a grant's reply is a CTS of 24 bytes, for which there is room; no other answer comes with a reply
-replies : (w : World) (q : Request) → Replying (length (bufferOf (q .call))) (turnOf w q .reply) (turnOf w q .answer)
+replies : (w : World) (q : LentRequest) → Replying (length (bufferOf (q .call))) (turnOf w q .reply) (turnOf w q .answer)
 unfolding turnOf peerTurn putBack
 replies w q =
     called (λ (t : Turn). Replying (length (bufferOf (q .call))) (t .reply) (t .answer)) w (q .peer) (callOf (q .call)) (λ k. refl)

@@ -8,7 +8,7 @@ use Rattle.engine.specs.SetUp.{engineOf, peerAt, setUp}
 use Rattle.engine.specs.Steps.{World, wordsOf}
 use Rattle.engine.specs.declared.types.Ready.{Ready}
 use Rattle.guarantees.specs.Delivery.{SeenByHistory, demanded}
-use Rattle.guarantees.specs.Receiving.{Request, freshWorld, noStarts, receiving, seenAt, turnOf}
+use Rattle.guarantees.specs.Receiving.{LentRequest, freshWorld, noStarts, receiving, seenAt, turnOf}
 use Rattle.peer.specs.Calls.{Call, LentCall, callOf}
 use Rattle.peer.specs.Expected.{plainStep}
 use Rattle.peer.specs.Plain.{Plain, freshPlain}
@@ -50,7 +50,7 @@ followed p area limit =
           record { tracks = s .tracks; sameArea = s .area ∙ f .sameArea; sameLimit = s .limit ∙ f .sameLimit };
     }
   where
-    asked : LentCall → Request
+    asked : LentCall → LentRequest
     asked c = record { peer = p; call = c }
 
 -- after a set-up that was not refused, every peer is tracked from a fresh history on

@@ -11,7 +11,7 @@ use Rattle.engine.specs.Steps.{World, callTurn}
 use Rattle.engine.specs.declared.types.Ready.{Ready}
 use Rattle.peer.specs.Calls.{callOf}
 use Rattle.guarantees.specs.Runs.{worldAfter}
-use Rattle.guarantees.specs.Receiving.{Request, freshWorld, receiving, turnOf}
+use Rattle.guarantees.specs.Receiving.{LentRequest, freshWorld, receiving, turnOf}
 use Rattle.peer.specs.State.{freeSlot, freshPeer, slotCount}
 use Rattle.peer.specs.declared.types.Peer.{Peer}
 use Rattle.engine.proofs.SentencesHold.{fresh-peer, ready-fits}
@@ -43,7 +43,7 @@ fresh-good n area limit arena map e =
       slots = λ p h. ap (λ (q : Peer). length (q .slots)) (fresh-peer n area limit p) ∙ (unfold freshPeer in length-replicate slotCount freeSlot);
     })
 
-pub good-after : (w : World) (qs : List Request) → Good w → Good (worldAfter receiving w qs)
+pub good-after : (w : World) (qs : List LentRequest) → Good w → Good (worldAfter receiving w qs)
 unfolding worldAfter turnOf
 good-after w [] g = g
 good-after w (q ∷ qs) g = good-after (callTurn w (q .peer) (callOf (q .call)) .world) qs (good-called w g (q .peer) (callOf (q .call)))

@@ -11,7 +11,7 @@ use Rattle.engine.specs.Steps.{Turn, World, callTurn, putBack, wordsOf}
 use Rattle.guarantees.specs.Delivery.{Writes, demanded}
 use Rattle.peer.specs.Calls.{LentCall, callOf, cancel, packet, peerStep, post, report}
 use Rattle.peer.specs.LentCalls.{bufferOf}
-use Rattle.guarantees.specs.Receiving.{Request, Seen, bytesSeen, replySeen, seenAt, turnOf}
+use Rattle.guarantees.specs.Receiving.{LentRequest, Seen, bytesSeen, replySeen, seenAt, turnOf}
 use Rattle.laws.specs.Parts.{part, storeAt}
 use Rattle.peer.specs.Answers.{onDone}
 use Rattle.peer.specs.Claims.{WriteClaim}
@@ -100,7 +100,7 @@ module _ (p : ℕ) (w : World) (starts : List ℕ) (l : Plain) (t : Tracks p w s
   abbrev f : Effect
   f = peerStep (w .engine .area) (w .engine .limit) (peerAt (w .engine) p) (wordsOf w p) (callOf a)
 
-  abbrev own : Request
+  abbrev own : LentRequest
   own = record { peer = p; call = a }
 
   turn : turnOf w own ≡ putBack w p f
@@ -203,22 +203,22 @@ module _ (p : ℕ) (w : World) (starts : List ℕ) (l : Plain) (t : Tracks p w s
           (outcome (w .engine .area) (w .engine .limit) l (callOf a)) (call-claim (w .engine .limit) l gs from (w .engine .area) (callOf a))
           (subst (λ (x : Answer). WriteClaim (w .engine .area) t′ x (f .at) (f .bytes)) (step .answer) (yields .writes))
 
-module _ (p : ℕ) (w : World) (starts : List ℕ) (l : Plain) (t : Tracks p w starts l) (q : Request) where
+module _ (p : ℕ) (w : World) (starts : List ℕ) (l : Plain) (t : Tracks p w starts l) (q : LentRequest) where
   is : q .peer ≡ p → record { peer = p; call = q .call } ≡ q
   is e = ap (λ (n : ℕ). record { peer = n; call = q .call }) (sym e)
 
   pub own-seen : q .peer ≡ p → seenAt w starts q ≡ demanded (w .engine .area) (w .engine .limit) l (callOf (q .call))
-  own-seen e = subst (λ (r : Request). seenAt w starts r ≡ demanded (w .engine .area) (w .engine .limit) l (callOf (q .call))) (is e) (seen p w starts l t (q .call))
+  own-seen e = subst (λ (r : LentRequest). seenAt w starts r ≡ demanded (w .engine .area) (w .engine .limit) l (callOf (q .call))) (is e) (seen p w starts l t (q .call))
 
   pub own-stays : q .peer ≡ p → Stays p w (turnOf w q .world) (noteStart starts (callOf (q .call)) (turnOf w q .answer))
       (enter (w .engine .limit) l (callOf (q .call)) (expected (w .engine .area) (w .engine .limit) l (callOf (q .call))))
   own-stays e =
-      subst (λ (r : Request). Stays p w (turnOf w r .world) (noteStart starts (callOf (q .call)) (turnOf w r .answer))
+      subst (λ (r : LentRequest). Stays p w (turnOf w r .world) (noteStart starts (callOf (q .call)) (turnOf w r .answer))
       (enter (w .engine .limit) l (callOf (q .call)) (expected (w .engine .area) (w .engine .limit) l (callOf (q .call))))) (is e) (stays p w starts l t (q .call))
 
   pub own-writes : q .peer ≡ p → (gs : List Origin) → Trace l gs → Writes p w (turnOf w q .world) l gs (callOf (q .call)) (turnOf w q .answer)
   own-writes e gs from =
-      subst (λ (r : Request). Writes p w (turnOf w r .world) l gs (callOf (q .call)) (turnOf w r .answer)) (is e) (writes p w starts l t (q .call) gs from)
+      subst (λ (r : LentRequest). Writes p w (turnOf w r .world) l gs (callOf (q .call)) (turnOf w r .answer)) (is e) (writes p w starts l t (q .call) gs from)
 
   -- ---- another's call
 

@@ -10,7 +10,7 @@ use Rattle.engine.specs.Steps.{World}
 use Rattle.engine.specs.declared.types.Ready.{Ready}
 use Rattle.peer.specs.Calls.{Call, callOf, packet}
 use Rattle.guarantees.specs.Runs.{alone, callsOf, observe}
-use Rattle.guarantees.specs.Receiving.{Request, Seen, freshWorld, noStarts, receiving, turnOf}
+use Rattle.guarantees.specs.Receiving.{LentRequest, Seen, freshWorld, noStarts, receiving, turnOf}
 use Rattle.laws.specs.Choose.{pick}
 use Rattle.laws.specs.Parts.{storeAt}
 use Rattle.protocol.specs.Reading.{readOf}
@@ -45,7 +45,7 @@ SeenByHistory =
     (n area limit p : ℕ) (arena map : List ℕ)
     → setUp n area limit (length arena) map .started .answer ≡ Ready.Ready
     → p < n
-    → (calls : List Request)
+    → (calls : List LentRequest)
     → observe receiving p (freshWorld n area limit arena map) noStarts calls ≡ plainRun area limit freshPlain (callsOf receiving p calls)
 
 -- ---- each call of a run, by the peer's history before it
@@ -100,7 +100,7 @@ Delivery =
     (n area limit p : ℕ) (arena map : List ℕ)
     → setUp n area limit (length arena) map .started .answer ≡ Ready.Ready
     → p < n
-    → (calls : List Request)
+    → (calls : List LentRequest)
     → DeliveredAll area limit (callsOf receiving p calls) (observe receiving p (freshWorld n area limit arena map) noStarts calls)
 
 -- ---- what is written
@@ -114,7 +114,7 @@ pub record Writes (p : ℕ) (w w′ : World) (l : Plain) (gs : List Origin) (c :
   pub arena : w′ .arena ≡ storeAt (w .arena) (p * w .engine .area + at) bytes
 
 -- at every call of peer p in a run from w
-unfoldable pub AllWrite : ℕ → World → Plain → List Origin → List Request → Type 0
+unfoldable pub AllWrite : ℕ → World → Plain → List Origin → List LentRequest → Type 0
 AllWrite p w l gs [] = Unit {0}
 AllWrite p w l gs (q ∷ qs) =
     (q .peer ≡ p → Writes p w (turnOf w q .world) l gs (callOf (q .call)) (turnOf w q .answer))
@@ -128,5 +128,5 @@ OwnRange =
     (n area limit p : ℕ) (arena map : List ℕ)
     → setUp n area limit (length arena) map .started .answer ≡ Ready.Ready
     → p < n
-    → (calls : List Request)
+    → (calls : List LentRequest)
     → AllWrite p (freshWorld n area limit arena map) freshPlain noOrigins calls

@@ -9,10 +9,10 @@ use Rattle.peer.specs.declared.types.Request as code
 use Rattle.peer.specs.LentCalls.{replyPlace}
 use Rattle.engine.specs.Steps.{World}
 use Rattle.guarantees.specs.Runs.{worldAfter}
-use Rattle.guarantees.specs.Receiving.{Request, receiving, requestOf, turnOf}
+use Rattle.guarantees.specs.Receiving.{LentRequest, receiving, requestOf, turnOf}
 
 module _ (bytes replies : List ℕ) where
-  abbrev pub requestsOf : List code.Request → List Request
+  abbrev pub requestsOf : List code.Request → List LentRequest
   requestsOf [] = []
   requestsOf (q ∷ qs) = requestOf bytes replies q ∷ requestsOf qs
 

@@ -16,11 +16,11 @@ use Rattle.engine.specs.SetUp.{setUp}
 use Rattle.engine.specs.Steps.{World, Turn, callTurn}
 use Rattle.guarantees.specs.Runs.{Calling, RequestWith}
 
-abbrev pub Request : Type 0
-Request = RequestWith LentCall
+abbrev pub LentRequest : Type 0
+LentRequest = RequestWith LentCall
 
 -- a request of the code, whose packet lies in `bytes` and whose reply buffer in `replies`
-abbrev pub requestOf : List ℕ → List ℕ → code.Request → Request
+abbrev pub requestOf : List ℕ → List ℕ → code.Request → LentRequest
 requestOf bytes replies q = record { peer = q .peer; call = lentCallOf bytes replies (q .call) }
 
 -- ---- the world
@@ -30,11 +30,11 @@ unfoldable pub freshWorld : ℕ → ℕ → ℕ → List ℕ → List ℕ → Wo
 freshWorld n area limit arena map =
     world (setUp n area limit (length arena) map .started .engine) arena (setUp n area limit (length arena) map .map)
 
-unfoldable pub turnOf : World → Request → Turn
+unfoldable pub turnOf : World → LentRequest → Turn
 turnOf w q = callTurn w (q .peer) (callOf (q .call))
 
 -- the reply buffer as the call leaves it
-abbrev pub bufferAfter : World → Request → List ℕ
+abbrev pub bufferAfter : World → LentRequest → List ℕ
 bufferAfter w q = storeAt (bufferOf (q .call)) 0 (turnOf w q .reply)
 
 -- ---- what a peer sees
@@ -55,7 +55,7 @@ abbrev pub bytesSeen : List ℕ → ℕ → List ℕ → Answer → List ℕ
 bytesSeen arena base starts a = onDone [] (λ i id n cq. part arena (base + getD starts i 0) n) a
 
 -- with the starts of the peer's receives so far
-abbrev pub seenAt : World → List ℕ → Request → Seen
+abbrev pub seenAt : World → List ℕ → LentRequest → Seen
 seenAt w starts q =
     record {
       answer = turnOf w q .answer;
@@ -67,7 +67,7 @@ seenAt w starts q =
 abbrev pub noStarts : List ℕ
 noStarts = replicate slotCount 0
 
-abbrev asked : ℕ → LentCall → Request
+abbrev asked : ℕ → LentCall → LentRequest
 asked p c = record { peer = p; call = c }
 
 abbrev pub receiving : Calling

@@ -16,7 +16,7 @@ use Rattle.engine.specs.Steps.{World}
 use Rattle.peer.specs.Calls.{LentCall, callOf}
 use Rattle.peer.specs.LentCalls.{bufferOf}
 use Rattle.guarantees.specs.Runs.{worldAfter}
-use Rattle.guarantees.specs.Receiving.{Request, bufferAfter, freshWorld, receiving, turnOf}
+use Rattle.guarantees.specs.Receiving.{LentRequest, bufferAfter, freshWorld, receiving, turnOf}
 
 -- the refusals of each call, in their order: 2, 3 and 4, then the peer's own
 abbrev pub listFor : LentCall → List ℕ
@@ -25,7 +25,7 @@ listFor a = 2 ∷ 3 ∷ 4 ∷ refusalsOf (callOf a)
 -- for every world, also one that no run reaches, and every call
 unfoldable pub RefusedLeavesAll : Type 0
 RefusedLeavesAll =
-    (w : World) (q : Request) (k : Refusal)
+    (w : World) (q : LentRequest) (k : Refusal)
     → turnOf w q .answer ≡ Answer.Refused k
     → (among (listFor (q .call)) (k .number) ≡ true)
     × (turnOf w q .world ≡ w)
@@ -43,6 +43,6 @@ unfoldable pub NeverBadState : Type 0
 NeverBadState =
     (n area limit : ℕ) (arena map : List ℕ)
     → setUp n area limit (length arena) map .started .answer ≡ Ready.Ready
-    → (before : List Request) (q : Request) (k : Refusal)
+    → (before : List LentRequest) (q : LentRequest) (k : Refusal)
     → turnOf (worldAfter receiving (freshWorld n area limit arena map) before) q .answer ≡ Answer.Refused k
     → (k .number ≡ 2 → ⊥) × (k .number ≡ 3 → ⊥)

@@ -9,7 +9,7 @@ use Rattle.laws.specs.Parts.{part}
 use Rattle.laws.proofs.Storing.{length-part, lent-part, put-part, put-store}
 use Rattle.peer.specs.Calls.{packet, packetEffect, peerStep}
 use Rattle.peer.specs.Effects.{Effect}
-use Rattle.receiving.specs.Leaves as own
+use Rattle.receiving.specs.Leaves.{PacketLeaves, packetLeaves}
 use Rattle.peer.specs.State.{peerFits, slotCount}
 use Rattle.peer.specs.declared.types.Peer.{Peer}
 use Rattle.peer.proofs.Kept.{Kept, step-kept}
@@ -35,14 +35,14 @@ module _ (area limit p : ℕ) (q : Peer) (arena map reply bs : List ℕ) (o : Ow
   abbrev effect : Effect
   effect = packetEffect limit q (part map first size) bs (length reply)
 
-  pub packet-put : (l : own.PacketLeaves)
-      → l ≡ own.leaves (take (base + area - base) (drop base arena)) reply (packetEffect limit q (take (first + size - first) (drop first map)) bs (length reply))
+  pub packet-put : (l : PacketLeaves)
+      → l ≡ packetLeaves (take (base + area - base) (drop base arena)) reply (packetEffect limit q (take (first + size - first) (drop first map)) bs (length reply))
       → _≡_ {A = Lent}
       (record { step = l .step; arena = putMid base (base + area - base) arena (l .area); map = putMid first (first + size - first) map (l .words); reply = l .reply })
       (leavesAt 0 area p arena map reply effect)
   packet-put l e =
       let k = packet-kept area limit q (part map first size) bs (length reply) (o .mapped .fits) eight in
       let n : length (effect .words) ≡ size = k .words ∙ length-part map first size (o .mapped .inMap) in
-      let e′ : l ≡ own.leaves (take (base + area - base) (drop base arena)) reply effect =
-      e ∙ ap (λ (ws : List ℕ). own.leaves (take (base + area - base) (drop base arena)) reply (packetEffect limit q ws bs (length reply))) (lent-part map first size) in
+      let e′ : l ≡ packetLeaves (take (base + area - base) (drop base arena)) reply effect =
+      e ∙ ap (λ (ws : List ℕ). packetLeaves (take (base + area - base) (drop base arena)) reply (packetEffect limit q ws bs (length reply))) (lent-part map first size) in
       rw (e′, put-store arena base area (effect .at) (effect .bytes) (o .inArena) (k .inArea), put-part map (effect .words) first size n)

@@ -28,7 +28,7 @@ leavesAt place area p arena map replies f =
     }
 
 -- what its caller has checked: the peer can be, and its words of the map are there
-pub record Mapped (area p map : ℕ) (q : Peer) : Type 0 where
+pub record WordsOwned (area p map : ℕ) (q : Peer) : Type 0 where
   pub fits : peerFits area q ≡ true
   pub whole : area % 64 ≡ 0
   pub short : area ≤ areaLimit
@@ -37,7 +37,7 @@ pub record Mapped (area p map : ℕ) (q : Peer) : Type 0 where
 
 -- and so are its bytes of the arena
 pub record Owned (area limit p arena map : ℕ) (q : Peer) : Type 0 where
-  pub mapped : Mapped area p map q
+  pub mapped : WordsOwned area p map q
   pub low : 64 ≤ limit
   pub high : limit ≤ packetLimit
   pub inArena : p * area + area ≤ arena

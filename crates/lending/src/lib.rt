@@ -13,7 +13,7 @@ ghost use Rattle.peer.specs.Calls.{packetEffect, reportEffect};
 ghost use Rattle.peer.specs.Effects.{quiet};
 ghost use Rattle.laws.specs.Parts.{part};
 ghost use Prim.Native.Nat.{_*_, _/_};
-ghost use Rattle.lending.specs.Lending.{Mapped, Owned, leavesAt};
+ghost use Rattle.lending.specs.Lending.{Owned, WordsOwned, leavesAt};
 
 // A packet of peer p. Only bytes p×A to p×A+A−1 of the arena are lent on, and their words of the map.
 pub fn packet_at(
@@ -46,7 +46,7 @@ pub fn packet_at(
 
 // The missing-byte report of a slot of peer p.
 pub fn report_at(there: Peer, p: usize, slot: usize, area: usize, map: &[u64]) -> Answer
-    requires { ⌜ Mapped area p (length (now map)) there ⌝ }
+    requires { ⌜ WordsOwned area p (length (now map)) there ⌝ }
     ensures { λ r. ⌜ quiet there (part (now (map .entry)) (p * (area / 64)) (area / 64)) r ≡ reportEffect there (part (now (map .entry)) (p * (area / 64)) (area / 64)) slot ⌝ }
 {
     let words = area / 64;

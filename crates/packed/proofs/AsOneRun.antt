@@ -19,7 +19,7 @@ use Rattle.peer.specs.declared.types.Request as code
 use Rattle.peer.specs.LentCalls.{replyPlace}
 use Rattle.guarantees.specs.Outputs.{outputOf, repliesAfter, requestsOf}
 use Rattle.guarantees.specs.Runs.{worldAfter}
-use Rattle.guarantees.specs.Receiving.{Request, freshWorld, receiving, requestOf, turnOf}
+use Rattle.guarantees.specs.Receiving.{LentRequest, freshWorld, receiving, requestOf, turnOf}
 use Rattle.guarantees.proofs.SetUps.{fresh-good, good-after}
 use Rattle.state_words.specs.Loading.{stateAfter}
 use Rattle.state_words.specs.RoundTrip.{Held, LoadedAgain}
@@ -27,14 +27,14 @@ use Rattle.state_words.specs.Saving.{engineWords, stateSize}
 use Rattle.state_words.proofs.RoundTrips.{loaded-again, saved-is-state}
 use Rattle.packed.specs.Answers.{answerWords}
 use Rattle.packed.specs.Running.{Kept, ranFrom, runOf}
-use Rattle.packed.specs.Starting.{Started, startOf}
-use Rattle.packed.specs.Whole.{AllBytes, Batch, PartOfRun, RunsAreOneRun, StartIsReady, Store, callsIn, requestsIn, requestsInAll, runOn, storeAfter}
+use Rattle.packed.specs.Starting.{StartLeaves, startOf}
+use Rattle.packed.specs.Whole.{BatchesOfBytes, Batch, PartOfRun, RunsAreOneRun, StartIsReady, Store, callsIn, requestsIn, requestsInAll, runOn, storeAfter}
 use Rattle.packed.proofs.Holding.{batch-held, fresh-held}
 use Rattle.packed.proofs.SettingUp.{start-ready, start-refused, start-short}
 use Rattle.packed.proofs.EightWords.{length-answer, length-answers}
 
 -- requests one after the other
-after-append : (w : World) (a b : List Request) → worldAfter receiving w (a ++ b) ≡ worldAfter receiving (worldAfter receiving w a) b
+after-append : (w : World) (a b : List LentRequest) → worldAfter receiving w (a ++ b) ≡ worldAfter receiving (worldAfter receiving w a) b
 unfolding worldAfter
 after-append w [] b = refl
 after-append w (q ∷ a) b = after-append (turnOf w q .world) a b
@@ -74,7 +74,7 @@ pub record Stands (w : World) : Type 0 where
   pub good : Good w
   pub held : Held (w .engine)
 
-stores : (w : World) (bs : List Batch) → Stands w → AllBytes bs
+stores : (w : World) (bs : List Batch) → Stands w → BatchesOfBytes bs
     → (storeAfter (storeWith w) bs ≡ storeWith (worldAfter receiving w (requestsInAll bs))) × Stands (worldAfter receiving w (requestsInAll bs))
 unfolding storeAfter requestsInAll worldAfter
 stores w [] s a = (refl, s)
@@ -125,7 +125,7 @@ part-start l s at n h =
 rest-stays : (l s : List ℕ) → drop (length s) (storeAt l 0 s) ≡ drop (length s) l
 rest-stays l s = rw (← store-start l s (length s) refl) (drop-append-seam s (drop (length s) l))
 
-module _ (w : World) (earlier : List Request) (b : Batch) where
+module _ (w : World) (earlier : List LentRequest) (b : Batch) where
   abbrev before : World
   before = worldAfter receiving w earlier
 
@@ -167,11 +167,11 @@ module _ (n area limit : ℕ) (arena map state : List ℕ) where
   unfolding setUp
   prepared = ⊎-map (λ x. x .1) (λ x. x .1) (pick-cases _ ready (notStarted map) _ refl)
 
-  abbrev begun : Started
+  abbrev begun : StartLeaves
   begun = startOf n area limit (length arena) map state
 
-  one-not-zero : {s : Started} → s ≡ begun → s .refusal ≡ 1 → begun .refusal ≡ 0 → ⊥
-  one-not-zero e x y = omega (arith, ap (λ (s : Started). s .refusal) e)
+  one-not-zero : {s : StartLeaves} → s ≡ begun → s .refusal ≡ 1 → begun .refusal ≡ 0 → ⊥
+  one-not-zero e x y = omega (arith, ap (λ (s : StartLeaves). s .refusal) e)
 
   began : begun .refusal ≡ 0 → (ready ≡ fresh) × (record { refusal = 0; map = fresh .map; state = engineWords (fresh .started .engine) } ≡ begun)
   began z =

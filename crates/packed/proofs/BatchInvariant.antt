@@ -15,9 +15,9 @@ use Rattle.guarantees.specs.Outputs.{RunLeaves}
 use Rattle.guarantees.proofs.RunInvariant.{CallMade, RunInvariant, ended, run-end}
 use Rattle.packed.specs.Answers.{answerWords}
 use Rattle.packed.specs.Calls.{requestAt}
-use Rattle.packed.specs.Running.{budgetOf, decode, ranFrom}
+use Rattle.packed.specs.Running.{budgetOf, ranFrom, requestsFrom}
 use Rattle.packed.specs.declared.types.FoundRequest.{FoundRequest}
-use Rattle.packed.proofs.DecodeLaws.{calls-few, decode-bad, decode-request, request-inside}
+use Rattle.packed.proofs.DecodeLaws.{calls-few, request-inside, requests-end, requests-next}
 use Rattle.packed.proofs.EightWords.{length-answer}
 
 -- the run of at most `most` calls whose reply buffers are as long as in `buffers`, with these to come
@@ -27,7 +27,7 @@ Running bytes buffers = RunInvariant bytes buffers answerWords 8
 pub record BatchInvariant (calls bytes buffers : List ℕ) (most : ℕ) (all : RunLeaves) (w : World) (replies answers : List ℕ) (at taken : ℕ) : Type 0 where
   pub place : at ≡ 8 * taken
   pub words : 8 * most ≤ length calls
-  pub run : Running bytes buffers most all (decode (most - taken) calls bytes buffers at) w replies answers at taken
+  pub run : Running bytes buffers most all (requestsFrom (most - taken) calls bytes buffers at) w replies answers at taken
 
 -- no call is made yet
 pub batch-start : (w : World) (calls bytes replies answers : List ℕ) (most : ℕ) → most ≡ budgetOf (length calls) (length answers)
@@ -53,7 +53,7 @@ module _ {calls bytes buffers : List ℕ} {most : ℕ} {all : RunLeaves} {w : Wo
   here = ended bytes buffers answerWords taken w replies answers (8 * taken)
 
   pub batch-end : most ≤ taken → all ≡ here
-  unfolding decode
+  unfolding requestsFrom
   batch-end h =
       let e : most - taken ≡ 0 = omega arith in
       rw (g .place) at (run-end (rw e at (g .run)))
@@ -67,19 +67,19 @@ module _ {calls bytes buffers : List ℕ} {most : ℕ} {all : RunLeaves} {w : Wo
     batch-words = omega (arith, g .words, g .place)
 
     pub batch-bad : requestAt calls (length bytes) (length replies) at ≡ FoundRequest.Bad → all ≡ here
-    batch-bad f = rw (g .place) at (run-end (rw (more, decode-bad (most - (taken + 1)) calls bytes buffers at (rw (g .run .lent) at f)) at (g .run)))
+    batch-bad f = rw (g .place) at (run-end (rw (more, requests-end (most - (taken + 1)) calls bytes buffers at (rw (g .run .lent) at f)) at (g .run)))
 
     module _ (q : Request) (f : requestAt calls (length bytes) (length replies) at ≡ FoundRequest.Request q) where
       pub batch-inside : LiesWithin (length bytes) (length replies) (q .call)
       batch-inside = request-inside calls (length bytes) (length replies) at q f
 
       -- it is the next of the run
-      pub batch-next : Running bytes buffers most all (q ∷ decode (most - (taken + 1)) calls bytes buffers (at + 8)) w replies answers at taken
-      batch-next = rw (more, decode-request (most - (taken + 1)) calls bytes buffers at q (rw (g .run .lent) at f)) at (g .run)
+      pub batch-next : Running bytes buffers most all (q ∷ requestsFrom (most - (taken + 1)) calls bytes buffers (at + 8)) w replies answers at taken
+      batch-next = rw (more, requests-next (most - (taken + 1)) calls bytes buffers at q (rw (g .run .lent) at f)) at (g .run)
 
       -- it is made, and the others follow it
       pub batch-again : {good : Bool} {w′ : World} {replies′ : List ℕ} {a : Answer}
-          → CallMade bytes buffers answerWords 8 most all (decode (most - (taken + 1)) calls bytes buffers (at + 8)) good answers at taken w′ replies′ a
+          → CallMade bytes buffers answerWords 8 most all (requestsFrom (most - (taken + 1)) calls bytes buffers (at + 8)) good answers at taken w′ replies′ a
           → (at′ : ℕ) (answers′ : List ℕ) → at′ ≡ at + length (answerWords a) → answers′ ≡ storeAt answers at (answerWords a)
           → BatchInvariant calls bytes buffers most all w′ replies′ answers′ at′ (taken + 1)
       batch-again {a = a} m at′ answers′ e x =

@@ -1,4 +1,4 @@
--- Laws of `decode`: one more call, one that is none, how many there are, and that each lies in what is lent.
+-- Laws of `requestsFrom`: one more call, one that is none, how many there are, and that each lies in what is lent.
 use Prim.Native.Nat.{ℕ, zero, suc, _+_, _≤_}
 use borrow.Author.Tests.{leb-true}
 use lib.Dec.{eqb, leb}
@@ -9,26 +9,26 @@ use native.Mathlib.Omega.{arith}
 use Rattle.laws.proofs.Choosing.{branch}
 use Rattle.peer.specs.declared.types.Request.{Request}
 use Rattle.peer.specs.LentCalls.{LiesWithin}
-use Rattle.packed.specs.Calls.{packetAt, postAt, requestAt}
-use Rattle.packed.specs.Running.{decode, onFound}
+use Rattle.packed.specs.Calls.{packedPacket, packedPost, requestAt}
+use Rattle.packed.specs.Running.{onFoundRequest, requestsFrom}
 use Rattle.packed.specs.declared.types.FoundRequest.{FoundRequest}
 
 module _ (k : ℕ) (w bytes replies : List ℕ) (at : ℕ) where
-  pub decode-request : (q : Request) → requestAt w (length bytes) (length replies) at ≡ FoundRequest.Request q
-      → decode (suc k) w bytes replies at ≡ q ∷ decode k w bytes replies (at + 8)
-  unfolding decode
-  decode-request q e = rw e
+  pub requests-next : (q : Request) → requestAt w (length bytes) (length replies) at ≡ FoundRequest.Request q
+      → requestsFrom (suc k) w bytes replies at ≡ q ∷ requestsFrom k w bytes replies (at + 8)
+  unfolding requestsFrom
+  requests-next q e = rw e
 
-  pub decode-bad : requestAt w (length bytes) (length replies) at ≡ FoundRequest.Bad → decode (suc k) w bytes replies at ≡ []
-  unfolding decode
-  decode-bad e = rw e
+  pub requests-end : requestAt w (length bytes) (length replies) at ≡ FoundRequest.Bad → requestsFrom (suc k) w bytes replies at ≡ []
+  unfolding requestsFrom
+  requests-end e = rw e
 
-pub calls-few : (k : ℕ) (w bytes replies : List ℕ) (at : ℕ) → length (decode k w bytes replies at) ≤ k
-unfolding decode
+pub calls-few : (k : ℕ) (w bytes replies : List ℕ) (at : ℕ) → length (requestsFrom k w bytes replies at) ≤ k
+unfolding requestsFrom
 calls-few zero w bytes replies at = omega arith
 calls-few (suc k) w bytes replies at = found (requestAt w (length bytes) (length replies) at) (calls-few k w bytes replies (at + 8))
   where
-    found : (f : FoundRequest) → length (decode k w bytes replies (at + 8)) ≤ k → length (onFound f [] (λ q. q ∷ decode k w bytes replies (at + 8))) ≤ suc k
+    found : (f : FoundRequest) → length (requestsFrom k w bytes replies (at + 8)) ≤ k → length (onFoundRequest f [] (λ q. q ∷ requestsFrom k w bytes replies (at + 8))) ≤ suc k
     found FoundRequest.Bad l = omega arith
     found (FoundRequest.Request q) l = omega arith
 
@@ -39,7 +39,7 @@ InsideFound bytes replies FoundRequest.Bad = Unit {0}
 InsideFound bytes replies (FoundRequest.Request q) = LiesWithin bytes replies (q .call)
 
 found-inside : (w : List ℕ) (bytes replies at : ℕ) → InsideFound bytes replies (requestAt w bytes replies at)
-unfolding requestAt postAt packetAt
+unfolding requestAt packedPost packedPacket
 found-inside w bytes replies at =
     let P : FoundRequest → Type 0 = InsideFound bytes replies in
     branch P (eqb (getD w at 0) 1) _ _ (λ h. branch P (leb (getD w (at + 2) 0) 1) _ _ (λ g. tt) (λ g. tt))

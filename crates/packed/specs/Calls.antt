@@ -12,8 +12,8 @@ abbrev pub requestWith : List ℕ → ℕ → Call → FoundRequest
 requestWith w at c = FoundRequest.Request (record { peer = getD w (at + 1) 0; call = c })
 
 -- 1, peer, 0 plain or 1 tagged, tag, ignore, start, capacity
-unfoldable pub postAt : List ℕ → ℕ → FoundRequest
-postAt w at =
+unfoldable pub packedPost : List ℕ → ℕ → FoundRequest
+packedPost w at =
     pick (leb (getD w (at + 2) 0) 1)
     (requestWith w at (Call.Post (record {
       tagged = eqb (getD w (at + 2) 0) 1;
@@ -25,8 +25,8 @@ postAt w at =
     FoundRequest.Bad
 
 -- 2, peer, place and length of the packet, place and length of the reply buffer
-unfoldable pub packetAt : List ℕ → ℕ → ℕ → ℕ → FoundRequest
-packetAt w bytes replies at =
+unfoldable pub packedPacket : List ℕ → ℕ → ℕ → ℕ → FoundRequest
+packedPacket w bytes replies at =
     pick (leb (getD w (at + 2) 0 + getD w (at + 3) 0) bytes)
     (pick (leb (getD w (at + 4) 0 + getD w (at + 5) 0) replies)
     (requestWith w at
@@ -37,7 +37,7 @@ packetAt w bytes replies at =
 -- the call of the words from `at` on, where so many bytes and reply bytes are lent; 3 is a cancel and 4 a report, of peer and slot
 unfoldable pub requestAt : List ℕ → ℕ → ℕ → ℕ → FoundRequest
 requestAt w bytes replies at =
-    pick (eqb (getD w at 0) 1) (postAt w at)
-    (pick (eqb (getD w at 0) 2) (packetAt w bytes replies at)
+    pick (eqb (getD w at 0) 1) (packedPost w at)
+    (pick (eqb (getD w at 0) 2) (packedPacket w bytes replies at)
     (pick (eqb (getD w at 0) 3) (requestWith w at (Call.Cancel (getD w (at + 2) 0)))
     (pick (eqb (getD w at 0) 4) (requestWith w at (Call.Report (getD w (at + 2) 0))) FoundRequest.Bad)))

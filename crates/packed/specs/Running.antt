@@ -13,15 +13,15 @@ use Rattle.packed.specs.Answers.{answerWords}
 
 -- ---- the calls
 
-abbrev pub onFound : {A : Type 0} → FoundRequest → A → (Request → A) → A
-onFound FoundRequest.Bad bad f = bad
-onFound (FoundRequest.Request q) bad f = f q
+abbrev pub onFoundRequest : {A : Type 0} → FoundRequest → A → (Request → A) → A
+onFoundRequest FoundRequest.Bad bad f = bad
+onFoundRequest (FoundRequest.Request q) bad f = f q
 
 -- at most k calls of the words from `at` on, up to the first that is none
-unfoldable pub decode : ℕ → List ℕ → List ℕ → List ℕ → ℕ → List Request
-decode zero w bytes replies at = []
-decode (suc k) w bytes replies at =
-    onFound (requestAt w (length bytes) (length replies) at) [] (λ q. q ∷ decode k w bytes replies (at + 8))
+unfoldable pub requestsFrom : ℕ → List ℕ → List ℕ → List ℕ → ℕ → List Request
+requestsFrom zero w bytes replies at = []
+requestsFrom (suc k) w bytes replies at =
+    onFoundRequest (requestAt w (length bytes) (length replies) at) [] (λ q. q ∷ requestsFrom k w bytes replies (at + 8))
 
 -- ---- the run
 
@@ -32,7 +32,7 @@ budgetOf calls answers = min (calls / 8) (answers / 8)
 -- eight words for each answer, from the first on
 unfoldable pub ranFrom : World → List ℕ → List ℕ → List ℕ → List ℕ → RunLeaves
 ranFrom w calls bytes replies answers =
-    runLeaves bytes replies answerWords w answers 0 (decode (budgetOf (length calls) (length answers)) calls bytes replies 0)
+    runLeaves bytes replies answerWords w answers 0 (requestsFrom (budgetOf (length calls) (length answers)) calls bytes replies 0)
 
 -- the number of calls, and the state's words with all else that is lent
 pub record Kept : Type 0 where

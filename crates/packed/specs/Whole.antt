@@ -12,10 +12,10 @@ use Rattle.peer.specs.declared.types.Request as code
 use Rattle.peer.specs.LentCalls.{replyPlace}
 use Rattle.guarantees.specs.Outputs.{requestsOf}
 use Rattle.guarantees.specs.Runs.{worldAfter}
-use Rattle.guarantees.specs.Receiving.{Request, freshWorld, receiving, requestOf, turnOf}
+use Rattle.guarantees.specs.Receiving.{LentRequest, freshWorld, receiving, requestOf, turnOf}
 use Rattle.state_words.specs.Saving.{engineWords}
 use Rattle.packed.specs.Answers.{answerWords}
-use Rattle.packed.specs.Running.{Kept, budgetOf, decode, runOf}
+use Rattle.packed.specs.Running.{Kept, budgetOf, requestsFrom, runOf}
 use Rattle.packed.specs.Starting.{startOf}
 
 -- what one run is lent besides state, arena and map
@@ -46,27 +46,27 @@ storeAfter s (b ∷ bs) = storeAfter (storeOf (runOn s b)) bs
 
 -- as many calls as there are words for, and for their answers, up to the first that is none
 abbrev pub callsIn : Batch → List code.Request
-callsIn b = decode (budgetOf (length (b .calls)) (length (b .answers))) (b .calls) (b .bytes) (b .replies) 0
+callsIn b = requestsFrom (budgetOf (length (b .calls)) (length (b .answers))) (b .calls) (b .bytes) (b .replies) 0
 
-abbrev pub requestsIn : Batch → List Request
+abbrev pub requestsIn : Batch → List LentRequest
 requestsIn b = requestsOf (b .bytes) (b .replies) (callsIn b)
 
-unfoldable pub requestsInAll : List Batch → List Request
+unfoldable pub requestsInAll : List Batch → List LentRequest
 requestsInAll [] = []
 requestsInAll (b ∷ bs) = requestsIn b ++ requestsInAll bs
 
 -- bytes, as the machine's types have them
-abbrev pub AllBytes : List Batch → Type 0
-AllBytes [] = Unit {0}
-AllBytes (b ∷ bs) = ((i : ℕ) → getD (b .bytes) i 0 < 256) × AllBytes bs
+abbrev pub BatchesOfBytes : List Batch → Type 0
+BatchesOfBytes [] = Unit {0}
+BatchesOfBytes (b ∷ bs) = ((i : ℕ) → getD (b .bytes) i 0 < 256) × BatchesOfBytes bs
 
 -- ---- one batch among them
 
 -- in the run from w, where the requests `earlier` came before those of the batch b, which left k: the turn of its call j, if it has one
-abbrev pub turnAt : World → List Request → Batch → ℕ → code.Request → Turn
+abbrev pub turnAt : World → List LentRequest → Batch → ℕ → code.Request → Turn
 turnAt w earlier b j none = turnOf (worldAfter receiving w (earlier ++ take j (requestsIn b))) (requestOf (b .bytes) (b .replies) (getD (callsIn b) j none))
 
-pub record PartOfRun (w : World) (earlier : List Request) (b : Batch) (k : Kept) : Type 0 where
+pub record PartOfRun (w : World) (earlier : List LentRequest) (b : Batch) (k : Kept) : Type 0 where
   pub taken : k .taken ≡ length (callsIn b)
   -- each call has its answer in its eight words, and the words behind them stay
   pub answers : (j : ℕ) (none : code.Request) → j < length (callsIn b) → part (k .answers) (8 * j) 8 ≡ answerWords (turnAt w earlier b j none .answer)
@@ -93,7 +93,7 @@ unfoldable pub RunsAreOneRun : Type 0
 RunsAreOneRun =
     (n area limit : ℕ) (arena map state : List ℕ) (before : List Batch) (b : Batch)
     → startOf n area limit (length arena) map state .refusal ≡ 0
-    → AllBytes before
+    → BatchesOfBytes before
     → let started = startOf n area limit (length arena) map state in
     PartOfRun (freshWorld n area limit arena map) (requestsInAll before) b
     (runOn (storeAfter (record { state = started .state; arena = arena; map = started .map }) before) b)

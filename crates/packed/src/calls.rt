@@ -7,11 +7,11 @@ use protocol::Span;
 ghost use mathlib.Core.Path.{_≡_};
 ghost use Prim.Native.Nat.{_+_, _≤_};
 ghost use lib.ListN.{length};
-ghost use Rattle.packed.specs.Calls.{postAt, packetAt, requestAt};
+ghost use Rattle.packed.specs.Calls.{packedPacket, packedPost, requestAt};
 
 fn post_at(calls: &[u64], at: usize) -> FoundRequest
     requires { ⌜ at + 8 ≤ length (now calls) ⌝ }
-    ensures { λ r. ⌜ r ≡ postAt (now (calls .entry)) at ⌝ }
+    ensures { λ r. ⌜ r ≡ packedPost (now (calls .entry)) at ⌝ }
 {
     let kind = calls[at + 2];
     if 1 < kind {
@@ -35,7 +35,7 @@ fn post_at(calls: &[u64], at: usize) -> FoundRequest
 
 fn packet_at(calls: &[u64], at: usize, bytes: usize, replies: usize) -> FoundRequest
     requires { ⌜ at + 8 ≤ length (now calls) ⌝ }
-    ensures { λ r. ⌜ r ≡ packetAt (now (calls .entry)) bytes replies at ⌝ }
+    ensures { λ r. ⌜ r ≡ packedPacket (now (calls .entry)) bytes replies at ⌝ }
 {
     let peer = calls[at + 1] as usize;
     let place = calls[at + 2] as usize;

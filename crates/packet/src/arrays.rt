@@ -2,7 +2,7 @@
 use protocol::TypeRow;
 ghost use mathlib.Core.Path.{_≡_};
 ghost use Prim.Native.Nat.{_≤_};
-ghost use Rattle.protocol.specs.Arrays.{arrayAllowed, arrayLength, arrayWhole, countOf};
+ghost use Rattle.protocol.specs.Arrays.{arrayAllowed, arrayCount, arrayLength, arrayWhole};
 ghost use Rattle.protocol.specs.Rules.{Sound};
 ghost use Rattle.protocol.specs.Limits.{packetLimit};
 
@@ -23,7 +23,7 @@ pub(crate) fn length(row: TypeRow, count: u32) -> usize
 pub(crate) fn count_of(row: TypeRow, n: usize) -> u32
     requires { ⌜ Sound row ⌝ }
     requires { ⌜ n ≤ packetLimit ⌝ }
-    ensures { λ r. ⌜ r ≡ countOf row n ⌝ }
+    ensures { λ r. ⌜ r ≡ arrayCount row n ⌝ }
 {
     if row.unit == 0 {
         return 0;

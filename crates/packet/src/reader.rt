@@ -28,7 +28,7 @@ ghost use mathlib.Core.Bool.{true, false};
 ghost use Prim.Native.Nat.{_≤_};
 ghost use lib.ListN.{length};
 ghost use Rattle.protocol.specs.Reading.{headerIn, packetIn, readLengths, readFlags, readOf};
-ghost use Rattle.protocol.specs.Rules.{Sound, Inside};
+ghost use Rattle.protocol.specs.Rules.{Sound, SectionsInside};
 ghost use Rattle.protocol.specs.Types.{everyRow, servedRow, readerRows};
 ghost use Rattle.protocol.specs.Limits.{packetLimit};
 
@@ -41,7 +41,7 @@ fn refused(refusal: Refusal) -> Read
 // The numbers of a packet whose sections are known.
 fn header(row: TypeRow, flags: u16, bytes: &[u8], at: Sections) -> Header
     requires { ⌜ Sound row ⌝ }
-    requires { ⌜ Inside row flags at (length (now bytes)) ⌝ }
+    requires { ⌜ SectionsInside row flags at (length (now bytes)) ⌝ }
     ensures { λ r. ⌜ r ≡ headerIn row flags (now (bytes .entry)) at ⌝ }
 {
     let fields = layout::read(row, bytes);
@@ -61,7 +61,7 @@ fn header(row: TypeRow, flags: u16, bytes: &[u8], at: Sections) -> Header
 // A packet whose headers are whole: its lengths are checked.
 fn whole(row: TypeRow, flags: u16, bytes: &[u8], at: Sections) -> Read
     requires { ⌜ Sound row ⌝ }
-    requires { ⌜ Inside row flags at (length (now bytes)) ⌝ }
+    requires { ⌜ SectionsInside row flags at (length (now bytes)) ⌝ }
     ensures { λ r. ⌜ r ≡ readLengths row (packetIn row flags (now (bytes .entry)) at) ⌝ }
 {
     let header = header(row, flags, bytes, at);

@@ -22,7 +22,7 @@ use Rattle.protocol.specs.Types.{everyRow, rowOf}
 use Rattle.protocol.specs.Values.{Values, valuesIn}
 use Rattle.protocol.specs.Values as packets
 use Rattle.protocol.specs.WriterSentences.{writerChecks}
-use Rattle.protocol.specs.Writing.{Outcome, writeOf}
+use Rattle.protocol.specs.Writing.{WriteLeaves, writeOf}
 use Rattle.protocol.specs.declared.table.FoundRow.the-variants.{Row}
 use Rattle.protocol.specs.declared.table.TypeRow.{TypeRow}
 use Rattle.protocol.specs.declared.types.Connid.{Connid}
@@ -44,8 +44,8 @@ use Rattle.protocol.proofs.WriterHolds.{refusing, write-failing, write-judged, 
 use Rattle.packet_words.specs.Order.{fewWords, wrongNumbers, wrongOption, wrongType}
 use Rattle.packet_words.specs.ReaderSentences.{ReadsIntoWords}
 use Rattle.packet_words.specs.RoundTrip.{ReadsWordsWritten, WritesWordsRead}
-use Rattle.packet_words.specs.Says.{ownFields, putSays, wordsSay}
-use Rattle.packet_words.specs.Writing.{connidFits, connidNumber, connidWord, cqDataWord, fieldsFit, fieldsIn, headerIn, fieldWord, putAs, rawAddressWord, typeWord, writeFrom, writeTyped}
+use Rattle.packet_words.specs.Says.{ownByType, putSays, wordsSay}
+use Rattle.packet_words.specs.Writing.{connidFits, connidNumber, connidWord, cqDataWord, fieldsFit, wordsFields, wordsHeader, fieldWord, putAs, rawAddressWord, typeWord, writeFrom, putTyped}
 use Rattle.packet_words.proofs.OrderHolds.{given, held, numbers-held, put, row-said}
 use Rattle.packet_words.proofs.Rows.{row-small}
 use Rattle.packet_words.proofs.WordsTold.{own-numbers, reads-into-words, same-values}
@@ -53,7 +53,7 @@ use Rattle.packet_words.proofs.WordsTold.{own-numbers, reads-into-words
 -- ---- the header that the words say has their values
 
 -- a field that holds its number says it
-number-said : (v : List ℕ) (f : Field) → fieldWord v f < 256 ^ width f → numberIn (fieldsIn v) f ≡ fieldWord v f
+number-said : (v : List ℕ) (f : Field) → fieldWord v f < 256 ^ width f → numberIn (wordsFields v) f ≡ fieldWord v f
 number-said v Field.msg-id h = mod-eq-of-lt h
 number-said v Field.recv-id h = mod-eq-of-lt h
 number-said v Field.send-id h = mod-eq-of-lt h
@@ -67,7 +67,7 @@ number-said v Field.multiuse h = refl
 number-said v Field.padding h = refl
 number-said v Field.count h = refl
 
-own-said : (v : List ℕ) (fs : List Field) → fieldsFit v fs ≡ true → map (numberIn (fieldsIn v)) fs ≡ map (fieldWord v) fs
+own-said : (v : List ℕ) (fs : List Field) → fieldsFit v fs ≡ true → map (numberIn (wordsFields v)) fs ≡ map (fieldWord v) fs
 unfolding fieldsFit
 own-said v [] e = refl
 own-said v (f ∷ fs) e =
@@ -80,19 +80,19 @@ unfolding pick
 connid-said true d h = refl
 connid-said false d h = ap Connid.Present (mod-eq-of-lt (ltb-true d (2 ^ 32) h))
 
-header-said : (v raw body : List ℕ) → typeWord v < 256 → held v ≡ true → packets.values (headerIn v) raw body ≡ wordsSay v raw body
+header-said : (v raw body : List ℕ) → typeWord v < 256 → held v ≡ true → packets.values (wordsHeader v) raw body ≡ wordsSay v raw body
 unfolding packets.values wordsSay
 header-said v raw body small fit =
     let type : typeWord v % 256 ≡ typeWord v = mod-eq-of-lt small in
     same-values _ _ type
-    (own-numbers (typeWord v % 256) (fieldsIn v)
-    ∙ ap (λ (k : ℕ). map (numberIn (fieldsIn v)) (ownFields k)) type
-    ∙ own-said v (ownFields (typeWord v)) (and-left _ (connidFits v) fit))
+    (own-numbers (typeWord v % 256) (wordsFields v)
+    ∙ ap (λ (k : ℕ). map (numberIn (wordsFields v)) (ownByType k)) type
+    ∙ own-said v (ownByType (typeWord v)) (and-left _ (connidFits v) fit))
     (sym (pick-not (eqb (rawAddressWord v) 0) _ _)) refl
-    (connid-said (eqb (connidWord v) 0) (connidNumber v) (and-right (fieldsFit v (ownFields (typeWord v))) _ fit)) refl
+    (connid-said (eqb (connidWord v) 0) (connidNumber v) (and-right (fieldsFit v (ownByType (typeWord v))) _ fit)) refl
 
 -- each number of that header fits its field
-numbers-said : (v : List ℕ) → ((i : ℕ) → getD v i 0 < 2 ^ 64) → Numbers (headerIn v)
+numbers-said : (v : List ℕ) → ((i : ℕ) → getD v i 0 < 2 ^ 64) → Numbers (wordsHeader v)
 unfolding connidOrZero
 numbers-said v words =
     record {
@@ -101,7 +101,7 @@ numbers-said v words =
       connid = branch (λ (q : Connid). connidOrZero q < 256 ^ 4) (eqb (connidWord v) 0) _ _ (λ x. lit< tt) (λ x. mod-lt (connidNumber v) (lit< tt));
     }
   where
-    small : (f : Field) → numberIn (fieldsIn v) f < 256 ^ width f
+    small : (f : Field) → numberIn (wordsFields v) f < 256 ^ width f
     small Field.msg-id = mod-lt (getD v 1 0) (lit< tt)
     small Field.recv-id = mod-lt (getD v 2 0) (lit< tt)
     small Field.send-id = mod-lt (getD v 3 0) (lit< tt)
@@ -118,16 +118,16 @@ numbers-said v words =
 -- ---- words that pass their checks are left to the packet writer
 
 module _ (v raw body out : List ℕ) (size : ℕ) where
-  passed-on : (r : TypeRow) → 19 ≤ length v → rowOf (typeWord v) ≡ Row r → optionsFit r (headerIn v) ≡ true → held v ≡ true
-      → writeFrom v raw body out size ≡ put v raw body out size (writeOf (headerIn v) raw body out)
-  unfolding writeFrom writeTyped pick
+  passed-on : (r : TypeRow) → 19 ≤ length v → rowOf (typeWord v) ≡ Row r → optionsFit r (wordsHeader v) ≡ true → held v ≡ true
+      → writeFrom v raw body out size ≡ put v raw body out size (writeOf (wordsHeader v) raw body out)
+  unfolding writeFrom putTyped pick
   passed-on r long row options fit = rw (le-leb 19 (length v) long, row, options, numbers-held v r row ∙ fit)
 
   -- what it writes is written
-  written-on : (r : TypeRow) → WrittenAs (headerIn v) raw body out r → 19 ≤ length v → typeWord v < 256 → held v ≡ true
+  written-on : (r : TypeRow) → WrittenAs (wordsHeader v) raw body out r → 19 ≤ length v → typeWord v < 256 → held v ≡ true
       → (left : List ℕ) (n : ℕ)
-      → writeOf (headerIn v) raw body out .out ≡ left
-      → writeOf (headerIn v) raw body out .answer ≡ Written.Length n
+      → writeOf (wordsHeader v) raw body out .out ≡ left
+      → writeOf (wordsHeader v) raw body out .answer ≡ Written.Length n
       → writeFrom v raw body out size ≡ record { refusal = 0; out = left; size = n }
   written-on r w long small fit left n o a = passed-on r long row (w .options) fit ∙ ap₂ (putAs size) o a
     where
@@ -135,18 +135,18 @@ module _ (v raw body out : List ℕ) (size : ℕ) where
       row = ap rowOf (sym (mod-eq-of-lt small)) ∙ w .row
 
   -- and its answer says the same
-  put-says : putSays (put v raw body out size (writeOf (headerIn v) raw body out)) ≡ writtenSays (writeOf (headerIn v) raw body out .answer)
+  put-says : putSays (put v raw body out size (writeOf (wordsHeader v) raw body out)) ≡ writtenSays (writeOf (wordsHeader v) raw body out .answer)
   unfolding pick
   put-says =
-      ap (λ (o : Outcome). putSays (put v raw body out size o)) (write-judged h raw body out)
-      ∙ judged-ap (λ (o : Outcome). putSays (put v raw body out size o)) (write-failing h raw body out) (refusing h raw body out) all writerChecks
-      ∙ sym (judged-ap (λ (o : Outcome). writtenSays (o .answer)) (write-failing h raw body out) (refusing h raw body out) all writerChecks)
-      ∙ ap (λ (o : Outcome). writtenSays (o .answer)) (sym (write-judged h raw body out))
+      ap (λ (o : WriteLeaves). putSays (put v raw body out size o)) (write-judged h raw body out)
+      ∙ judged-ap (λ (o : WriteLeaves). putSays (put v raw body out size o)) (write-failing h raw body out) (refusing h raw body out) all writerChecks
+      ∙ sym (judged-ap (λ (o : WriteLeaves). writtenSays (o .answer)) (write-failing h raw body out) (refusing h raw body out) all writerChecks)
+      ∙ ap (λ (o : WriteLeaves). writtenSays (o .answer)) (sym (write-judged h raw body out))
     where
       h : Header
-      h = headerIn v
+      h = wordsHeader v
 
-      all : Outcome
+      all : WriteLeaves
       all = written h raw body out (rowOf (h .kind))
 
 -- ---- reading what was written
@@ -154,10 +154,10 @@ module _ (v raw body out : List ℕ) (size : ℕ) where
 pub reads-words-written : ReadsWordsWritten
 unfolding ReadsWordsWritten ReadsIntoWords
 reads-words-written v raw body out values size n words enough z =
-    let h = headerIn v in
+    let h = wordsHeader v in
     let pass = given v raw body out size n z in
     let (r, row) = row-out _ (pass wrongType) in
-    let options = not-false _ (sym (row-at _ r (λ q. not (optionsFit q (headerIn v))) row) ∙ pass wrongOption) in
+    let options = not-false _ (sym (row-at _ r (λ q. not (optionsFit q (wordsHeader v))) row) ∙ pass wrongOption) in
     let fit = not-false _ (or-left (not (held v)) _ (pass wrongNumbers)) in
     let long = ltb-false (length v) 19 (pass fewWords) in
     let on = passed-on v raw body out size r long row options fit in
@@ -197,8 +197,8 @@ module _ (v raw body bs : List ℕ) (p : Packet) (same : valuesIn p bs ≡ words
   held-read : Numbers (p .header) → held v ≡ true
   unfolding valuesIn packets.values wordsSay
   held-read numbers =
-      let own = own-numbers (p .header .kind) fields ∙ ap (λ (k : ℕ). map (numberIn fields) (ownFields k)) type-read in
-      and-intro _ _ (fields-held v fields (numbers .fields) (ownFields (typeWord v)) (sym (ap (λ (w : Values). w .own) same) ∙ own))
+      let own = own-numbers (p .header .kind) fields ∙ ap (λ (k : ℕ). map (numberIn fields) (ownByType k)) type-read in
+      and-intro _ _ (fields-held v fields (numbers .fields) (ownByType (typeWord v)) (sym (ap (λ (w : Values). w .own) same) ∙ own))
       (connid-held (eqb (connidWord v) 0) (connidNumber v) _ (numbers .connid) (sym (ap (λ (w : Values). w .connid) same)))
     where
       fields : Fields
@@ -207,7 +207,7 @@ module _ (v raw body bs : List ℕ) (p : Packet) (same : valuesIn p bs ≡ words
 pub writes-words-read : WritesWordsRead
 unfolding WritesWordsRead ReadsIntoWords ReadTellsItsBytes
 writes-words-read bs values v raw body out size b room long z =
-    let h = headerIn v in
+    let h = wordsHeader v in
     let said = sym (reads-into-words bs values .0 (⊎-elim (λ l. l) few (le-or-lt 19 (length values)))) ∙ z in
     let (p, e, same) = read-gives bs _ (wordsSay v raw body) said in
     let kind = read-tells-its-bytes everyRow 8192 bs p e .kind in

@@ -14,7 +14,7 @@ use Rattle.protocol.specs.Layout.{Field, count, credit-request, has, isOwn, lay
 use Rattle.protocol.specs.Optional.{hasCqData, optionsFit}
 use Rattle.protocol.specs.Rules.{Sound}
 use Rattle.protocol.specs.declared.table.TypeRow.{TypeRow}
-use Rattle.packet_words.specs.Writing.{cqDataWord, cqIn, fieldsFit, headerIn, holds, fieldWord, rawAddressWord}
+use Rattle.packet_words.specs.Writing.{cqDataWord, wordsCq, fieldsFit, wordsHeader, holds, fieldWord, rawAddressWord}
 use Rattle.laws.proofs.Choosing.{and-intro, and-left, and-right, pick-false, pick-true, tested}
 use Rattle.protocol.proofs.FlagLaws.{options-tested}
 use Rattle.protocol.proofs.LayoutLaws.{has-place, place-has, same-field}
@@ -26,7 +26,7 @@ same-test false true p q = q refl
 same-test false false p q = refl
 
 -- CQ data are there where their word is not 0
-pub cq-said : (v : List ℕ) → hasCqData (cqIn v) ≡ not (eqb (cqDataWord v) 0)
+pub cq-said : (v : List ℕ) → hasCqData (wordsCq v) ≡ not (eqb (cqDataWord v) 0)
 unfolding pick
 cq-said v = ⊎-elim (λ x. rw x) (λ x. rw x) (tested (eqb (cqDataWord v) 0))
 
@@ -34,8 +34,8 @@ not-not : (t : Bool) → not (not t) ≡ t
 not-not true = refl
 not-not false = refl
 
-pub options-said : (v : List ℕ) (r : TypeRow) → Sound r → optionsFit r (headerIn v) ≡ (r .request || (eqb (rawAddressWord v) 0 && eqb (cqDataWord v) 0))
-options-said v r s = rw (options-tested r (headerIn v) s, cq-said v, not-not (eqb (rawAddressWord v) 0), not-not (eqb (cqDataWord v) 0))
+pub options-said : (v : List ℕ) (r : TypeRow) → Sound r → optionsFit r (wordsHeader v) ≡ (r .request || (eqb (rawAddressWord v) 0 && eqb (cqDataWord v) 0))
+options-said v r s = rw (options-tested r (wordsHeader v) s, cq-said v, not-not (eqb (rawAddressWord v) 0), not-not (eqb (cqDataWord v) 0))
 
 module _ (v : List ℕ) where
   abbrev fits : Field → Bool

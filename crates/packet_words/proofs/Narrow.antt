@@ -15,12 +15,11 @@ use Rattle.protocol.specs.Layout.{Field, count, credit-request, msg-id, msg-len
 use Rattle.protocol.specs.Arrays.{arrayAllowed}
 use Rattle.protocol.specs.Optional.{optionsFit}
 use Rattle.protocol.specs.Types.{rowOf}
-use Rattle.protocol.specs.Writing as packets
-use Rattle.protocol.specs.Writing.{Outcome, writeAs, writeOf}
+use Rattle.protocol.specs.Writing.{WriteLeaves, writeAs, writeOf, writeTyped}
 use Rattle.protocol.specs.declared.table.FoundRow.{FoundRow}
 use Rattle.protocol.specs.declared.table.FoundRow.the-variants.{Row, Unknown}
 use Rattle.protocol.specs.declared.table.TypeRow.{TypeRow}
-use Rattle.packet_words.specs.Writing.{allNarrow, connidFits, connidWord, fieldsFit, headerIn, fieldWord, numbersFit, putOf, typeWord, writeTyped}
+use Rattle.packet_words.specs.Writing.{allNarrow, connidFits, connidWord, fieldsFit, wordsHeader, fieldWord, wordsFit, putOf, typeWord, putTyped}
 
 module _ (v : List ℕ) (words : (i : ℕ) → getD v i 0 < 2 ^ 64) (narrow : allNarrow v ≡ true) where
   -- word i is a number of 32 bits
@@ -54,23 +53,23 @@ module _ (v : List ℕ) (words : (i : ℕ) → getD v i 0 < 2 ^ 64) (narrow : al
       (λ e. pick-false _ _ e ∙ and-right (is 8) _ (and-right (is 3) _ (and-right (is 2) _ (and-right (is 1) _ narrow))))
       (tested (eqb (connidWord v) 0))
 
-  numbers-fit : (r : TypeRow) → numbersFit r v ≡ true
-  unfolding numbersFit
-  numbers-fit r = and-intro _ _ (fields-fit _) connid-fits
+  words-fit : (r : TypeRow) → wordsFit r v ≡ true
+  unfolding wordsFit
+  words-fit r = and-intro _ _ (fields-fit _) connid-fits
 
   pub written-at-once : (raw body out : List ℕ) (size : ℕ) → typeWord v ≤ 255
-      → writeTyped (rowOf (typeWord v)) v raw body out size ≡ putOf size (writeOf (headerIn v) raw body out)
-  unfolding writeTyped writeOf packets.writeTyped writeAs pick
+      → putTyped (rowOf (typeWord v)) v raw body out size ≡ putOf size (writeOf (wordsHeader v) raw body out)
+  unfolding putTyped writeOf writeTyped writeAs pick
   written-at-once raw body out size small = go (rowOf (typeWord v)) refl
     where
-      of-row : FoundRow → Outcome
-      of-row o = packets.writeTyped o (headerIn v) [] raw body out
+      of-row : FoundRow → WriteLeaves
+      of-row o = writeTyped o (wordsHeader v) [] raw body out
 
-      as-row : (o : FoundRow) → rowOf (typeWord v) ≡ o → writeOf (headerIn v) raw body out ≡ of-row o
+      as-row : (o : FoundRow) → rowOf (typeWord v) ≡ o → writeOf (wordsHeader v) raw body out ≡ of-row o
       as-row o e = ap (λ (n : ℕ). of-row (rowOf n)) (mod-eq-of-lt (omega arith)) ∙ ap of-row e
 
-      go : (o : FoundRow) → rowOf (typeWord v) ≡ o → writeTyped o v raw body out size ≡ putOf size (writeOf (headerIn v) raw body out)
+      go : (o : FoundRow) → rowOf (typeWord v) ≡ o → putTyped o v raw body out size ≡ putOf size (writeOf (wordsHeader v) raw body out)
       go Unknown e = ap (putOf size) (sym (as-row Unknown e))
       go (Row r) e =
-          rw (numbers-fit r)
-          (⊎-elim (λ t. rw t) (λ t. rw t (ap (putOf size) (sym (as-row (Row r) e ∙ pick-false _ _ (ap (λ (b : Bool). b && arrayAllowed r 0) t))))) (tested (optionsFit r (headerIn v))))
+          rw (words-fit r)
+          (⊎-elim (λ t. rw t) (λ t. rw t (ap (putOf size) (sym (as-row (Row r) e ∙ pick-false _ _ (ap (λ (b : Bool). b && arrayAllowed r 0) t))))) (tested (optionsFit r (wordsHeader v))))

@@ -7,13 +7,12 @@ use mathlib.Core.Path.{_≡_, refl, ap, _∙_}
 use native.Mathlib.Omega.{arith}
 use Rattle.laws.specs.Choose.{pick}
 use Rattle.protocol.specs.ByType.{column}
-use Rattle.protocol.specs.Layout as table
-use Rattle.protocol.specs.Layout.{Field, layout}
+use Rattle.protocol.specs.Layout.{Field, layout, ownFields}
 use Rattle.protocol.specs.Types.{rowIn, rowOf, rows}
 use Rattle.protocol.specs.declared.table.FoundRow.{FoundRow}
 use Rattle.protocol.specs.declared.table.FoundRow.the-variants.{Row, Unknown}
 use Rattle.protocol.specs.declared.table.TypeRow.{TypeRow}
-use Rattle.packet_words.specs.Says.{ownFields}
+use Rattle.packet_words.specs.Says.{ownByType}
 use Rattle.laws.proofs.Choosing.{pick-ap}
 use Rattle.protocol.proofs.TableRule.{row-kind, row-passes}
 
@@ -32,16 +31,16 @@ no-type k h = go (rowOf k) refl
 
 abbrev pub ownOf : FoundRow → List Field
 ownOf Unknown = []
-ownOf (Row r) = table.ownFields r
+ownOf (Row r) = ownFields r
 
 -- what a table's row says, as a column of it
-as-column : (rs : List TypeRow) (k : ℕ) → ownOf (rowIn rs k) ≡ column [] (map (λ q. (q .kind, table.ownFields q)) rs) k
+as-column : (rs : List TypeRow) (k : ℕ) → ownOf (rowIn rs k) ≡ column [] (map (λ q. (q .kind, ownFields q)) rs) k
 unfolding rowIn
 as-column [] k = refl
 as-column (q ∷ rs) k =
-    pick-ap ownOf (eqb (q .kind) k) (Row q) (rowIn rs k) ∙ ap (λ (l : List Field). pick (eqb (q .kind) k) (table.ownFields q) l) (as-column rs k)
+    pick-ap ownOf (eqb (q .kind) k) (Row q) (rowIn rs k) ∙ ap (λ (l : List Field). pick (eqb (q .kind) k) (ownFields q) l) (as-column rs k)
 
 -- the own fields of a type by its row and by its number
-pub own-fields : (k : ℕ) → ownOf (rowOf k) ≡ ownFields k
-unfolding rowOf table.ownFields layout
+pub own-fields : (k : ℕ) → ownOf (rowOf k) ≡ ownByType k
+unfolding rowOf ownFields layout
 own-fields k = unfold pick in as-column rows k

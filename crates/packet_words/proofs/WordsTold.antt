@@ -33,10 +33,10 @@ use Rattle.laws.proofs.Choosing.{pick-false, pick-true}
 use Rattle.laws.proofs.Comparing.{le-or-lt}
 use Rattle.laws.proofs.Storing.{store-start}
 use Rattle.protocol.proofs.OrderHolds.{refused-by-first-to-fail}
-use Rattle.words.specs.Presence.{bitOf, cqBit, cqValue}
+use Rattle.words.specs.Presence.{boolBit, cqBit, cqValue}
 use Rattle.packet_words.specs.Presence.{connidBit, connidValue}
 use Rattle.packet_words.specs.ReaderSentences.{ReadsIntoWords, RefusedReadChangesNothing}
-use Rattle.packet_words.specs.Says.{dataAt, ownFields, rawAddressAt, tookSays, wordsSay}
+use Rattle.packet_words.specs.Says.{ownByType, tookSays, wordsData, wordsRawAddress, wordsSay}
 use Rattle.packet_words.specs.Values.{readInto, tookAs, valueWords}
 use Rattle.packet_words.specs.Writing.{fieldWord, typeWord}
 use Rattle.packet_words.proofs.Rows.{own-fields, ownOf}
@@ -51,7 +51,7 @@ pub same-values : (a b : Values) → a .kind ≡ b .kind → a .own ≡ b .own �
 same-values a b k o r q c d = λ i. record { kind = k i; own = o i; rawAddress = r i; cqData = q i; connid = c i; body = d i }
 
 -- the numbers of the type's own fields, by its number
-pub own-numbers : (k : ℕ) (v : Fields) → ownNumbers (rowOf k) v ≡ map (numberIn v) (ownFields k)
+pub own-numbers : (k : ℕ) (v : Fields) → ownNumbers (rowOf k) v ≡ map (numberIn v) (ownByType k)
 own-numbers k v = go (rowOf k) ∙ ap (map (numberIn v)) (own-fields k)
   where
     go : (o : FoundRow) → ownNumbers o v ≡ map (numberIn v) (ownOf o)
@@ -60,7 +60,7 @@ own-numbers k v = go (rowOf k) ∙ ap (map (numberIn v)) (own-fields k)
 
 -- ---- the words of a packet that was read
 
-bit-told : (t : Bool) (raw : List ℕ) → _≡_ {A = Option (List ℕ)} (pick (eqb (bitOf t) 0) none (some raw)) (pick t (some raw) none)
+bit-told : (t : Bool) (raw : List ℕ) → _≡_ {A = Option (List ℕ)} (pick (eqb (boolBit t) 0) none (some raw)) (pick t (some raw) none)
 unfolding pick
 bit-told true raw = refl
 bit-told false raw = refl
@@ -103,11 +103,11 @@ module _ (values : List ℕ) (p : Packet) where
   own-words [] = refl
   own-words (f ∷ fs) = ap₂ (λ (n : ℕ) (ns : List ℕ). n ∷ ns) (field-word f) (own-words fs)
 
-  words-told : (bs : List ℕ) → wordsSay wordsOf (rawAddressAt wordsOf bs) (dataAt wordsOf bs) ≡ valuesIn p bs
+  words-told : (bs : List ℕ) → wordsSay wordsOf (wordsRawAddress wordsOf bs) (wordsData wordsOf bs) ≡ valuesIn p bs
   unfolding wordsSay valuesIn packets.values valueWords
   words-told bs =
       same-values _ _ kind
-      (own-words (ownFields (typeWord wordsOf)) ∙ ap (λ (k : ℕ). map (numberIn (p .header .fields)) (ownFields k)) kind ∙ sym (own-numbers (p .header .kind) _))
+      (own-words (ownByType (typeWord wordsOf)) ∙ ap (λ (k : ℕ). map (numberIn (p .header .fields)) (ownByType k)) kind ∙ sym (own-numbers (p .header .kind) _))
       (ap₂ (λ (n : ℕ) (raw : List ℕ). pick (eqb n 0) none (some raw)) (word-at 10 (lit< tt)) (ap₂ (part bs) (word-at 11 (lit< tt)) (word-at 12 (lit< tt)))
       ∙ bit-told (p .header .«raw_address») _)
       (ap₂ (λ (n d : ℕ). pick (eqb n 0) CqData.Absent (CqData.Present d)) (word-at 13 (lit< tt)) (word-at 14 (lit< tt)) ∙ cq-told (p .header .«cq_data»))

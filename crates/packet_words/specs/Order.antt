@@ -12,22 +12,22 @@ use Rattle.protocol.specs.ByType.{CtsOrData, Known, LengthRule, connidHeader, f
 use Rattle.protocol.specs.Checks.{First, gives, refused}
 use Rattle.protocol.specs.Layout.{Field, credit-request, msg-id, msg-length, recv-id, recv-length, seg-length, seg-offset, send-id, tag, width}
 use Rattle.protocol.specs.declared.types.Fields.{Fields}
-use Rattle.packet_words.specs.Says.{ownFields, putSays}
+use Rattle.packet_words.specs.Says.{ownByType, putSays}
 use Rattle.packet_words.specs.Writing.{connidNumber, connidWord, cqDataWord, fieldWord, rawAddressWord, refusedPut, typeWord, writeFrom}
 
 -- ---- the packet's length
 
 -- the bytes n of an optional header whose word is not 0
-abbrev pub takes : ℕ → ℕ → ℕ
-takes word n = pick (eqb word 0) 0 n
+abbrev pub optionTakes : ℕ → ℕ → ℕ
+optionTakes word n = pick (eqb word 0) 0 n
 
 -- "raw address (size 4, then size bytes), CQ data 8"; the connid as its type has it; with so many bytes of raw address and of data
-abbrev pub packetLength : List ℕ → ℕ → ℕ → ℕ
-packetLength v raw body =
+abbrev pub putLength : List ℕ → ℕ → ℕ → ℕ
+putLength v raw body =
     headerLength (typeWord v)
-    + takes (rawAddressWord v) (4 + raw)
-    + takes (cqDataWord v) 8
-    + takes (connidWord v) (connidHeader (typeWord v))
+    + optionTakes (rawAddressWord v) (4 + raw)
+    + optionTakes (cqDataWord v) 8
+    + optionTakes (connidWord v) (connidHeader (typeWord v))
     + body
 
 -- ---- the checks
@@ -36,21 +36,21 @@ pub data PutCheck : Type 0 where
   fewWords wrongType wrongOption wrongNumbers overLimit noRoom : PutCheck
 
 -- "9, 10 (an optional header its type can't have), 11, 6, 21", after the words themselves
-abbrev pub writerChecks : List PutCheck
-writerChecks = fewWords ∷ wrongType ∷ wrongOption ∷ wrongNumbers ∷ overLimit ∷ noRoom ∷ []
+abbrev pub putChecks : List PutCheck
+putChecks = fewWords ∷ wrongType ∷ wrongOption ∷ wrongNumbers ∷ overLimit ∷ noRoom ∷ []
 
-abbrev pub refusedAs : PutCheck → ℕ
-refusedAs fewWords = 21
-refusedAs wrongType = 9
-refusedAs wrongOption = 10
-refusedAs wrongNumbers = 11
-refusedAs overLimit = 6
-refusedAs noRoom = 21
+abbrev pub putRefusedAs : PutCheck → ℕ
+putRefusedAs fewWords = 21
+putRefusedAs wrongType = 9
+putRefusedAs wrongOption = 10
+putRefusedAs wrongNumbers = 11
+putRefusedAs overLimit = 6
+putRefusedAs noRoom = 21
 
 -- a number that its place in the packet cannot hold: of an own field, or of a connid that is there
 abbrev pub TooLarge : List ℕ → Type 0
 TooLarge v =
-    ((f : Field) × List·Memᴰ f (ownFields (typeWord v)) × (256 ^ width f ≤ fieldWord v f))
+    ((f : Field) × List·Memᴰ f (ownByType (typeWord v)) × (256 ^ width f ≤ fieldWord v f))
     ⊎ ((connidWord v ≡ 0 → ⊥) × (2 ^ 32 ≤ connidNumber v))
 
 -- the words' numbers by field
@@ -66,32 +66,32 @@ PutFails v raw body out fewWords = length v < 19
 PutFails v raw body out wrongType = Known true (typeWord v) → ⊥
 PutFails v raw body out wrongOption = CtsOrData (typeWord v) × ((rawAddressWord v ≡ 0 → ⊥) ⊎ (cqDataWord v ≡ 0 → ⊥))
 PutFails v raw body out wrongNumbers = TooLarge v ⊎ (LengthRule (typeWord v) (fieldsSaid v) (length body) → ⊥)
-PutFails v raw body out overLimit = 8192 < packetLength v (length raw) (length body)
-PutFails v raw body out noRoom = length out < packetLength v (length raw) (length body)
+PutFails v raw body out overLimit = 8192 < putLength v (length raw) (length body)
+PutFails v raw body out noRoom = length out < putLength v (length raw) (length body)
 
 -- the check at place i of the list
-abbrev pub checkAt : ℕ → PutCheck
-checkAt i = getD writerChecks i noRoom
+abbrev pub putCheckAt : ℕ → PutCheck
+putCheckAt i = getD putChecks i noRoom
 
 -- ---- the statements
 
 -- refused with n exactly if the first check that fails has the number n
-unfoldable pub RefusedByFirstToFail : Type 0
-RefusedByFirstToFail =
+unfoldable pub PutRefusedByFirstToFail : Type 0
+PutRefusedByFirstToFail =
     (v raw body out : List ℕ) (size n : ℕ)
     → (putSays (writeFrom v raw body out size) ≡ refused n)
-    ↔ ((i : ℕ) × (i < 6) × (refusedAs (checkAt i) ≡ n) × First (PutFails v raw body out) checkAt i)
+    ↔ ((i : ℕ) × (i < 6) × (putRefusedAs (putCheckAt i) ≡ n) × First (PutFails v raw body out) putCheckAt i)
 
 -- written exactly if none fails, and then the length is the packet's
-unfoldable pub WrittenIfNoneFails : Type 0
-WrittenIfNoneFails =
+unfoldable pub PutIfNoneFails : Type 0
+PutIfNoneFails =
     (v raw body out : List ℕ) (size n : ℕ)
     → (putSays (writeFrom v raw body out size) ≡ gives n)
-    ↔ ((n ≡ packetLength v (length raw) (length body)) × ((c : PutCheck) → PutFails v raw body out c → ⊥))
+    ↔ ((n ≡ putLength v (length raw) (length body)) × ((c : PutCheck) → PutFails v raw body out c → ⊥))
 
 -- "Each refusal returns its number alone and changes nothing lent": buffer and length are as they were
-unfoldable pub RefusedWriteChangesNothing : Type 0
-RefusedWriteChangesNothing =
+unfoldable pub RefusedPutChangesNothing : Type 0
+RefusedPutChangesNothing =
     (v raw body out : List ℕ) (size n : ℕ)
     → putSays (writeFrom v raw body out size) ≡ refused n
     → writeFrom v raw body out size ≡ refusedPut n out size

@@ -17,8 +17,8 @@ use Rattle.packet_words.specs.Values.{Took}
 use Rattle.packet_words.specs.Writing.{Put, connidNumber, connidWord, cqDataNumber, cqDataWord, fieldWord, rawAddressWord, typeWord}
 
 -- the fields that type k has of its own (column "Fields after type 1, version 1, flags 2"); none for a type that is not in the table
-abbrev pub ownFields : ℕ → List Field
-ownFields =
+abbrev pub ownByType : ℕ → List Field
+ownByType =
     column []
     ((3, send-id ∷ recv-id ∷ recv-length ∷ [])
     ∷ (4, recv-id ∷ seg-length ∷ seg-offset ∷ [])
@@ -35,7 +35,7 @@ unfoldable pub wordsSay : List ℕ → List ℕ → List ℕ → Values
 wordsSay v raw body =
     record {
       kind = typeWord v;
-      own = map (fieldWord v) (ownFields (typeWord v));
+      own = map (fieldWord v) (ownByType (typeWord v));
       rawAddress = pick (eqb (rawAddressWord v) 0) none (some raw);
       cqData = pick (eqb (cqDataWord v) 0) CqData.Absent (CqData.Present (cqDataNumber v));
       connid = pick (eqb (connidWord v) 0) Connid.Absent (Connid.Present (connidNumber v));
@@ -43,11 +43,11 @@ wordsSay v raw body =
     }
 
 -- the bytes at the places that the words give
-abbrev pub rawAddressAt : List ℕ → List ℕ → List ℕ
-rawAddressAt v bs = part bs (getD v 11 0) (getD v 12 0)
+abbrev pub wordsRawAddress : List ℕ → List ℕ → List ℕ
+wordsRawAddress v bs = part bs (getD v 11 0) (getD v 12 0)
 
-abbrev pub dataAt : List ℕ → List ℕ → List ℕ
-dataAt v bs = part bs (getD v 17 0) (getD v 18 0)
+abbrev pub wordsData : List ℕ → List ℕ → List ℕ
+wordsData v bs = part bs (getD v 17 0) (getD v 18 0)
 
 -- an answer on words: 0 and what was asked for, or "its number alone"
 abbrev pub answerSays : {A : Type 0} → ℕ → A → Result A
@@ -59,4 +59,4 @@ putSays p = answerSays (p .refusal) (p .size)
 
 -- the reader's, of the packet in the bytes bs: its values
 unfoldable pub tookSays : List ℕ → Took → Result Values
-tookSays bs t = answerSays (t .refusal) (wordsSay (t .values) (rawAddressAt (t .values) bs) (dataAt (t .values) bs))
+tookSays bs t = answerSays (t .refusal) (wordsSay (t .values) (wordsRawAddress (t .values) bs) (wordsData (t .values) bs))

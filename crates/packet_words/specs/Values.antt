@@ -13,7 +13,7 @@ use Rattle.protocol.specs.declared.types.Read.{Read}
 use Rattle.protocol.specs.Reading.{readOf}
 use Rattle.protocol.specs.Types.{everyRow}
 use Rattle.protocol.specs.Limits.{packetLimit}
-use Rattle.words.specs.Presence.{bitOf, cqBit, cqValue}
+use Rattle.words.specs.Presence.{boolBit, cqBit, cqValue}
 use Rattle.packet_words.specs.Presence.{connidBit, connidValue}
 
 abbrev pub valueCount : ℕ
@@ -24,7 +24,7 @@ valueWords p =
     let h : Header = p .header in
     let f : Fields = h .fields in
     h .kind ∷ f .«msg_id» ∷ f .«recv_id» ∷ f .«send_id» ∷ f .«msg_length» ∷ f .«seg_length» ∷ f .«recv_length» ∷ f .«seg_offset»
-    ∷ f .«credit_request» ∷ f .tag ∷ bitOf (h .«raw_address») ∷ p .«raw_address» .at ∷ p .«raw_address» .size
+    ∷ f .«credit_request» ∷ f .tag ∷ boolBit (h .«raw_address») ∷ p .«raw_address» .at ∷ p .«raw_address» .size
     ∷ cqBit (h .«cq_data») ∷ cqValue (h .«cq_data») ∷ connidBit (h .connid) ∷ connidValue (h .connid) ∷ p .«data» .at ∷ p .«data» .size ∷ []
 
 -- 0 or the refusal's number, and what is left of the values' words

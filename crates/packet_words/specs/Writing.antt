@@ -18,7 +18,7 @@ use Rattle.protocol.specs.declared.types.Written.{Written}
 use Rattle.protocol.specs.Layout.{Field, ownFields, width}
 use Rattle.protocol.specs.Optional.{optionsFit}
 use Rattle.protocol.specs.Types.{rowOf}
-use Rattle.protocol.specs.Writing.{Outcome, writeOf}
+use Rattle.protocol.specs.Writing.{WriteLeaves, writeOf}
 use Rattle.packet_words.specs.Values.{valueCount}
 
 -- ---- the words of the values
@@ -59,9 +59,9 @@ connidNumber v = getD v 16 0
 
 -- ---- what they say
 
--- numbers of 32 bits: what is above is cut, and looked at by `numbersFit` where the type has the field
-abbrev pub fieldsIn : List ℕ → Fields
-fieldsIn v =
+-- numbers of 32 bits: what is above is cut, and looked at by `wordsFit` where the type has the field
+abbrev pub wordsFields : List ℕ → Fields
+wordsFields v =
     record {
       «msg_id» = fieldWord v Field.msg-id % 2 ^ 32;
       «recv_id» = fieldWord v Field.recv-id % 2 ^ 32;
@@ -74,20 +74,20 @@ fieldsIn v =
       tag = fieldWord v Field.tag;
     }
 
-abbrev pub cqIn : List ℕ → CqData
-cqIn v = pick (eqb (cqDataWord v) 0) CqData.Absent (CqData.Present (cqDataNumber v))
+abbrev pub wordsCq : List ℕ → CqData
+wordsCq v = pick (eqb (cqDataWord v) 0) CqData.Absent (CqData.Present (cqDataNumber v))
 
-abbrev pub connidIn : List ℕ → Connid
-connidIn v = pick (eqb (connidWord v) 0) Connid.Absent (Connid.Present (connidNumber v % 2 ^ 32))
+abbrev pub wordsConnid : List ℕ → Connid
+wordsConnid v = pick (eqb (connidWord v) 0) Connid.Absent (Connid.Present (connidNumber v % 2 ^ 32))
 
-abbrev pub headerIn : List ℕ → Header
-headerIn v =
+abbrev pub wordsHeader : List ℕ → Header
+wordsHeader v =
     record {
       kind = typeWord v % 256;
-      fields = fieldsIn v;
+      fields = wordsFields v;
       «raw_address» = not (eqb (rawAddressWord v) 0);
-      «cq_data» = cqIn v;
-      connid = connidIn v;
+      «cq_data» = wordsCq v;
+      connid = wordsConnid v;
     }
 
 -- ---- the checks on the words' numbers
@@ -112,8 +112,8 @@ allNarrow v =
     && (ltb (fieldWord v Field.send-id) (2 ^ 32) && (ltb (fieldWord v Field.credit-request) (2 ^ 32) && ltb (connidNumber v) (2 ^ 32))))
 
 -- the type's own fields, and a connid that is there
-unfoldable pub numbersFit : TypeRow → List ℕ → Bool
-numbersFit r v = fieldsFit v (ownFields r) && connidFits v
+unfoldable pub wordsFit : TypeRow → List ℕ → Bool
+wordsFit r v = fieldsFit v (ownFields r) && connidFits v
 
 -- ---- the writer
 
@@ -128,7 +128,7 @@ putAs size out (Written.Refused k) = record { refusal = k .number; out = out; si
 putAs size out (Written.Length n) = record { refusal = 0; out = out; size = n }
 
 -- of what the packet writer leaves
-abbrev pub putOf : ℕ → Outcome → Put
+abbrev pub putOf : ℕ → WriteLeaves → Put
 putOf size o = putAs size (o .out) (o .answer)
 
 abbrev pub refusedPut : ℕ → List ℕ → ℕ → Put
@@ -136,16 +136,16 @@ refusedPut k out size = record { refusal = k; out = out; size = size }
 
 -- 9; then 10 (an optional header its type can't have); then a number that its field cannot hold, the first cause of 11; then the packet
 -- writer's own checks: lengths 11, 6, 21
-unfoldable pub writeTyped : FoundRow → List ℕ → List ℕ → List ℕ → List ℕ → ℕ → Put
-writeTyped Unknown v raw body out size = refusedPut (badType .number) out size
-writeTyped (Row r) v raw body out size =
-    pick (optionsFit r (headerIn v))
-    (pick (numbersFit r v)
-    (putOf size (writeOf (headerIn v) raw body out))
+unfoldable pub putTyped : FoundRow → List ℕ → List ℕ → List ℕ → List ℕ → ℕ → Put
+putTyped Unknown v raw body out size = refusedPut (badType .number) out size
+putTyped (Row r) v raw body out size =
+    pick (optionsFit r (wordsHeader v))
+    (pick (wordsFit r v)
+    (putOf size (writeOf (wordsHeader v) raw body out))
     (refusedPut (badLength .number) out size))
     (refusedPut (badFlags .number) out size)
 
 -- with too few words nothing is written
 unfoldable pub writeFrom : List ℕ → List ℕ → List ℕ → List ℕ → ℕ → Put
 writeFrom v raw body out size =
-    pick (leb valueCount (length v)) (writeTyped (rowOf (typeWord v)) v raw body out size) (refusedPut (noRoom .number) out size)
+    pick (leb valueCount (length v)) (putTyped (rowOf (typeWord v)) v raw body out size) (refusedPut (noRoom .number) out size)

@@ -23,7 +23,7 @@ ghost use Rattle.protocol.specs.Layout.{ownFields};
 ghost use Rattle.protocol.specs.Optional.{optionsFit};
 ghost use Rattle.protocol.specs.Rules.{Sound};
 ghost use Rattle.protocol.specs.Writing.{writeOf};
-ghost use Rattle.packet_words.specs.Writing.{allNarrow, fieldsFit, holds, numbersFit, fieldsIn, cqIn, connidIn, headerIn, putOf, writeTyped, writeFrom};
+ghost use Rattle.packet_words.specs.Writing.{allNarrow, fieldsFit, holds, wordsFit, wordsFields, wordsCq, wordsConnid, wordsHeader, putOf, putTyped, writeFrom};
 
 // The least number that 32 bits do not hold.
 const WIDE: u64 = 0x1_0000_0000;
@@ -33,7 +33,7 @@ const WIDE: u64 = 0x1_0000_0000;
 fn options_fit(row: TypeRow, values: &[u64]) -> bool
     requires { ⌜ Sound row ⌝ }
     requires { ⌜ 19 ≤ length (now values) ⌝ }
-    ensures { λ r. ⌜ r ≡ optionsFit row (headerIn (now (values .entry))) ⌝ }
+    ensures { λ r. ⌜ r ≡ optionsFit row (wordsHeader (now (values .entry))) ⌝ }
 {
     if row.request {
         return true;
@@ -72,7 +72,7 @@ fn fields_fit(row: TypeRow, values: &[u64]) -> bool
 fn numbers_fit(row: TypeRow, values: &[u64]) -> bool
     requires { ⌜ Sound row ⌝ }
     requires { ⌜ 19 ≤ length (now values) ⌝ }
-    ensures { λ r. ⌜ r ≡ numbersFit row (now (values .entry)) ⌝ }
+    ensures { λ r. ⌜ r ≡ wordsFit row (now (values .entry)) ⌝ }
 {
     if !fields_fit(row, values) {
         return false;
@@ -82,7 +82,7 @@ fn numbers_fit(row: TypeRow, values: &[u64]) -> bool
 
 fn fields_in(values: &[u64]) -> Fields
     requires { ⌜ 19 ≤ length (now values) ⌝ }
-    ensures { λ r. ⌜ r ≡ fieldsIn (now (values .entry)) ⌝ }
+    ensures { λ r. ⌜ r ≡ wordsFields (now (values .entry)) ⌝ }
 {
     Fields {
         msg_id: (values[1] % 0x1_0000_0000) as u32,
@@ -99,7 +99,7 @@ fn fields_in(values: &[u64]) -> Fields
 
 fn cq_in(values: &[u64]) -> CqData
     requires { ⌜ 19 ≤ length (now values) ⌝ }
-    ensures { λ r. ⌜ r ≡ cqIn (now (values .entry)) ⌝ }
+    ensures { λ r. ⌜ r ≡ wordsCq (now (values .entry)) ⌝ }
 {
     if values[13] == 0 {
         CqData::Absent
@@ -110,7 +110,7 @@ fn cq_in(values: &[u64]) -> CqData
 
 fn connid_in(values: &[u64]) -> Connid
     requires { ⌜ 19 ≤ length (now values) ⌝ }
-    ensures { λ r. ⌜ r ≡ connidIn (now (values .entry)) ⌝ }
+    ensures { λ r. ⌜ r ≡ wordsConnid (now (values .entry)) ⌝ }
 {
     if values[15] == 0 {
         Connid::Absent
@@ -122,7 +122,7 @@ fn connid_in(values: &[u64]) -> Connid
 // The header that the words say.
 fn header_in(values: &[u64]) -> Header
     requires { ⌜ 19 ≤ length (now values) ⌝ }
-    ensures { λ r. ⌜ r ≡ headerIn (now (values .entry)) ⌝ }
+    ensures { λ r. ⌜ r ≡ wordsHeader (now (values .entry)) ⌝ }
 {
     let fields = fields_in(values);
     let cq_data = cq_in(values);
@@ -165,7 +165,7 @@ fn write_header(
     size: &mut usize,
 ) -> usize
     requires { ⌜ 19 ≤ length (now values) ⌝ }
-    ensures { λ r. ⌜ record { refusal = r; out = now (out .exit); size = now (size .exit) } ≡ putOf (now (size .entry)) (writeOf (headerIn (now (values .entry))) (now («raw_address» .entry)) (now («data» .entry)) (now (out .entry))) ⌝ }
+    ensures { λ r. ⌜ record { refusal = r; out = now (out .exit); size = now (size .exit) } ≡ putOf (now (size .entry)) (writeOf (wordsHeader (now (values .entry))) (now («raw_address» .entry)) (now («data» .entry)) (now (out .entry))) ⌝ }
 {
     match packet::write(header_in(values), raw_address, data, out) {
         Written::Refused(refusal) => refusal.number as usize,
@@ -187,7 +187,7 @@ fn write_as(
 ) -> usize
     requires { ⌜ Sound row ⌝ }
     requires { ⌜ 19 ≤ length (now values) ⌝ }
-    ensures { λ r. ⌜ record { refusal = r; out = now (out .exit); size = now (size .exit) } ≡ writeTyped (FoundRow.Row row) (now (values .entry)) (now («raw_address» .entry)) (now («data» .entry)) (now (out .entry)) (now (size .entry)) ⌝ }
+    ensures { λ r. ⌜ record { refusal = r; out = now (out .exit); size = now (size .exit) } ≡ putTyped (FoundRow.Row row) (now (values .entry)) (now («raw_address» .entry)) (now («data» .entry)) (now (out .entry)) (now (size .entry)) ⌝ }
 {
     if !options_fit(row, values) {
         return BAD_OPTION;

@@ -18,7 +18,7 @@ use Rattle.peer.specs.Checks.{CallsAreChecked, CallFails, checksOf, call
 use Rattle.peer.specs.Claims.{AreBytes}
 use Rattle.peer.specs.Coverage.{Segment, covers, inside}
 use Rattle.peer.specs.Expected.{expected}
-use Rattle.peer.specs.Plain.{Entry, Plain, entryAt}
+use Rattle.peer.specs.Plain.{Entry, Plain, slotEntry}
 use Rattle.peer.specs.Says.{said}
 use Rattle.peer.specs.State.{peerFits, phaseAt}
 use Rattle.peer.specs.View.{OneEach, View, markedIn, roleOf, viewIn, viewOf}
@@ -37,7 +37,7 @@ use Rattle.peer.proofs.FirstLaws.{gone-refused, gone-unrefused}
 use Rattle.peer.proofs.PostChecked.{GoneFor}
 use Rattle.peer.proofs.Roles.{role-lengths}
 use Rattle.peer.proofs.Valid.{fits-valid}
-use Rattle.peer.proofs.Slots.{entries-ordered, entries-roles, entriesOf, entry-at, entry-role, entryOf, open-phase}
+use Rattle.peer.proofs.Slots.{entries-ordered, entries-roles, entriesOf, entry-role, entryOf, open-phase, slot-entry}
 
 -- ---- segments that cover what a map has
 
@@ -118,23 +118,23 @@ module _ (area limit : ℕ) (p : Peer) (ws : List ℕ) where
         ordered = entries-ordered segments (p .slots);
         bits = λ i o e x h.
             sym (covered o x)
-            ∙ ap (λ (d : Entry). covers (d .segments) x) (sym (entry-at segments (p .slots) i ∙ ap (entryOf segments) e));
+            ∙ ap (λ (d : Entry). covers (d .segments) x) (sym (slot-entry segments (p .slots) i ∙ ap (entryOf segments) e));
       }
 
   same-view : viewIn mirror ≡ viewOf p ws
   unfolding mirror
   same-view = λ z. record { next = p .next; role = λ i. role i z; taken = λ i x. taken-in i x z }
     where
-      role : (i : ℕ) → entryAt (entriesOf segments (p .slots)) i .role ≡ roleOf (phaseAt (p .slots) i)
-      role i = ap (λ (e : Entry). e .role) (entry-at segments (p .slots) i) ∙ entry-role segments (phaseAt (p .slots) i)
+      role : (i : ℕ) → slotEntry (entriesOf segments (p .slots)) i .role ≡ roleOf (phaseAt (p .slots) i)
+      role i = ap (λ (e : Entry). e .role) (slot-entry segments (p .slots) i) ∙ entry-role segments (phaseAt (p .slots) i)
 
       at : (f : Phase) (x : ℕ) → covers (entryOf segments f .segments) x ≡ markedIn ws f x
       at Phase.Free x = unfold covers in refl
       at (Phase.Posted r a) x = unfold covers in refl
       at (Phase.Open o) x = unfold marked in covered o x
 
-      taken-in : (i x : ℕ) → covers (entryAt (entriesOf segments (p .slots)) i .segments) x ≡ markedIn ws (phaseAt (p .slots) i) x
-      taken-in i x = ap (λ (e : Entry). covers (e .segments) x) (entry-at segments (p .slots) i) ∙ at (phaseAt (p .slots) i) x
+      taken-in : (i x : ℕ) → covers (slotEntry (entriesOf segments (p .slots)) i .segments) x ≡ markedIn ws (phaseAt (p .slots) i) x
+      taken-in i x = ap (λ (e : Entry). covers (e .segments) x) (slot-entry segments (p .slots) i) ∙ at (phaseAt (p .slots) i) x
 
   pub step-checked : (c : Call) → peerFits area p ≡ true → length (p .slots) ≡ 8 → p .next < 2 ^ 32 → AreBytes c
       → GoneFor area limit (viewOf p ws) (checksOf c) (peerStep area limit p ws c .answer)

@@ -17,7 +17,7 @@ use Rattle.protocol.specs.declared.types.Packet.{Packet}
 use Rattle.protocol.specs.declared.types.Read.{Read}
 use Rattle.protocol.specs.declared.types.Refusal.{Refusal}
 use Rattle.protocol.specs.Types.{servedRow}
-use Rattle.peer.specs.Calls.{Call, cancel, cancelAt, cancelEffect, missingIn, packet, packetEffect, peerStep, placed, placedIn, post, postEffect, readEffect, report, reportAt, reportEffect}
+use Rattle.peer.specs.Calls.{Call, cancel, cancelEffect, cancelSlot, missingIn, packet, packetEffect, peerStep, placed, placedIn, post, postEffect, readEffect, report, reportEffect, reportSlot}
 use Rattle.peer.specs.Claims.{takes}
 use Rattle.peer.specs.Coverage.{Segment, allOf, covers}
 use Rattle.peer.specs.Effects.{Effect, accept, advance, begun, carry, grantOf, inSlot, opened, progressOf, quiet, refuse, settledAs, truncatedAt, withPhase}
@@ -26,7 +26,7 @@ use Rattle.peer.specs.Formed.{Formed}
 use Rattle.peer.specs.Incomings.{incomingOf, isLong, isRtm}
 use Rattle.peer.specs.Judging.{judge, judgeAgain, judgeData, judgeFit, judgeFound, judgeMore, judgeNew}
 use Rattle.peer.specs.Matching.{ahead, findOpen, vacancy}
-use Rattle.peer.specs.Plain.{Plain, Role, Target, begunAt, entryAt, moreAt, nowhere, openIn, roles, segmentOf}
+use Rattle.peer.specs.Plain.{Plain, Role, Target, begunAt, moreAt, nowhere, openIn, roles, segmentOf, slotEntry}
 use Rattle.peer.specs.State.{phaseAt, phaseFits, slotCount}
 use Rattle.peer.specs.View.{roleOf, rolesOf}
 use Rattle.peer.specs.declared.types.Answer.{Answer}
@@ -66,15 +66,15 @@ pub record Agrees (p : Peer) (ws : List ℕ) (mem : ℕ → ℕ) (l : Plain) : T
   pub same : rolesOf (p .slots) ≡ roles (l .entries)
   pub ordered : Ordered (p .slots) (l .entries)
   -- a posted receive was posted before the next one will be
-  pub past : (i : ℕ) (r : Receive) (a : ℕ) → phaseAt (p .slots) i ≡ Phase.Posted r a → entryAt (l .entries) i .serial < l .posts
-  pub held : (i : ℕ) (o : Inbound) → phaseAt (p .slots) i ≡ Phase.Open o → Held ws mem o (entryAt (l .entries) i .segments)
+  pub past : (i : ℕ) (r : Receive) (a : ℕ) → phaseAt (p .slots) i ≡ Phase.Posted r a → slotEntry (l .entries) i .serial < l .posts
+  pub held : (i : ℕ) (o : Inbound) → phaseAt (p .slots) i ≡ Phase.Open o → Held ws mem o (slotEntry (l .entries) i .segments)
 
 -- what the answers rest on
 pub record Mirrors (p : Peer) (ws : List ℕ) (l : Plain) : Type 0 where
   pub next : p .next ≡ l .next
   pub same : rolesOf (p .slots) ≡ roles (l .entries)
   pub ordered : Ordered (p .slots) (l .entries)
-  pub bits : (i : ℕ) (o : Inbound) → phaseAt (p .slots) i ≡ Phase.Open o → Bits ws (o .receive .start) (o .message .length) (entryAt (l .entries) i .segments)
+  pub bits : (i : ℕ) (o : Inbound) → phaseAt (p .slots) i ≡ Phase.Open o → Bits ws (o .receive .start) (o .message .length) (slotEntry (l .entries) i .segments)
 
 pub mirrors : {p : Peer} {ws : List ℕ} {mem : ℕ → ℕ} {l : Plain} → Agrees p ws mem l → Mirrors p ws l
 mirrors a = record { next = a .next; same = a .same; ordered = a .ordered; bits = λ i o e. a .held i o e .bits }
@@ -100,7 +100,7 @@ pub data Meets (area limit : ℕ) (p : Peer) (ws : List ℕ) (l : Plain) : Call 
       → (t : Target) → t .index ≡ i → t .matched ≡ true → Meets area limit p ws l (packet bs room) (truncatedAt p ws i (incomingOf q)) t
   begins : (bs : List ℕ) (room : ℕ) (q : Packet) → Arrives limit bs room q → (i : ℕ) (r : Receive) → Begins p (incomingOf q) i r
       → Meets area limit p ws l (packet bs room) (inSlot (advance p) i (begun limit ws i r (incomingOf q) (dataOf bs q)))
-      (begunAt (incomingOf q) i r (entryAt (l .entries) i .serial) (segmentOf (incomingOf q) (dataOf bs q)))
+      (begunAt (incomingOf q) i r (slotEntry (l .entries) i .serial) (segmentOf (incomingOf q) (dataOf bs q)))
   continues : (bs : List ℕ) (room : ℕ) (q : Packet) → Arrives limit bs room q → (i : ℕ) (o : Inbound) → Continues p ws (incomingOf q) i o
       → Meets area limit p ws l (packet bs room) (inSlot p i (accept limit ws i o (incomingOf q .offset) (dataOf bs q)))
       (moreAt l i (segmentOf (incomingOf q) (dataOf bs q)))
@@ -172,7 +172,7 @@ module _ (area limit : ℕ) (p : Peer) (ws : List ℕ) (l : Plain) (v : Valid ar
     Aimed : Verdict → Target → Type 0
     Aimed (Verdict.Refuse k) t = t ≡ nowhere
     Aimed (Verdict.Truncate i) t = (t .index ≡ i) × (t .matched ≡ true)
-    Aimed (Verdict.Begin i r) t = t ≡ begunAt h i r (entryAt (l .entries) i .serial) (segmentOf h bytes)
+    Aimed (Verdict.Begin i r) t = t ≡ begunAt h i r (slotEntry (l .entries) i .serial) (segmentOf h bytes)
     Aimed (Verdict.More i o) t = t ≡ moreAt l i (segmentOf h bytes)
 
     Ruled : Verdict → Ruling → Type 0
@@ -196,7 +196,7 @@ module _ (area limit : ℕ) (p : Peer) (ws : List ℕ) (l : Plain) (v : Valid ar
         ))
       where
         gs : List Segment
-        gs = entryAt (l .entries) i .segments
+        gs = slotEntry (l .entries) i .segments
 
         own : Bits ws (o .receive .start) (o .message .length) gs
         own = m .bits i o (found-open (h .id) (p .slots) i o e .1)
@@ -225,7 +225,7 @@ module _ (area limit : ℕ) (p : Peer) (ws : List ℕ) (l : Plain) (v : Valid ar
 
     -- for the receive r in slot i
     begun-ruled : (i : ℕ) (r : Receive) (a : ℕ) → phaseAt (p .slots) i ≡ Phase.Posted r a → isRtm (h .shape) ≡ true → h .length ≤ r .capacity
-        → Ruled (Verdict.Begin i r) (accepting limit (opened r h) (begunAt h i r (entryAt (l .entries) i .serial) (segmentOf h bytes)))
+        → Ruled (Verdict.Begin i r) (accepting limit (opened r h) (begunAt h i r (slotEntry (l .entries) i .serial) (segmentOf h bytes)))
     unfolding Ruled Aimed carry begun accept
     begun-ruled i r a at rtm short = (
       taken _ _ (settled-takes limit i (opened r h) _) (expect-takes limit i (opened r h) (segmentOf h bytes ∷ []))
@@ -284,7 +284,7 @@ module _ (area limit : ℕ) (p : Peer) (ws : List ℕ) (l : Plain) (v : Valid ar
 
   pub meets : (c : Call) → Alike (area ≤ 64 * length ws) (peerStep area limit p ws c .answer) (expected area limit l c)
       × Meets area limit p ws l c (peerStep area limit p ws c) (targetOfCall limit l c)
-  unfolding Both peerStep expected targetOfCall postEffect expectPost placedIn packetEffect readEffect expectPacket expectRead cancelEffect cancelAt reportEffect reportAt
+  unfolding Both peerStep expected targetOfCall postEffect expectPost placedIn packetEffect readEffect expectPacket expectRead cancelEffect cancelSlot reportEffect reportSlot
   meets (post r) =
       beside (λ (f : Effect) (a : Answer). Both (post r) f nowhere a) _ _ _ _ refl (λ x. refused-both (post r) badLength) (λ x.
       beside (λ (f : Effect) (a : Answer). Both (post r) f nowhere a) _ _ _ _ (overlap-same r (p .slots) ∙ ap (anyOverlap r) (m .same)) (λ y. refused-both (post r) overlaps)
@@ -307,22 +307,22 @@ module _ (area limit : ℕ) (p : Peer) (ws : List ℕ) (l : Plain) (v : Valid ar
           (packet-ruled (incomingOf q) (dataOf bs q) form)
   meets (cancel i) =
       beside (λ (f : Effect) (a : Answer). Both (cancel i) f nowhere a) _ _ _ _ refl (λ x. refused-both (cancel i) badSlot)
-      (λ x. subst (λ (u : Role). Both (cancel i) (cancelAt p ws i (phaseAt (p .slots) i)) nowhere (expectCancel i u)) (role-at (p .slots) (l .entries) (m .same) i)
+      (λ x. subst (λ (u : Role). Both (cancel i) (cancelSlot p ws i (phaseAt (p .slots) i)) nowhere (expectCancel i u)) (role-at (p .slots) (l .entries) (m .same) i)
       (at (phaseAt (p .slots) i) (leb-false slotCount i x)))
     where
-      at : (f : Phase) → i < slotCount → Both (cancel i) (cancelAt p ws i f) nowhere (expectCancel i (roleOf f))
+      at : (f : Phase) → i < slotCount → Both (cancel i) (cancelSlot p ws i f) nowhere (expectCancel i (roleOf f))
       at Phase.Free h = refused-both (cancel i) badSlot
       at (Phase.Posted r b) h = (same _, cancelled i h)
       at (Phase.Open o) h = (same _, cancelled i h)
   meets (report i) =
       beside (λ (f : Effect) (a : Answer). Both (report i) f nowhere a) _ _ _ _ refl (λ x. refused-both (report i) badSlot)
-      (λ x. subst (λ (u : Role). Both (report i) (reportAt p ws (phaseAt (p .slots) i)) nowhere (expectReport gs u)) (role-at (p .slots) (l .entries) (m .same) i)
+      (λ x. subst (λ (u : Role). Both (report i) (reportSlot p ws (phaseAt (p .slots) i)) nowhere (expectReport gs u)) (role-at (p .slots) (l .entries) (m .same) i)
       (at (phaseAt (p .slots) i) refl))
     where
       gs : List Segment
-      gs = entryAt (l .entries) i .segments
+      gs = slotEntry (l .entries) i .segments
 
-      at : (f : Phase) → phaseAt (p .slots) i ≡ f → Both (report i) (reportAt p ws f) nowhere (expectReport gs (roleOf f))
+      at : (f : Phase) → phaseAt (p .slots) i ≡ f → Both (report i) (reportSlot p ws f) nowhere (expectReport gs (roleOf f))
       at Phase.Free e = refused-both (report i) badSlot
       at (Phase.Posted r b) e = refused-both (report i) badSlot
       at (Phase.Open o) e =

@@ -25,8 +25,8 @@ use Rattle.peer.specs.Effects.{opened}
 use Rattle.peer.specs.Expected.{Ruling, expectCancel, expectPacket, expectPost, expectRead, expectReport, expected, accepting}
 use Rattle.peer.specs.Sentences.{FoundIsTheLowestOpen, NothingFoundIsNoneOpen, RtmIs64To69, UnfitIsNoneWaiting}
 use Rattle.peer.specs.Incomings.{incomingOf, isRtm}
-use Rattle.peer.specs.PacketBytes.{Rtm, idIn, typeIn}
-use Rattle.peer.specs.Plain.{Plain, Role, entryAt, idle, openIn, receiving, roles, segmentOf, waiting, Target, begunAt, moreAt}
+use Rattle.peer.specs.PacketBytes.{RtmIn, idIn, typeIn}
+use Rattle.peer.specs.Plain.{Plain, Role, slotEntry, idle, openIn, receiving, roles, segmentOf, waiting, Target, begunAt, moreAt}
 use Rattle.peer.specs.Says.{refused, said, say}
 use Rattle.peer.specs.View.{OneEach, OpenIn, View, viewIn}
 use Rattle.peer.specs.declared.types.Answer.{Answer}
@@ -47,7 +47,7 @@ use Rattle.peer.proofs.SentencesHold.{found-is-the-lowest-open, nothing
 
 -- ---- the type of a packet
 
-pub rtm-of : {bs : List ℕ} {h : Incoming} → Says bs h → isRtm (h .shape) ≡ true → Rtm bs
+pub rtm-of : {bs : List ℕ} {h : Incoming} → Says bs h → isRtm (h .shape) ≡ true → RtmIn bs
 unfolding RtmIs64To69
 rtm-of {h = h} s x = let w = rtm-is-64-to-69 (h .shape) (h .tagged) .0 x in (omega (arith, s .kind, w .0), omega (arith, s .kind, w .1))
 
@@ -74,7 +74,7 @@ module _ (area limit : ℕ) (l : Plain) where
   cancel-checked : (i : ℕ) → G (checksOf (cancel i)) (expected area limit l (cancel i))
   unfolding expected
   cancel-checked i =
-      branch (G (checksOf (cancel i))) _ _ _ (λ x. slot-beyond area limit v i (Answer.Refused badSlot) x refl .0) (λ x. at (entryAt (l .entries) i .role) refl x)
+      branch (G (checksOf (cancel i))) _ _ _ (λ x. slot-beyond area limit v i (Answer.Refused badSlot) x refl .0) (λ x. at (slotEntry (l .entries) i .role) refl x)
     where
       at : (u : Role) → v .role i ≡ u → leb 8 i ≡ false → G (checksOf (cancel i)) (expectCancel i u)
       at idle e x = cancel-free area limit v i (Answer.Refused badSlot) e refl
@@ -88,10 +88,10 @@ module _ (area limit : ℕ) (l : Plain) where
   report-checked : (i : ℕ) → G (checksOf (report i)) (expected area limit l (report i))
   unfolding expected
   report-checked i =
-      branch (G (checksOf (report i))) _ _ _ (λ x. slot-beyond area limit v i (Answer.Refused badSlot) x refl .1) (λ x. at (entryAt (l .entries) i .role) refl x)
+      branch (G (checksOf (report i))) _ _ _ (λ x. slot-beyond area limit v i (Answer.Refused badSlot) x refl .1) (λ x. at (slotEntry (l .entries) i .role) refl x)
     where
       gs : List Segment
-      gs = entryAt (l .entries) i .segments
+      gs = slotEntry (l .entries) i .segments
 
       at : (u : Role) → v .role i ≡ u → leb 8 i ≡ false → G (checksOf (report i)) (expectReport gs u)
       at idle e x = report-shut area limit v i (Answer.Refused badSlot) (λ o y. let w = sym y ∙ e in let z : _≡_ {A = ℕ} 0 1 = cc in omega arith) refl

@@ -10,8 +10,7 @@ use mathlib.Core.Path.{_≡_, refl, sym, ap, _∙_}
 use native.Mathlib.Omega.{arith}
 use Rattle.laws.specs.Choose.{pick}
 use Rattle.protocol.specs.ByType.{taggedTold}
-use Rattle.protocol.specs.Sentences as words
-use Rattle.protocol.specs.Sentences.{ReadTellsItsBytes, flagsIn, headIn}
+use Rattle.protocol.specs.Sentences.{PacketTold, ReadTellsItsBytes, flagsIn, headIn}
 use Rattle.protocol.specs.Reading.{readOf, readTyped}
 use Rattle.protocol.specs.Refusals.{badType}
 use Rattle.protocol.specs.Types.{admit, rowOf, servedRow}
@@ -21,9 +20,9 @@ use Rattle.protocol.specs.declared.table.TypeRow.{TypeRow}
 use Rattle.protocol.specs.declared.types.Packet.{Packet}
 use Rattle.protocol.specs.declared.types.Read.{Read}
 use Rattle.protocol.specs.declared.types.Refusal.{Refusal}
-use Rattle.peer.specs.Sentences.{ReadAsTheTableSays, Told}
+use Rattle.peer.specs.Sentences.{IncomingTold, ReadAsTheTableSays}
 use Rattle.peer.specs.Incomings.{incomingOf}
-use Rattle.peer.specs.PacketBytes.{Rtm, idIn, lengthAs, lengthIn, offsetAs, offsetIn, sizeIn, tagAs, tagIn, typeIn, typeSaid}
+use Rattle.peer.specs.PacketBytes.{RtmIn, idIn, lengthAs, lengthIn, offsetAs, offsetIn, sizeIn, tagAs, tagIn, typeIn, typeSaid}
 use Rattle.peer.specs.declared.types.Incoming.{Incoming}
 use Rattle.laws.proofs.Choosing.{and-left, and-right, clashing, or-cases, pick-first, pick-second}
 use Rattle.laws.proofs.Comparing.{le-or-lt}
@@ -33,13 +32,13 @@ use Rattle.peer.proofs.FieldsHold.{read-as-the-table-says}
 use Rattle.peer.proofs.PacketsRead.{read-formed}
 
 pub record Says (bs : List ℕ) (h : Incoming) : Type 0 where
-  pub served : (typeIn bs ≡ 4) ⊎ Rtm bs
+  pub served : (typeIn bs ≡ 4) ⊎ RtmIn bs
   pub kind : typeSaid h ≡ typeIn bs
   pub tagged : h .tagged ≡ taggedTold (typeIn bs)
   pub id : h .id ≡ idIn bs
   pub size : h .size ≡ sizeIn bs
   pub offset : h .offset ≡ offsetIn bs
-  pub length : Rtm bs → h .length ≡ lengthIn bs
+  pub length : RtmIn bs → h .length ≡ lengthIn bs
   pub tag : h .tag ≡ tagIn bs
 
 -- ---- the type is one that the engine serves
@@ -75,7 +74,7 @@ module _ (limit : ℕ) (bs : List ℕ) (q : Packet) (e : readOf servedRow limit 
       let (c, e) = pick-first _ _ _ _ (no-packet _ q) e in
       row-served (rowOf (typeIn bs)) bs q e
 
-  is-served : (typeIn bs ≡ 4) ⊎ Rtm bs
+  is-served : (typeIn bs ≡ 4) ⊎ RtmIn bs
   is-served =
       let (r, x, t) = the-row in
       let k = row-kind (typeIn bs) r x in
@@ -87,7 +86,7 @@ module _ (limit : ℕ) (bs : List ℕ) (q : Packet) (e : readOf servedRow limit 
       (or-cases (eqb (r .kind) 4) (leb 64 (r .kind) && leb (r .kind) 69) (served-passes (typeIn bs) r x t))
 
   -- where its parts lie
-  pub bytes-told : words.Told bs (typeIn bs) (flagsIn bs) q
+  pub bytes-told : PacketTold bs (typeIn bs) (flagsIn bs) q
   unfolding ReadTellsItsBytes
   bytes-told = read-tells-its-bytes servedRow limit bs q e
 
@@ -95,7 +94,7 @@ module _ (limit : ℕ) (bs : List ℕ) (q : Packet) (e : readOf servedRow limit 
   unfolding sizeIn
   size-said = read-formed limit bs q e .size ∙ ap length (bytes-told .rest) ∙ length-drop (headIn bs) bs
 
-  pub told : Told bs (incomingOf q)
+  pub told : IncomingTold bs (incomingOf q)
   unfolding ReadAsTheTableSays
   told = read-as-the-table-says limit bs q e
 
@@ -105,19 +104,19 @@ module _ (limit : ℕ) (bs : List ℕ) (q : Packet) (e : readOf servedRow limit 
   Three =
       ((typeIn bs ≡ 64) ⊎ (typeIn bs ≡ 65)) ⊎ (((typeIn bs ≡ 66) ⊎ (typeIn bs ≡ 67)) ⊎ ((typeIn bs ≡ 68) ⊎ (typeIn bs ≡ 69)))
 
-  three : Rtm bs → Three
+  three : RtmIn bs → Three
   unfolding Three
   three (a, b) = ⊎-elim (λ x. inl (two 64 a x)) (λ x. inr (⊎-elim (λ y. inl (two 66 x y)) (λ y. inr (two 68 y b)) (le-or-lt (typeIn bs) 67))) (le-or-lt (typeIn bs) 65)
     where
       two : (n : ℕ) → n ≤ typeIn bs → typeIn bs ≤ n + 1 → (typeIn bs ≡ n) ⊎ (typeIn bs ≡ n + 1)
       two n l m = ⊎-elim (λ x. inl (omega arith)) (λ x. inr (omega arith)) (le-or-lt (typeIn bs) n)
 
-  id-said : (typeIn bs ≡ 4) ⊎ Rtm bs → incomingOf q .id ≡ idIn bs
+  id-said : (typeIn bs ≡ 4) ⊎ RtmIn bs → incomingOf q .id ≡ idIn bs
   unfolding Three
   id-said (inl x) = told .ctsdata x .0
   id-said (inr w) = ⊎-elim (λ x. told .eager x .0) (λ y. ⊎-elim (λ x. told .medium x .0) (λ x. told .long x .0) y) (three w)
 
-  offset-said : (typeIn bs ≡ 4) ⊎ Rtm bs → incomingOf q .offset ≡ offsetIn bs
+  offset-said : (typeIn bs ≡ 4) ⊎ RtmIn bs → incomingOf q .offset ≡ offsetIn bs
   unfolding Three offsetIn pick
   offset-said (inl x) = told .ctsdata x .2 ∙ sym (ap (λ (k : ℕ). offsetAs k bs) x)
   offset-said (inr w) = go (three w)
@@ -130,7 +129,7 @@ module _ (limit : ℕ) (bs : List ℕ) (q : Packet) (e : readOf servedRow limit 
       go (inr (inr (inl x))) = told .long (inl x) .2 ∙ sym (ap (λ (k : ℕ). offsetAs k bs) x)
       go (inr (inr (inr x))) = told .long (inr x) .2 ∙ sym (ap (λ (k : ℕ). offsetAs k bs) x)
 
-  length-said : Rtm bs → incomingOf q .length ≡ lengthIn bs
+  length-said : RtmIn bs → incomingOf q .length ≡ lengthIn bs
   unfolding Three lengthIn pick
   length-said w = go (three w)
     where
@@ -142,7 +141,7 @@ module _ (limit : ℕ) (bs : List ℕ) (q : Packet) (e : readOf servedRow limit 
       go (inr (inr (inl x))) = told .long (inl x) .1 ∙ sym (ap (λ (k : ℕ). lengthAs k bs) x)
       go (inr (inr (inr x))) = told .long (inr x) .1 ∙ sym (ap (λ (k : ℕ). lengthAs k bs) x)
 
-  tag-said : (typeIn bs ≡ 4) ⊎ Rtm bs → incomingOf q .tag ≡ tagIn bs
+  tag-said : (typeIn bs ≡ 4) ⊎ RtmIn bs → incomingOf q .tag ≡ tagIn bs
   unfolding Three tagIn pick
   tag-said (inl x) = told .noTag (ap taggedTold x) ∙ sym (ap (λ (k : ℕ). tagAs k bs) x)
   tag-said (inr w) = go (three w)

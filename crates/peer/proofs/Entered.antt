@@ -15,7 +15,7 @@ use Rattle.peer.specs.Calls.{packet}
 use Rattle.peer.specs.Coverage.{Segment, covers, inside}
 use Rattle.peer.specs.Effects.{extended, grantOf, opened, settledAs, withPhase}
 use Rattle.peer.specs.Formed.{Formed}
-use Rattle.peer.specs.Plain.{Entry, Plain, Target, begunEntry, enterAt, entryAt, extendedRole, grantedEntry, grown, nextAfter, noEntry, receiving, segmentOf}
+use Rattle.peer.specs.Plain.{Entry, Plain, Target, begunEntry, enterAt, extendedRole, grantedEntry, grown, nextAfter, noEntry, receiving, segmentOf, slotEntry}
 use Rattle.peer.specs.State.{clash, freeSlot, overlap, phaseAt, phaseFits, slotWith}
 use Rattle.peer.specs.View.{roleOf}
 use Rattle.peer.specs.declared.types.Inbound.{Inbound}
@@ -35,10 +35,10 @@ use Rattle.peer.proofs.Slots.{phase-other, phase-same}
 use Rattle.peer.proofs.Valid.{Valid, open-within}
 use Rattle.peer.proofs.Verdicts.{Begins, Continues, continued-at}
 
-entry-same : (es : List Entry) (i : ℕ) (e : Entry) → i < length es → entryAt (set es i e) i ≡ e
+entry-same : (es : List Entry) (i : ℕ) (e : Entry) → i < length es → slotEntry (set es i e) i ≡ e
 entry-same es i e h = getD-set-same es i e noEntry h
 
-entry-other : (es : List Entry) (i j : ℕ) (e : Entry) → (j ≡ i → ⊥) → entryAt (set es i e) j ≡ entryAt es j
+entry-other : (es : List Entry) (i j : ℕ) (e : Entry) → (j ≡ i → ⊥) → slotEntry (set es i e) j ≡ slotEntry es j
 entry-other es i j e n = getD-set-other es i j e noEntry n
 
 -- ---- one slot and one entry are replaced
@@ -49,7 +49,7 @@ pub record Change (p : Peer) (ws′ : List ℕ) (mem′ : ℕ → ℕ) (l : Plai
   pub role : roleOf f ≡ e .role
   pub unposted : (r : Receive) (a : ℕ) → f ≡ Phase.Posted r a → ⊥
   pub own : (o : Inbound) → f ≡ Phase.Open o → Held ws′ mem′ o (e .segments)
-  pub others : (k : ℕ) (o : Inbound) → (k ≡ i → ⊥) → phaseAt (p .slots) k ≡ Phase.Open o → Held ws′ mem′ o (entryAt (l .entries) k .segments)
+  pub others : (k : ℕ) (o : Inbound) → (k ≡ i → ⊥) → phaseAt (p .slots) k ≡ Phase.Open o → Held ws′ mem′ o (slotEntry (l .entries) k .segments)
 
 module _ (p : Peer) (ws ws′ : List ℕ) (mem mem′ : ℕ → ℕ) (l : Plain) (i : ℕ) (f : Phase) (e : Entry) (n n′ : ℕ) (a : Agrees p ws mem l)
     (c : Change p ws′ mem′ l i f e) where
@@ -62,22 +62,22 @@ module _ (p : Peer) (ws ws′ : List ℕ) (mem mem′ : ℕ → ℕ) (l : Plain)
   size : i < length (l .entries)
   size = omega (arith, c .inSlots, role-lengths (p .slots) (l .entries) (a .same))
 
-  here : (j : ℕ) → j ≡ i → (phaseAt ss j ≡ f) × (entryAt es j ≡ e)
+  here : (j : ℕ) → j ≡ i → (phaseAt ss j ≡ f) × (slotEntry es j ≡ e)
   unfolding ss es
   here j x = (
     ap (phaseAt (set (p .slots) i (slotWith f))) x ∙ phase-same (p .slots) i f (c .inSlots),
-    ap (entryAt (set (l .entries) i e)) x ∙ entry-same (l .entries) i e size,
+    ap (slotEntry (set (l .entries) i e)) x ∙ entry-same (l .entries) i e size,
   )
 
-  there : (j : ℕ) → (j ≡ i → ⊥) → (phaseAt ss j ≡ phaseAt (p .slots) j) × (entryAt es j ≡ entryAt (l .entries) j)
+  there : (j : ℕ) → (j ≡ i → ⊥) → (phaseAt ss j ≡ phaseAt (p .slots) j) × (slotEntry es j ≡ slotEntry (l .entries) j)
   unfolding ss es
   there j x = (phase-other (p .slots) i j f x, entry-other (l .entries) i j e x)
 
   -- a posted receive is one that was there
-  kept-posted : (j : ℕ) (r : Receive) (b : ℕ) → phaseAt ss j ≡ Phase.Posted r b → (phaseAt (p .slots) j ≡ Phase.Posted r b) × (entryAt es j ≡ entryAt (l .entries) j)
+  kept-posted : (j : ℕ) (r : Receive) (b : ℕ) → phaseAt ss j ≡ Phase.Posted r b → (phaseAt (p .slots) j ≡ Phase.Posted r b) × (slotEntry es j ≡ slotEntry (l .entries) j)
   kept-posted j r b x = go (ℕ-discrete j i)
     where
-      go : Dec (j ≡ i) → (phaseAt (p .slots) j ≡ Phase.Posted r b) × (entryAt es j ≡ entryAt (l .entries) j)
+      go : Dec (j ≡ i) → (phaseAt (p .slots) j ≡ Phase.Posted r b) × (slotEntry es j ≡ slotEntry (l .entries) j)
       go (yes y) = absurd (c .unposted r b (sym (here j y .0) ∙ x))
       go (no y) = (sym (there j y .0) ∙ x, there j y .1)
 
@@ -99,13 +99,13 @@ module _ (p : Peer) (ws ws′ : List ℕ) (mem mem′ : ℕ → ℕ) (l : Plain)
         held = λ j o x. held j o x (ℕ-discrete j i);
       }
     where
-      held : (j : ℕ) (o : Inbound) → phaseAt ss j ≡ Phase.Open o → Dec (j ≡ i) → Held ws′ mem′ o (entryAt es j .segments)
+      held : (j : ℕ) (o : Inbound) → phaseAt ss j ≡ Phase.Open o → Dec (j ≡ i) → Held ws′ mem′ o (slotEntry es j .segments)
       held j o x (yes y) = subst (λ (v : Entry). Held ws′ mem′ o (v .segments)) (sym (here j y .1)) (c .own o (sym (here j y .0) ∙ x))
       held j o x (no y) = subst (λ (v : Entry). Held ws′ mem′ o (v .segments)) (sym (there j y .1)) (c .others j o y (sym (there j y .0) ∙ x))
 
 -- slot i is freed
 pub freed : (p : Peer) (ws : List ℕ) (mem : ℕ → ℕ) (l : Plain) (i : ℕ) → i < length (p .slots)
-    → ((k : ℕ) (o : Inbound) → (k ≡ i → ⊥) → phaseAt (p .slots) k ≡ Phase.Open o → Held ws mem o (entryAt (l .entries) k .segments)) → Change p ws mem l i Phase.Free noEntry
+    → ((k : ℕ) (o : Inbound) → (k ≡ i → ⊥) → phaseAt (p .slots) k ≡ Phase.Open o → Held ws mem o (slotEntry (l .entries) k .segments)) → Change p ws mem l i Phase.Free noEntry
 freed p ws mem l i h others =
     record {
       inSlots = h;
@@ -174,7 +174,7 @@ agrees-kept area p ws mem mem′ l v e a =
           record {
             bits = h .bits;
             below = h .below;
-            content = content-same mem mem′ (o .receive .start) (o .message .length) (entryAt (l .entries) i .segments)
+            content = content-same mem mem′ (o .receive .start) (o .message .length) (slotEntry (l .entries) i .segments)
                 (λ k y. e (o .receive .start + k) (omega (arith, w .inArea, w .inRange))) (h .content);
           };
     }
@@ -186,7 +186,7 @@ pub record Taken (area : ℕ) (p : Peer) (ws′ : List ℕ) (mem′ : ℕ → �
   pub standing : Standing area (p .slots) i o
   pub role : e .role ≡ receiving o
   pub own : Held ws′ mem′ o (e .segments)
-  pub others : (k : ℕ) (q : Inbound) → (k ≡ i → ⊥) → phaseAt (p .slots) k ≡ Phase.Open q → Held ws′ mem′ q (entryAt (l .entries) k .segments)
+  pub others : (k : ℕ) (q : Inbound) → (k ≡ i → ⊥) → phaseAt (p .slots) k ≡ Phase.Open q → Held ws′ mem′ q (slotEntry (l .entries) k .segments)
 
 -- the message is still open, as q
 still-open : (area : ℕ) (p : Peer) (ws′ : List ℕ) (mem′ : ℕ → ℕ) (l : Plain) (i : ℕ) (o q : Inbound) (e e′ : Entry) → Taken area p ws′ mem′ l i o e
@@ -240,27 +240,27 @@ covers-below g gs n h b k e = go (or-cases (inside g k) (covers gs k) e)
 module _ (area limit : ℕ) (p : Peer) (ws : List ℕ) (mem mem′ : ℕ → ℕ) (l : Plain) (h : Incoming) (bytes : List ℕ) (v : Valid area (p .slots))
     (form : Formed h (length bytes)) (words : area ≤ 64 * length ws) (agrees : Agrees p ws mem l) where
   pub more-taken : (i : ℕ) (o : Inbound) → Continues p ws h i o → Wrote area mem mem′ (o .receive .start + h .offset) bytes
-      → Taken area p (marked ws (o .receive .start + h .offset) (length bytes)) mem′ l i o (grown (entryAt (l .entries) i) (segmentOf h bytes))
+      → Taken area p (marked ws (o .receive .start + h .offset) (length bytes)) mem′ l i o (grown (slotEntry (l .entries) i) (segmentOf h bytes))
   more-taken i o c wrote =
       record {
         standing = s;
         role = sym (role-at (p .slots) (l .entries) (agrees .same) i) ∙ ap roleOf (at .1);
         own = record {
-          bits = more-bits ws h bytes o (entryAt (l .entries) i .segments) (omega (arith, s .within .inArea, s .within .inRange)) (was .bits);
-          below = λ long. covers-below (segmentOf h bytes) (entryAt (l .entries) i .segments) (o .message .granted) (omega (arith, form .size, c .inGrant long))
+          bits = more-bits ws h bytes o (slotEntry (l .entries) i .segments) (omega (arith, s .within .inArea, s .within .inRange)) (was .bits);
+          below = λ long. covers-below (segmentOf h bytes) (slotEntry (l .entries) i .segments) (o .message .granted) (omega (arith, form .size, c .inGrant long))
               (was .below long);
-          content = content-written area mem mem′ (o .receive .start) (o .message .length) (segmentOf h bytes) (entryAt (l .entries) i .segments)
+          content = content-written area mem mem′ (o .receive .start) (o .message .length) (segmentOf h bytes) (slotEntry (l .entries) i .segments)
               (omega (arith, s .within .inArea, s .within .inRange)) wrote (was .content);
         };
         others = λ k q n e.
             let inside = c .inLength (s .within .inLength) in
             let other = agrees .held k q e in
             record {
-              bits = bits-same ws _ (q .receive .start) (q .message .length) (entryAt (l .entries) k .segments)
+              bits = bits-same ws _ (q .receive .start) (q .message .length) (slotEntry (l .entries) k .segments)
                   (others-marked area p i o v s ws (o .receive .start + h .offset) (length bytes) (omega arith) (omega (arith, form .size, s .within .inRange)) k q n e)
                   (other .bits);
               below = other .below;
-              content = content-same mem mem′ (q .receive .start) (q .message .length) (entryAt (l .entries) k .segments)
+              content = content-same mem mem′ (q .receive .start) (q .message .length) (slotEntry (l .entries) k .segments)
                   (others-kept area p i o v s mem mem′ (o .receive .start + h .offset) bytes wrote (omega arith) (omega (arith, form .size, s .within .inRange)) k q n e)
                   (other .content);
             };
@@ -272,12 +272,12 @@ module _ (area limit : ℕ) (p : Peer) (ws : List ℕ) (mem mem′ : ℕ → ℕ
       at : (i < length (p .slots)) × (phaseAt (p .slots) i ≡ Phase.Open o)
       at = continued-at p ws h i o c
 
-      was : Held ws mem o (entryAt (l .entries) i .segments)
+      was : Held ws mem o (slotEntry (l .entries) i .segments)
       was = agrees .held i o (at .1)
 
   pub begun-taken : (i : ℕ) (r : Receive) → Begins p h i r → Wrote area mem mem′ (r .start + h .offset) bytes
       → Taken area p (marked (cleared ws (r .start) (r .capacity)) (r .start + h .offset) (length bytes)) mem′ l i (opened r h)
-      (begunEntry r (entryAt (l .entries) i .serial) h (segmentOf h bytes))
+      (begunEntry r (slotEntry (l .entries) i .serial) h (segmentOf h bytes))
   begun-taken i r b wrote =
       record {
         standing = s;
@@ -293,13 +293,13 @@ module _ (area limit : ℕ) (p : Peer) (ws : List ℕ) (mem mem′ : ℕ → ℕ
         others = λ k q n e.
             let other = agrees .held k q e in
             record {
-              bits = bits-same (cleared ws (r .start) (r .capacity)) _ (q .receive .start) (q .message .length) (entryAt (l .entries) k .segments)
+              bits = bits-same (cleared ws (r .start) (r .capacity)) _ (q .receive .start) (q .message .length) (slotEntry (l .entries) k .segments)
                   (others-marked area p i (opened r h) v s (cleared ws (r .start) (r .capacity)) (r .start + h .offset) (length bytes) (omega arith)
                   (omega (arith, form .size, form .inside (b .matched .rtm), b .inCapacity)) k q n e)
-                  (bits-same ws (cleared ws (r .start) (r .capacity)) (q .receive .start) (q .message .length) (entryAt (l .entries) k .segments)
+                  (bits-same ws (cleared ws (r .start) (r .capacity)) (q .receive .start) (q .message .length) (slotEntry (l .entries) k .segments)
                   (others-cleared area p i (opened r h) v s ws k q n e) (other .bits));
               below = other .below;
-              content = content-same mem mem′ (q .receive .start) (q .message .length) (entryAt (l .entries) k .segments)
+              content = content-same mem mem′ (q .receive .start) (q .message .length) (slotEntry (l .entries) k .segments)
                   (others-kept area p i (opened r h) v s mem mem′ (r .start + h .offset) bytes wrote (omega arith)
                   (omega (arith, form .size, form .inside (b .matched .rtm), b .inCapacity)) k q n e)
                   (other .content);

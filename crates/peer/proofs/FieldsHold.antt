@@ -9,7 +9,7 @@ use mathlib.Core.Logic.{⊎-elim}
 use mathlib.Core.Path.{_≡_, refl, sym, ap, _∙_, subst}
 use Rattle.laws.specs.Choose.{pick}
 use Rattle.protocol.specs.ByType.{taggedTold}
-use Rattle.protocol.specs.FieldNumbers.{fieldsIn, numberAt}
+use Rattle.protocol.specs.FieldNumbers.{fieldIn, fieldsIn}
 use Rattle.protocol.specs.Layout.{layout, placeOf, tag}
 use Rattle.protocol.specs.Lengths.{lengthsFit}
 use Rattle.protocol.specs.Reading.{headerIn, packetIn, readOf}
@@ -19,7 +19,7 @@ use Rattle.protocol.specs.declared.table.Shape.the-variants.{Cts}
 use Rattle.protocol.specs.declared.table.TypeRow.{TypeRow}
 use Rattle.protocol.specs.declared.types.Packet.{Packet}
 use Rattle.protocol.specs.declared.types.Read.{Read}
-use Rattle.peer.specs.Sentences.{ReadAsTheTableSays, Told}
+use Rattle.peer.specs.Sentences.{IncomingTold, ReadAsTheTableSays}
 use Rattle.peer.specs.Incomings.{incomingOf}
 use Rattle.peer.specs.PacketBytes.{typeNumber, typeSaid}
 use Rattle.peer.specs.declared.types.Incoming.{Incoming}
@@ -93,7 +93,7 @@ module _ (limit : ℕ) (bs : List ℕ) (q : Packet) (e : readOf servedRow limit 
       ap (λ (x : Packet). x .tagged) p ∙ tagged-in-words (getD bs 0 0) r (a .row)
 
   size-read : getD bs 0 0 ≡ 4 → incomingOf q .size ≡ leAt 8 bs 8
-  unfolding rowOf rowIn pick incomingOf packetIn headerIn fieldsIn numberAt layout lengthsFit
+  unfolding rowOf rowIn pick incomingOf packetIn headerIn fieldsIn fieldIn layout lengthsFit
   size-read x =
       let (a, p) = read-by-row 4 (rowAt 1) refl x in
       let n : ℕ = length bs - dataFrom (rowAt 1) (leAt 2 bs 2) bs in
@@ -106,8 +106,8 @@ module _ (limit : ℕ) (bs : List ℕ) (q : Packet) (e : readOf servedRow limit 
       ap (λ (y : Packet). y .header .fields .tag) p
       ∙ number-none r bs tag (sound (getD bs 0 0) r (a .row)) (plain-untagged (getD bs 0 0) r (a .row) (tagged-in-words (getD bs 0 0) r (a .row) ∙ x))
 
-  told : Told bs (incomingOf q)
-  unfolding rowOf rowIn pick incomingOf packetIn headerIn fieldsIn numberAt layout
+  told : IncomingTold bs (incomingOf q)
+  unfolding rowOf rowIn pick incomingOf packetIn headerIn fieldsIn fieldIn layout
   told =
       record {
         kind = kind-read;

@@ -14,7 +14,7 @@ use Rattle.peer.specs.Claims.{ByteFrom, BytesBySegments, BytesClaim, Don
 use Rattle.peer.specs.Coverage.{Segment, byteOf, covers, inside}
 use Rattle.peer.specs.Expected.{expected, targetOfCall}
 use Rattle.peer.specs.Sentences.{SomeOfIsSomeOffset}
-use Rattle.peer.specs.Plain.{Entry, Plain, Target, entryAt, segmentOf}
+use Rattle.peer.specs.Plain.{Entry, Plain, Target, segmentOf, slotEntry}
 use Rattle.peer.specs.declared.types.Answer.{Answer}
 use Rattle.peer.specs.declared.types.Inbound.{Inbound}
 use Rattle.peer.specs.declared.types.Incoming.{Incoming}
@@ -99,13 +99,13 @@ none-of f at n k e h =
     ⊎-elim (λ x. clashing (someOf f at n) (some-of-is-some-offset f at n .1 (at + k, omega arith, omega arith, x)) e) (λ x. x) (tested (f (at + k)))
 
 segments-apart : (l : Plain) (h : Incoming) (bytes : List ℕ) (t : Target) (o : Inbound) → h .size ≡ length bytes
-    → ((j : ℕ) → Apart (entryAt (l .entries) j .segments)) → Aims l h bytes t o → Apart (t .entry .segments)
+    → ((j : ℕ) → Apart (slotEntry (l .entries) j .segments)) → Aims l h bytes t o → Apart (t .entry .segments)
 unfolding covers
 segments-apart l h bytes _ _ size f (goesOn i o g) = (
   λ k x.
       let w = inside-end (segmentOf h bytes) k x in
-      ap (covers (entryAt (l .entries) i .segments)) (omega arith)
-      ∙ none-of (covers (entryAt (l .entries) i .segments)) (h .offset) (h .size) (k - h .offset) (g .new) (omega arith),
+      ap (covers (slotEntry (l .entries) i .segments)) (omega arith)
+      ∙ none-of (covers (slotEntry (l .entries) i .segments)) (h .offset) (h .size) (k - h .offset) (g .new) (omega arith),
   f i,
 )
 segments-apart l h bytes _ _ size f (begins i r serial m) = (λ k x. refl, tt)

@@ -13,7 +13,7 @@ use Rattle.peer.specs.Calls.{Call, peerStep}
 use Rattle.peer.specs.Checks.{AnswersAreChecked, HistoriesAreChecked}
 use Rattle.peer.specs.Claims.{isMatch, history, plainAfter}
 use Rattle.peer.specs.Expected.{enter, expected}
-use Rattle.peer.specs.Plain.{Plain, Target, entryAt, freshPlain}
+use Rattle.peer.specs.Plain.{Plain, Target, freshPlain, slotEntry}
 use Rattle.peer.specs.State.{freeSlot, freshPeer, phaseAt, slotCount}
 use Rattle.peer.specs.View.{OneEach, roleOf, viewIn}
 use Rattle.peer.specs.declared.types.Answer.{Answer}
@@ -102,7 +102,7 @@ run-one : (area limit : ℕ) (l : Plain) → Run area l → OneEach (viewIn l)
 run-one area limit l r id j k o m x y =
     one-each area limit (r .peer) (r .words) (valid-fits area (r .peer) (r .valid)) id j k o m (role j ∙ x .0, x .1) (role k ∙ y .0, y .1)
   where
-    role : (i : ℕ) → roleOf (phaseAt (r .peer .slots) i) ≡ entryAt (l .entries) i .role
+    role : (i : ℕ) → roleOf (phaseAt (r .peer .slots) i) ≡ slotEntry (l .entries) i .role
     role i = role-at (r .peer .slots) (l .entries) (r .agrees .same) i
 
 pub histories-are-checked : HistoriesAreChecked

@@ -27,7 +27,7 @@ use Rattle.peer.specs.Sentences.{FoundIsTheLowestOpen}
 use Rattle.peer.specs.Incomings.{incomingOf, isLong, isRtm}
 use Rattle.peer.specs.Matching.{ahead, sameMessage}
 use Rattle.peer.specs.Origins.{Origin, noteOrigin}
-use Rattle.peer.specs.Plain.{Entry, Plain, Role, Target, begunAt, enterAt, entryAt, firstPosted, freshPlain, grantedEntry, idle, moreAt, noEntry, nowhere, openIn, posted, put, receiving, roles, segmentOf, settle, waiting}
+use Rattle.peer.specs.Plain.{Entry, Plain, Role, Target, begunAt, enterAt, firstPosted, freshPlain, grantedEntry, idle, moreAt, noEntry, nowhere, openIn, posted, put, receiving, roles, segmentOf, settle, slotEntry, waiting}
 use Rattle.peer.specs.State.{slotCount}
 use Rattle.peer.specs.declared.types.Answer.{Answer}
 use Rattle.peer.specs.declared.types.Fit.{Fit}
@@ -75,9 +75,9 @@ pub data Belongs (h : Incoming) (o : Inbound) : Type 0 where
 -- to the message o that is open in entry i, of which it brings bytes that are not in yet
 pub record Goes (l : Plain) (h : Incoming) (i : ℕ) (o : Inbound) : Type 0 where
   pub found : Open l h i o
-  pub role : entryAt (l .entries) i .role ≡ receiving o
+  pub role : slotEntry (l .entries) i .role ≡ receiving o
   pub belongs : Belongs h o
-  pub new : someOf (covers (entryAt (l .entries) i .segments)) (h .offset) (h .size) ≡ false
+  pub new : someOf (covers (slotEntry (l .entries) i .segments)) (h .offset) (h .size) ≡ false
 
 pub in-grant : {h : Incoming} {o : Inbound} → Belongs h o → isLong (o .message .shape) ≡ true → h .offset + h .size ≤ o .message .granted
 in-grant {h} {o} (again r s) long = absurd (medium-only (o .message) h s long)
@@ -184,7 +184,7 @@ refused-walked limit l (report i) k = (tt, asBefore nowhere _ refl (λ gs. refl)
 -- why it is refused
 pub data Reason (l : Plain) (h : Incoming) : Refusal → Type 0 where
   differing : (i : ℕ) (o : Inbound) → Open l h i o → isRtm (h .shape) ≡ true → sameMessage (o .message) h ≡ false → Reason l h differs
-  repeating : (i : ℕ) (o : Inbound) → Open l h i o → Belongs h o → someOf (covers (entryAt (l .entries) i .segments)) (h .offset) (h .size) ≡ true
+  repeating : (i : ℕ) (o : Inbound) → Open l h i o → Belongs h o → someOf (covers (slotEntry (l .entries) i .segments)) (h .offset) (h .size) ≡ true
       → Reason l h repeated
   beyond : (i : ℕ) (o : Inbound) → Open l h i o → isRtm (h .shape) ≡ false → isLong (o .message .shape) ≡ true
       → o .message .granted < h .offset + h .size → Reason l h beyondGrant
@@ -209,9 +209,9 @@ module _ (limit : ℕ) (l : Plain) (h : Incoming) (body : List ℕ) where
   more : (i : ℕ) (o : Inbound) → Open l h i o → Belongs h o → R (expectMore limit l h body i o)
   unfolding expectMore FoundIsTheLowestOpen
   more i o e b =
-      let role : entryAt (l .entries) i .role ≡ receiving o =
+      let role : slotEntry (l .entries) i .role ≡ receiving o =
       sym (role-of-entry (l .entries) i) ∙ found-is-the-lowest-open (roles (l .entries)) (h .id) i o .0 e .0 .0 in
-      branch R (someOf (covers (entryAt (l .entries) i .segments)) (h .offset) (h .size)) _ _ (λ x. shut repeated (repeating i o e b x))
+      branch R (someOf (covers (slotEntry (l .entries) i .segments)) (h .offset) (h .size)) _ _ (λ x. shut repeated (repeating i o e b x))
       (λ x. accepted _ o (goesOn i o (record { found = e; role = role; belongs = b; new = x })) (λ y. absurd (false≢true y)))
 
   further : (i : ℕ) (o : Inbound) → Open l h i o → isRtm (h .shape) ≡ true → R (expectAgain limit l h body i o)
@@ -306,16 +306,16 @@ walked area limit l (packet bs room) =
     go (Read.Refused k) e = refused-walked limit l (packet bs room) k
     go (Read.Packet q) e = ruled-walked limit l bs room q e (ruled limit l (incomingOf q) (bytesAt bs (q .«data»)))
 walked area limit l (cancel i) =
-    branch (Walked limit l (cancel i) nowhere) (leb slotCount i) _ _ (λ x. refused-walked limit l (cancel i) badSlot) (λ x. go (entryAt (l .entries) i .role))
+    branch (Walked limit l (cancel i) nowhere) (leb slotCount i) _ _ (λ x. refused-walked limit l (cancel i) badSlot) (λ x. go (slotEntry (l .entries) i .role))
   where
     go : (u : Role) → Walked limit l (cancel i) nowhere (expectCancel i u)
     go idle = refused-walked limit l (cancel i) badSlot
     go (waiting r) = (tt, withCancel nowhere i (λ gs. refl))
     go (receiving o) = (tt, withCancel nowhere i (λ gs. refl))
 walked area limit l (report i) =
-    branch (Walked limit l (report i) nowhere) (leb slotCount i) _ _ (λ x. refused-walked limit l (report i) badSlot) (λ x. go (entryAt (l .entries) i .role))
+    branch (Walked limit l (report i) nowhere) (leb slotCount i) _ _ (λ x. refused-walked limit l (report i) badSlot) (λ x. go (slotEntry (l .entries) i .role))
   where
-    go : (u : Role) → Walked limit l (report i) nowhere (expectReport (entryAt (l .entries) i .segments) u)
+    go : (u : Role) → Walked limit l (report i) nowhere (expectReport (slotEntry (l .entries) i .segments) u)
     go idle = refused-walked limit l (report i) badSlot
     go (waiting r) = refused-walked limit l (report i) badSlot
     go (receiving o) = (tt, asBefore nowhere _ refl (λ gs. refl))
@@ -331,7 +331,7 @@ entered area limit l c = walked area limit l c .1
 -- ---- what holds of every entry
 
 abbrev pub Every : (Entry → Type 0) → Plain → Type 0
-Every P l = (j : ℕ) → P (entryAt (l .entries) j)
+Every P l = (j : ℕ) → P (slotEntry (l .entries) j)
 
 -- an entry's property that each change of an entry keeps
 pub record Lasting (limit : ℕ) (P : Entry → Type 0) : Type 0 where

@@ -15,7 +15,7 @@ use Rattle.peer.specs.Effects.{extended, grantOf, opened}
 use Rattle.peer.specs.Expected.{expected, targetOfCall}
 use Rattle.peer.specs.Formed.{Formed}
 use Rattle.peer.specs.Incomings.{isLong, isRtm}
-use Rattle.peer.specs.Plain.{Entry, Plain, Target, begunEntry, entryAt, extendedRole, grantedEntry, grown, receiving, segmentOf}
+use Rattle.peer.specs.Plain.{Entry, Plain, Target, begunEntry, extendedRole, grantedEntry, grown, receiving, segmentOf, slotEntry}
 use Rattle.peer.specs.declared.types.Answer.{Answer}
 use Rattle.peer.specs.declared.types.Inbound.{Inbound}
 use Rattle.peer.specs.declared.types.Incoming.{Incoming}
@@ -69,7 +69,7 @@ paid-first limit h bytes r serial f rtm =
 
 pays-taken : (limit : ℕ) (l : Plain) (h : Incoming) (bytes : List ℕ) (t : Target) (o : Inbound) → Formed h (length bytes) → Every (Pays limit) l
     → Aims l h bytes t o → Paid limit (t .entry) o
-pays-taken limit l h bytes _ _ form f (goesOn i o g) = paid-on limit (entryAt (l .entries) i) o h bytes (form .size) (in-grant (g .belongs)) (f i o (g .role))
+pays-taken limit l h bytes _ _ form f (goesOn i o g) = paid-on limit (slotEntry (l .entries) i) o h bytes (form .size) (in-grant (g .belongs)) (f i o (g .role))
 pays-taken limit l h bytes _ _ form f (begins i r serial m) = paid-first limit h bytes r serial form (m .rtm)
 
 -- ---- a grant more

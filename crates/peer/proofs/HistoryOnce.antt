@@ -12,7 +12,7 @@ use Rattle.laws.specs.Choose.{pick}
 use Rattle.peer.specs.Calls.{Call}
 use Rattle.peer.specs.Claims.{Distinct, Once, answersOf, isDone, isMatch, numbersOf, receivesOf, takes}
 use Rattle.peer.specs.Expected.{enter, expected, targetOfCall}
-use Rattle.peer.specs.Plain.{Entry, Plain, Role, Target, entryAt, extendedRole, freshPlain, grantedEntry, idle, nextAfter, noEntry, posted, receiving, waiting}
+use Rattle.peer.specs.Plain.{Entry, Plain, Role, Target, extendedRole, freshPlain, grantedEntry, idle, nextAfter, noEntry, posted, receiving, slotEntry, waiting}
 use Rattle.peer.specs.State.{slotCount}
 use Rattle.peer.specs.declared.types.Answer.{Answer}
 use Rattle.peer.specs.declared.types.Inbound.{Inbound}
@@ -34,10 +34,10 @@ waits (waiting r) = true
 waits (receiving o) = false
 
 abbrev pub roleAt : Plain → ℕ → Role
-roleAt l j = entryAt (l .entries) j .role
+roleAt l j = slotEntry (l .entries) j .role
 
 abbrev pub serialAt : Plain → ℕ → ℕ
-serialAt l j = entryAt (l .entries) j .serial
+serialAt l j = slotEntry (l .entries) j .serial
 
 -- no two used entries have one serial, and the next post has none of theirs
 pub record Numbered (l : Plain) : Type 0 where
@@ -55,7 +55,7 @@ pub record Was (d e : Entry) : Type 0 where
 -- entry j was there, or is posted at this place
 abbrev pub Came : ℕ → Plain → Plain → ℕ → Type 0
 Came place l l′ j =
-    Was (entryAt (l .entries) j) (entryAt (l′ .entries) j) ⊎ ((j ≡ place) × (serialAt l′ j ≡ l .posts) × (l .posts < l′ .posts))
+    Was (slotEntry (l .entries) j) (slotEntry (l′ .entries) j) ⊎ ((j ≡ place) × (serialAt l′ j ≡ l .posts) × (l .posts < l′ .posts))
 
 -- every used entry was there, but for one that is posted
 pub record Passes (l l′ : Plain) : Type 0 where
@@ -72,7 +72,7 @@ was-same d e x u =
     }
 
 -- entry i becomes e
-passes-set : (l : Plain) (n i : ℕ) (e : Entry) → (used (e .role) ≡ true → Was (entryAt (l .entries) i) e)
+passes-set : (l : Plain) (n i : ℕ) (e : Entry) → (used (e .role) ≡ true → Was (slotEntry (l .entries) i) e)
     → Passes l (record { next = n; posts = l .posts; entries = set (l .entries) i e })
 passes-set l n i e f =
     record {
@@ -81,11 +81,11 @@ passes-set l n i e f =
       came = λ j u. inl (go j u (set-cases (l .entries) i e noEntry j));
     }
   where
-    go : (j : ℕ) → used (entryAt (set (l .entries) i e) j .role) ≡ true
-        → ((j ≡ i) × (entryAt (set (l .entries) i e) j ≡ e)) ⊎ (entryAt (set (l .entries) i e) j ≡ entryAt (l .entries) j)
-        → Was (entryAt (l .entries) j) (entryAt (set (l .entries) i e) j)
+    go : (j : ℕ) → used (slotEntry (set (l .entries) i e) j .role) ≡ true
+        → ((j ≡ i) × (slotEntry (set (l .entries) i e) j ≡ e)) ⊎ (slotEntry (set (l .entries) i e) j ≡ slotEntry (l .entries) j)
+        → Was (slotEntry (l .entries) j) (slotEntry (set (l .entries) i e) j)
     go j u (inl x) =
-        subst₂ (λ (k : ℕ) (d : Entry). Was (entryAt (l .entries) k) d) (sym (x .0)) (sym (x .1)) (f (ap (λ (d : Entry). used (d .role)) (sym (x .1)) ∙ u))
+        subst₂ (λ (k : ℕ) (d : Entry). Was (slotEntry (l .entries) k) d) (sym (x .0)) (sym (x .1)) (f (ap (λ (d : Entry). used (d .role)) (sym (x .1)) ∙ u))
     go j u (inr x) = was-same _ _ x u
 
 passes-post : (l : Plain) (i : ℕ) (r : Receive) → Passes l (posted l i r)
@@ -106,7 +106,7 @@ aims-used (goesOn i o g) = (ap used (g .role), refl)
 aims-used (begins i r serial m) = (ap used (m .chosen .waits), m .chosen .number)
 
 taken-was : {limit : ℕ} {l : Plain} {c : Call} {t : Target} → Taken limit l c t → (e : Entry) → e .serial ≡ t .entry .serial → waits (e .role) ≡ false
-    → Was (entryAt (l .entries) (t .index)) e
+    → Was (slotEntry (l .entries) (t .index)) e
 taken-was w e s n =
     record {
       usedBefore = aims-used (w .aims) .0;

@@ -51,7 +51,7 @@ use Rattle.peer.proofs.OriginsHold.{begun-by}
 use Rattle.peer.proofs.PacketChecked.{fits-words}
 use Rattle.peer.proofs.PacketsRead.{read-formed}
 use Rattle.peer.proofs.Roles.{renumbered-role, open-same, role-of-slot}
-use Rattle.peer.proofs.Slots.{entries-oldest, entriesOf, entry-at, entryOf, found-open, phase-other, phase-same, vacant}
+use Rattle.peer.proofs.Slots.{entries-oldest, entriesOf, entryOf, found-open, phase-other, phase-same, slot-entry, vacant}
 use Rattle.peer.proofs.StepCases.{StepCase, begins, cancelled, continues, posted, refused, reported, step-case, truncated}
 use Rattle.peer.proofs.Valid.{Valid, fits-valid}
 use Rattle.peer.proofs.Verdicts.{Begins, Continues, CutOff, Matched, chosen-at, continued-at}
@@ -144,7 +144,7 @@ module _ (p : Peer) (ws : List ℕ) (eight : length (p .slots) ≡ 8) where
           waits = chosen-at p h i r m .1;
           fit = fits-words (viewOf p ws) bs h says r .0 (first .fit);
           oldest = λ j s b x y.
-              let same = entry-at none (p .slots) j ∙ ap (entryOf none) x in
+              let same = slot-entry none (p .slots) j ∙ ap (entryOf none) x in
               subst (λ (n : ℕ). m .age ≤ n) (ap (λ (e : Entry). e .serial) same)
               (first .first j s (ap (λ (e : Entry). e .role) same) (fits-words (viewOf p ws) bs h says s .1 y));
         }

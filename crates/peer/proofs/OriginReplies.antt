@@ -15,7 +15,7 @@ use Rattle.peer.specs.Calls.{Call}
 use Rattle.peer.specs.Claims.{SegmentIn, WriteClaim, history}
 use Rattle.peer.specs.Coverage.{Segment}
 use Rattle.peer.specs.Effects.{grantOf}
-use Rattle.peer.specs.Expected.{expected, expectedReply, messageIn, messageOf}
+use Rattle.peer.specs.Expected.{expected, expectedReply, messageOf, targetMessage}
 use Rattle.laws.specs.Choose.{pick}
 use Rattle.peer.specs.Sentences.{LongIs68And69}
 use Rattle.peer.specs.Incomings.{isLong}
@@ -90,13 +90,13 @@ module _ (limit : ℕ) (low : 64 ≤ limit) (l : Plain) (c : Call) (t : Target) 
       size : m .length ≡ leAt 8 (g .rtm) 8
       size = k .begun .size ∙ long-length (g .rtm) long
 
-      message : messageIn t ≡ m
+      message : targetMessage t ≡ m
       message = ap messageOf (k .role)
 
-      send : messageIn t .«send_id» ≡ leAt 4 (g .rtm) 16
+      send : targetMessage t .«send_id» ≡ leAt 4 (g .rtm) 16
       send = ap (λ (x : Message). x .«send_id») message ∙ k .begun .long long .0
 
-      recv : messageIn t .id ≡ idIn (g .rtm)
+      recv : targetMessage t .id ≡ idIn (g .rtm)
       recv = ap (λ (x : Message). x .id) message ∙ k .begun .id
 
   reply-claim : (a : Answer) → Outcome limit l c t a → OriginClaim g t a → ReplyClaim g a (expectedReply t a)

@@ -18,7 +18,7 @@ use Rattle.peer.specs.Effects.{opened}
 use Rattle.peer.specs.Expected.{enter, expected, targetOfCall}
 use Rattle.peer.specs.Incomings.{incomingOf, isRtm}
 use Rattle.peer.specs.Origins.{AcceptedFromOrigin, BegunBy, Comes, ComparedWithTheMatchingPacket, FromOrigin, OpenIsTheMatchingPackets, Origin, OriginClaim, noOrigin, noOrigins, noteOrigin, originAt, originOfCall, originsFrom, originsOf}
-use Rattle.peer.specs.Plain.{Entry, Plain, Role, Target, entryAt, extendedRole, freshPlain, grantedEntry, idle, noEntry, posted, put, receiving, settle, waiting}
+use Rattle.peer.specs.Plain.{Entry, Plain, Role, Target, extendedRole, freshPlain, grantedEntry, idle, noEntry, posted, put, receiving, settle, slotEntry, waiting}
 use Rattle.peer.specs.State.{slotCount}
 use Rattle.peer.specs.declared.types.Answer.{Answer}
 use Rattle.peer.specs.declared.types.Inbound.{Inbound}
@@ -51,11 +51,11 @@ begun-by limit bs q e rtm r =
 -- ---- the entries and their origins, slot by slot
 
 abbrev pub Trace : Plain → List Origin → Type 0
-Trace l gs = (length (l .entries) ≡ length gs) × ((j : ℕ) → FromOrigin (originAt gs j) (entryAt (l .entries) j .role))
+Trace l gs = (length (l .entries) ≡ length gs) × ((j : ℕ) → FromOrigin (originAt gs j) (slotEntry (l .entries) j .role))
 
 -- an entry and its origin replaced
 set-both : (es : List Entry) (gs : List Origin) (i : ℕ) (e : Entry) (g : Origin) → length es ≡ length gs → FromOrigin g (e .role)
-    → ((j : ℕ) → FromOrigin (originAt gs j) (entryAt es j .role)) → (j : ℕ) → FromOrigin (originAt (set gs i g) j) (entryAt (set es i e) j .role)
+    → ((j : ℕ) → FromOrigin (originAt gs j) (slotEntry es j .role)) → (j : ℕ) → FromOrigin (originAt (set gs i g) j) (slotEntry (set es i e) j .role)
 set-both [] gs i e g n p f j = tt
 set-both (x ∷ es) [] i e g n p f j = absurd (omega arith)
 set-both (x ∷ es) (y ∷ gs) zero e g n p f zero = p
@@ -65,14 +65,14 @@ set-both (x ∷ es) (y ∷ gs) (suc i) e g n p f (suc j) = set-both es gs i e g 
 
 -- an entry replaced, its origin kept
 set-entry : (es : List Entry) (gs : List Origin) (i : ℕ) (e : Entry) → FromOrigin (originAt gs i) (e .role)
-    → ((j : ℕ) → FromOrigin (originAt gs j) (entryAt es j .role)) → (j : ℕ) → FromOrigin (originAt gs j) (entryAt (set es i e) j .role)
+    → ((j : ℕ) → FromOrigin (originAt gs j) (slotEntry es j .role)) → (j : ℕ) → FromOrigin (originAt gs j) (slotEntry (set es i e) j .role)
 set-entry es gs i e p f j =
     ⊎-elim (λ w. subst₂ (λ (k : ℕ) (x : Entry). FromOrigin (originAt gs k) (x .role)) (sym (w .0)) (sym (w .1)) p)
     (λ w. subst (λ (x : Entry). FromOrigin (originAt gs j) (x .role)) (sym w) (f j))
     (set-cases es i e noEntry j)
 
 -- a used entry stands among the entries
-used-inside : (es : List Entry) (i : ℕ) → (entryAt es i .role ≡ idle → ⊥) → i < length es
+used-inside : (es : List Entry) (i : ℕ) → (slotEntry es i .role ≡ idle → ⊥) → i < length es
 used-inside [] i n = absurd (n refl)
 used-inside (x ∷ es) zero n = omega arith
 used-inside (x ∷ es) (suc i) n = let h = used-inside es i n in omega arith
@@ -86,7 +86,7 @@ module _ (limit : ℕ) (l : Plain) (gs : List Origin) (from : Trace l gs) where
   after t bs = pick (t .matched) (set gs (t .index) (record { posted = originAt gs (t .index) .posted; rtm = bs })) gs
 
   -- a receive that waits has its origin
-  there : (i : ℕ) (r : Receive) → entryAt (l .entries) i .role ≡ waiting r → i < length gs
+  there : (i : ℕ) (r : Receive) → slotEntry (l .entries) i .role ≡ waiting r → i < length gs
   there i r e =
       subst (λ (n : ℕ). i < n) (from .0)
       (used-inside (l .entries) i (λ x. absurd (let y : waiting r ≡ idle = sym e ∙ x in let z : _≡_ {A = ℕ} 0 1 = cc in omega arith)))

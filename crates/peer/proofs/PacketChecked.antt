@@ -14,7 +14,7 @@ use Rattle.peer.specs.Sentences.{AheadIsTheDistance, LongIs68And69, Othe
 use Rattle.peer.specs.Incomings.{isLong}
 use Rattle.peer.specs.Matching.{ahead, fits, sameMessage}
 use Rattle.peer.specs.Says.{refused, said, say}
-use Rattle.peer.specs.PacketBytes.{Rtm, idIn, typeIn, typeOf, typeSaid}
+use Rattle.peer.specs.PacketBytes.{RtmIn, idIn, typeIn, typeOf, typeSaid}
 use Rattle.peer.specs.Plain.{waiting}
 use Rattle.peer.specs.View.{OpenIn, View}
 use Rattle.peer.specs.declared.types.Answer.{Answer}
@@ -40,7 +40,7 @@ unfolding LongIs68And69
 long-words m = long-is-68-and-69 (m .shape) (m .tagged)
 
 module _ (v : View) (bs : List ℕ) (h : Incoming) (s : Says bs h) where
-  differs-words : Rtm bs → (m : Message) → sameMessage m h ≡ false → Differs bs m
+  differs-words : RtmIn bs → (m : Message) → sameMessage m h ≡ false → Differs bs m
   unfolding OtherMessageDiffers
   differs-words w m x = go (other-message-differs m h .0 x)
     where
@@ -50,7 +50,7 @@ module _ (v : View) (bs : List ℕ) (h : Incoming) (s : Says bs h) where
       go (inr (inr (inl n))) = inr (inr (inl (λ y. n (s .tag ∙ y))))
       go (inr (inr (inr (n, m)))) = inr (inr (inr (λ y. n (s .kind ∙ y), λ y. m (s .kind ∙ y))))
 
-  same-words : Rtm bs → (m : Message) → sameMessage m h ≡ true → Differs bs m → ⊥
+  same-words : RtmIn bs → (m : Message) → sameMessage m h ≡ true → Differs bs m → ⊥
   unfolding SameMessageIsAllEqual
   same-words w m x d = go (same-message-is-all-equal m h .0 x) d
     where
@@ -96,17 +96,17 @@ module _ (area limit : ℕ) (v : View) (bs : List ℕ) (h : Incoming) (s : Says 
   Refuses k = said a ≡ say refused (k ∷ [])
 
   -- an RTM's data checks do not fail, and CTSDATA's RTM checks do not
-  past-data : Rtm bs → Unrefused a → G (dataLate bs ∷ dataBeyond bs ∷ dataRepeats bs ∷ [])
+  past-data : RtmIn bs → Unrefused a → G (dataLate bs ∷ dataBeyond bs ∷ dataRepeats bs ∷ [])
   past-data w u = inr (λ x. omega (arith, w .0, x .0), inr (λ x. omega (arith, w .0, x .0), inr (λ x. omega (arith, w .0, x .0), u)))
 
   past-rtm : typeIn bs ≡ 4 → G (dataLate bs ∷ dataBeyond bs ∷ dataRepeats bs ∷ []) → G (judgedChecks bs)
   past-rtm e g = inr (λ x. no (x .0), inr (λ x. no (x .0), inr (λ x. no (x .0), inr (λ x. no (x .0), inr (λ x. no (x .0), g)))))
     where
-      no : Rtm bs → ⊥
+      no : RtmIn bs → ⊥
       no w = omega (arith, w .0)
 
   -- "RTMs: if open, 14, 16"
-  module _ (w : Rtm bs) (i : ℕ) (o : Inbound) (sole : Sole v (idIn bs) i o) where
+  module _ (w : RtmIn bs) (i : ℕ) (o : Inbound) (sole : Sole v (idIn bs) i o) where
     pub open-differs : sameMessage (o .message) h ≡ false → Refuses 14 → G (judgedChecks bs)
     open-differs x e = inl ((w, (i, o, sole .here, differs-words v bs h s w (o .message) x)), e)
 
@@ -124,7 +124,7 @@ module _ (area limit : ℕ) (v : View) (bs : List ℕ) (h : Incoming) (s : Says 
           fresh (r, (j, m, z, t)) = true≢false (sym (repeats-words v bs h s i .1 (subst (Repeats v bs) (sole .only j m z .0) t)) ∙ y)
 
   -- "if not open, 15, 12, 13"
-  module _ (w : Rtm bs) (n : NotOpen v bs) (small : v .next < 2 ^ 32) (bytes : (i : ℕ) → getD bs i 0 < 256) where
+  module _ (w : RtmIn bs) (n : NotOpen v bs) (small : v .next < 2 ^ 32) (bytes : (i : ℕ) → getD bs i 0 < 256) where
     d : ℕ
     d = ahead (h .id) (v .next)
 

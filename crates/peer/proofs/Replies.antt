@@ -24,7 +24,7 @@ use Rattle.peer.specs.Coverage.{Segment, allOf, byteOf, covers}
 use Rattle.peer.specs.Effects.{Effect, accept, advance, begun, extended, grantOf, inSlot, opened, progressOf, settledAs, truncatedAt, withPhase}
 use Rattle.peer.specs.Expected.{expectTaken, expectedReply, messageOf}
 use Rattle.peer.specs.Incomings.{incomingOf}
-use Rattle.peer.specs.Plain.{Plain, Role, Target, entryAt, segmentOf}
+use Rattle.peer.specs.Plain.{Plain, Role, Target, segmentOf, slotEntry}
 use Rattle.peer.specs.Starts.{noteStart}
 use Rattle.peer.specs.State.{isFree, phaseAt, slotCount, slotWith}
 use Rattle.peer.specs.declared.types.Answer.{Answer}
@@ -235,7 +235,7 @@ module _ (area limit : ℕ) (p : Peer) (ws : List ℕ) (mem mem′ : ℕ → ℕ
       let form = read-formed limit bs q (a .reads) in
       let at = continued-at p ws h i o k in
       settled-yields area limit p (marked ws (o .receive .start + h .offset) (length (dataOf bs q))) mem′ l starts p o (segmentOf h (dataOf bs q))
-      (entryAt (l .entries) i .segments) _ (more-taken area limit p ws mem mem′ l h (dataOf bs q) v form big agrees i o k w) refl
+      (slotEntry (l .entries) i .segments) _ (more-taken area limit p ws mem mem′ l h (dataOf bs q) v form big agrees i o k w) refl
       (s .at i (ap isFree (at .1)) ∙ ap startOf (at .1))
       (omega (arith, form .size, k .inLength (continued-standing area p ws h i o v k .within .inLength)))
 

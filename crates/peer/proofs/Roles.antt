@@ -10,7 +10,7 @@ use Rattle.laws.specs.Choose.{pick}
 use Rattle.peer.specs.Calls.{renumbered, renumberedPhase, someInTheWay}
 use Rattle.peer.specs.Expected.{anyOverlap, lowestIdle}
 use Rattle.peer.specs.Matching.{findOpen, fits, older, olderHere, oldest, openHere, orElse, vacancy}
-use Rattle.peer.specs.Plain.{Entry, Role, entryAt, firstHere, firstPosted, idle, openIn, roles}
+use Rattle.peer.specs.Plain.{Entry, Role, firstHere, firstPosted, idle, openIn, roles, slotEntry}
 use Rattle.peer.specs.State.{inTheWay, isFree, overlap, phaseAt, slotWith}
 use Rattle.peer.specs.View.{roleOf, rolesOf}
 use Rattle.peer.specs.declared.types.Fit.{Fit}
@@ -31,12 +31,12 @@ role-of-slot [] i = refl
 role-of-slot (s ∷ ss) zero = refl
 role-of-slot (s ∷ ss) (suc i) = role-of-slot ss i
 
-pub role-of-entry : (es : List Entry) (i : ℕ) → getD (roles es) i idle ≡ entryAt es i .role
+pub role-of-entry : (es : List Entry) (i : ℕ) → getD (roles es) i idle ≡ slotEntry es i .role
 role-of-entry [] i = refl
 role-of-entry (e ∷ es) zero = refl
 role-of-entry (e ∷ es) (suc i) = role-of-entry es i
 
-pub role-at : (ss : List Slot) (es : List Entry) → rolesOf ss ≡ roles es → (i : ℕ) → roleOf (phaseAt ss i) ≡ entryAt es i .role
+pub role-at : (ss : List Slot) (es : List Entry) → rolesOf ss ≡ roles es → (i : ℕ) → roleOf (phaseAt ss i) ≡ slotEntry es i .role
 role-at ss es e i = sym (role-of-slot ss i) ∙ ap (λ (us : List Role). getD us i idle) e ∙ role-of-entry es i
 
 pub role-lengths : (ss : List Slot) (es : List Entry) → rolesOf ss ≡ roles es → length ss ≡ length es
@@ -112,47 +112,47 @@ overlap-same r (s ∷ ss) = at (s .phase) (overlap-same r ss)
 abbrev pub Ordered : List Slot → List Entry → Type 0
 Ordered ss es =
     (j k : ℕ) (r s : Receive) (a b : ℕ) → phaseAt ss j ≡ Phase.Posted r a → phaseAt ss k ≡ Phase.Posted s b
-    → ltb a b ≡ ltb (entryAt es j .serial) (entryAt es k .serial)
+    → ltb a b ≡ ltb (slotEntry es j .serial) (slotEntry es k .serial)
 
 -- the same receive, by its age and by its posts before
 pub data SameFit (ss : List Slot) (es : List Entry) : Fit → Fit → Type 0 where
   unfit : SameFit ss es Fit.Unfit Fit.Unfit
-  to : (i : ℕ) (r : Receive) (a : ℕ) → phaseAt ss i ≡ Phase.Posted r a → SameFit ss es (Fit.To i r a) (Fit.To i r (entryAt es i .serial))
+  to : (i : ℕ) (r : Receive) (a : ℕ) → phaseAt ss i ≡ Phase.Posted r a → SameFit ss es (Fit.To i r a) (Fit.To i r (slotEntry es i .serial))
 
 module _ (ss : List Slot) (es : List Entry) (ordered : Ordered ss es) (h : Incoming) where
   older-fit : (best best′ : Fit) (k : ℕ) (r : Receive) (a : ℕ) → phaseAt ss k ≡ Phase.Posted r a → SameFit ss es best best′
-      → SameFit ss es (older best k r a) (older best′ k r (entryAt es k .serial))
+      → SameFit ss es (older best k r a) (older best′ k r (slotEntry es k .serial))
   unfolding older
   older-fit _ _ k r a e unfit = to k r a e
-  older-fit _ _ k r a e (to i q b x) = go (ltb a b) (ltb (entryAt es k .serial) (entryAt es i .serial)) (ordered k i r q a b e x)
+  older-fit _ _ k r a e (to i q b x) = go (ltb a b) (ltb (slotEntry es k .serial) (slotEntry es i .serial)) (ordered k i r q a b e x)
     where
-      go : (t u : Bool) → t ≡ u → SameFit ss es (pick t (Fit.To k r a) (Fit.To i q b)) (pick u (Fit.To k r (entryAt es k .serial)) (Fit.To i q (entryAt es i .serial)))
+      go : (t u : Bool) → t ≡ u → SameFit ss es (pick t (Fit.To k r a) (Fit.To i q b)) (pick u (Fit.To k r (slotEntry es k .serial)) (Fit.To i q (slotEntry es i .serial)))
       go true true y = unfold pick in to k r a e
       go false false y = unfold pick in to i q b x
       go true false y = absurd (true≢false y)
       go false true y = absurd (false≢true y)
 
   here-fit : (best best′ : Fit) (k : ℕ) (f : Phase) → phaseAt ss k ≡ f → SameFit ss es best best′
-      → SameFit ss es (olderHere h best k f) (firstHere h best′ k (roleOf f) (entryAt es k .serial))
+      → SameFit ss es (olderHere h best k f) (firstHere h best′ k (roleOf f) (slotEntry es k .serial))
   unfolding olderHere firstHere
   here-fit best best′ k Phase.Free e s = s
   here-fit best best′ k (Phase.Open o) e s = s
   here-fit best best′ k (Phase.Posted r a) e s = go (fits h r)
     where
-      go : (t : Bool) → SameFit ss es (pick t (older best k r a) best) (pick t (older best′ k r (entryAt es k .serial)) best′)
+      go : (t : Bool) → SameFit ss es (pick t (older best k r a) best) (pick t (older best′ k r (slotEntry es k .serial)) best′)
       go true = unfold pick in older-fit best best′ k r a e s
       go false = unfold pick in s
 
   -- over the slots and entries from k on
   fit-from : (k : ℕ) (rest : List Slot) (rest′ : List Entry) (best best′ : Fit) → rolesOf rest ≡ roles rest′
-      → ((j : ℕ) → phaseAt rest j ≡ phaseAt ss (k + j)) → ((j : ℕ) → entryAt rest′ j ≡ entryAt es (k + j)) → SameFit ss es best best′
+      → ((j : ℕ) → phaseAt rest j ≡ phaseAt ss (k + j)) → ((j : ℕ) → slotEntry rest′ j ≡ slotEntry es (k + j)) → SameFit ss es best best′
       → SameFit ss es (oldest h k best rest) (firstPosted h k best′ rest′)
   unfolding oldest firstPosted
   fit-from k [] [] best best′ e p q s = s
   fit-from k [] (y ∷ ys) best best′ e p q s = absurd (omega (arith, ap length e))
   fit-from k (x ∷ xs) [] best best′ e p q s = absurd (omega (arith, ap length e))
   fit-from k (x ∷ xs) (y ∷ ys) best best′ e p q s =
-      fit-from (suc k) xs ys _ _ rest (λ j. p (suc j) ∙ ap (phaseAt ss) (omega arith)) (λ j. q (suc j) ∙ ap (entryAt es) (omega arith))
+      fit-from (suc k) xs ys _ _ rest (λ j. p (suc j) ∙ ap (phaseAt ss) (omega arith)) (λ j. q (suc j) ∙ ap (slotEntry es) (omega arith))
       (subst₂ (λ (u : Role) (n : ℕ). SameFit ss es (olderHere h best k (x .phase)) (firstHere h best′ k u n)) role
       (sym (ap (λ (z : Entry). z .serial) here))
       (here-fit best best′ k (x .phase) (sym (p 0 ∙ ap (phaseAt ss) (omega arith))) s))
@@ -163,8 +163,8 @@ module _ (ss : List Slot) (es : List Entry) (ordered : Ordered ss es) (h : Incom
       rest : rolesOf xs ≡ roles ys
       rest = ap (λ (us : List Role). drop 1 us) e
 
-      here : y ≡ entryAt es k
-      here = q 0 ∙ ap (entryAt es) (omega arith)
+      here : y ≡ slotEntry es k
+      here = q 0 ∙ ap (slotEntry es) (omega arith)
 
   pub fit-same : rolesOf ss ≡ roles es → SameFit ss es (oldest h 0 Fit.Unfit ss) (firstPosted h 0 Fit.Unfit es)
-  fit-same e = fit-from 0 ss es Fit.Unfit Fit.Unfit e (λ j. ap (phaseAt ss) (omega arith)) (λ j. ap (entryAt es) (omega arith)) unfit
+  fit-same e = fit-from 0 ss es Fit.Unfit Fit.Unfit e (λ j. ap (phaseAt ss) (omega arith)) (λ j. ap (slotEntry es) (omega arith)) unfit

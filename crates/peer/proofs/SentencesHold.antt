@@ -18,7 +18,7 @@ use Rattle.peer.specs.Sentences.{AheadIsTheDistance, EagerIs64And65, Emp
 use Rattle.peer.specs.Incomings.{isEager, isLong, isMedium, isRtm}
 use Rattle.peer.specs.Matching.{ahead, bothOrNeither, fits, sameMedium, sameMessage, sameOutside}
 use Rattle.peer.specs.PacketBytes.{typeNumber, typeOf, typeSaid}
-use Rattle.peer.specs.Plain.{Role, entryAt, firstPosted, idle, openIn, receiving, waiting}
+use Rattle.peer.specs.Plain.{Role, firstPosted, idle, openIn, receiving, slotEntry, waiting}
 use Rattle.peer.specs.State.{overlap}
 use Rattle.peer.specs.declared.types.Fit.{Fit}
 use Rattle.peer.specs.declared.types.FoundOpen.{FoundOpen}
@@ -305,11 +305,11 @@ nothing-found-is-none-open us id = (λ e. subst (Searched us id 0) e (searched i
 pub unfit-is-none-waiting : UnfitIsNoneWaiting
 unfolding UnfitIsNoneWaiting
 unfit-is-none-waiting h es = (
-  λ e j r w t. subst (AtMost (entryAt es j .serial)) e (most-each h 0 Fit.Unfit es j r w t),
+  λ e j r w t. subst (AtMost (slotEntry es j .serial)) e (most-each h 0 Fit.Unfit es j r w t),
   λ w. go (firstPosted h 0 Fit.Unfit es) refl w,
 )
   where
-    go : (f : Fit) → firstPosted h 0 Fit.Unfit es ≡ f → ((j : ℕ) (r : Receive) → entryAt es j .role ≡ waiting r → fits h r ≡ true → ⊥)
+    go : (f : Fit) → firstPosted h 0 Fit.Unfit es ≡ f → ((j : ℕ) (r : Receive) → slotEntry es j .role ≡ waiting r → fits h r ≡ true → ⊥)
         → f ≡ Fit.Unfit
     go Fit.Unfit e w = refl
     go (Fit.To i r serial) e w = let m = foremost h es i r serial e in absurd (w i r (m .waits) (m .fit))

@@ -12,7 +12,7 @@ use Rattle.peer.specs.Calls.{someInTheWay}
 use Rattle.peer.specs.Coverage.{Segment}
 use Rattle.peer.specs.Sentences.{FoundIsTheLowestOpen, NothingFoundIsNoneOpen}
 use Rattle.peer.specs.Matching.{findOpen, olderHere, oldest, vacancy}
-use Rattle.peer.specs.Plain.{Entry, Role, entryAt, firstHere, firstPosted, noEntry, receiving, roles, waiting}
+use Rattle.peer.specs.Plain.{Entry, Role, firstHere, firstPosted, noEntry, receiving, roles, slotEntry, waiting}
 use Rattle.peer.specs.State.{freeSlot, inTheWay, isFree, phaseAt, slotWith}
 use Rattle.peer.specs.View.{roleOf, rolesOf}
 use Rattle.peer.specs.declared.types.Fit.{Fit}
@@ -67,10 +67,10 @@ module _ (segments : Inbound → List Segment) where
   entriesOf [] = []
   entriesOf (s ∷ ss) = entryOf (s .phase) ∷ entriesOf ss
 
-  pub entry-at : (ss : List Slot) (j : ℕ) → entryAt (entriesOf ss) j ≡ entryOf (phaseAt ss j)
-  entry-at [] j = refl
-  entry-at (s ∷ ss) zero = refl
-  entry-at (s ∷ ss) (suc j) = entry-at ss j
+  pub slot-entry : (ss : List Slot) (j : ℕ) → slotEntry (entriesOf ss) j ≡ entryOf (phaseAt ss j)
+  slot-entry [] j = refl
+  slot-entry (s ∷ ss) zero = refl
+  slot-entry (s ∷ ss) (suc j) = slot-entry ss j
 
   pub entry-role : (f : Phase) → entryOf f .role ≡ roleOf f
   entry-role Phase.Free = refl
@@ -83,7 +83,7 @@ module _ (segments : Inbound → List Segment) where
 
   pub entries-ordered : (ss : List Slot) → Ordered ss (entriesOf ss)
   entries-ordered ss i j r s a b x y =
-      sym (ap₂ (λ (d e : Entry). ltb (d .serial) (e .serial)) (entry-at ss i ∙ ap entryOf x) (entry-at ss j ∙ ap entryOf y))
+      sym (ap₂ (λ (d e : Entry). ltb (d .serial) (e .serial)) (slot-entry ss i ∙ ap entryOf x) (slot-entry ss j ∙ ap entryOf y))
 
   pub entries-oldest : (h : Incoming) (k : ℕ) (best : Fit) (ss : List Slot) → oldest h k best ss ≡ firstPosted h k best (entriesOf ss)
   unfolding oldest firstPosted olderHere firstHere
@@ -102,8 +102,8 @@ pub oldest-fits : (h : Incoming) (ss : List Slot) (i : ℕ) (r : Receive) (a : �
     → (i < length ss) × (phaseAt ss i ≡ Phase.Posted r a)
 oldest-fits h ss i r a e =
     let m = foremost h (entriesOf none ss) i r a (sym (entries-oldest none h 0 Fit.Unfit ss) ∙ e) in
-    let at : phaseAt ss i ≡ Phase.Posted r a = go (phaseAt ss i) (ap (λ (x : Entry). x .role) (sym (entry-at none ss i)) ∙ m .waits)
-    (m .number ∙ ap (λ (x : Entry). x .serial) (entry-at none ss i)) in
+    let at : phaseAt ss i ≡ Phase.Posted r a = go (phaseAt ss i) (ap (λ (x : Entry). x .role) (sym (slot-entry none ss i)) ∙ m .waits)
+    (m .number ∙ ap (λ (x : Entry). x .serial) (slot-entry none ss i)) in
     (used-slot ss i (ap isFree at), at)
   where
     none : Inbound → List Segment

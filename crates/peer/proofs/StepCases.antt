@@ -19,7 +19,7 @@ use Rattle.protocol.specs.declared.types.Packet.{Packet}
 use Rattle.protocol.specs.declared.types.Read.{Read}
 use Rattle.protocol.specs.declared.types.Refusal.{Refusal}
 use Rattle.wire.specs.LittleEndian.{leAt}
-use Rattle.peer.specs.Calls.{Call, cancel, cancelAt, cancelEffect, missingIn, packet, packetEffect, peerStep, placed, placedIn, post, postEffect, readEffect, report, reportAt, reportEffect, someInTheWay}
+use Rattle.peer.specs.Calls.{Call, cancel, cancelEffect, cancelSlot, missingIn, packet, packetEffect, peerStep, placed, placedIn, post, postEffect, readEffect, report, reportEffect, reportSlot, someInTheWay}
 use Rattle.peer.specs.Claims.{takes}
 use Rattle.peer.specs.Effects.{Effect, accept, advance, begun, carry, inSlot, opened, quiet, refuse, truncatedAt, withPhase}
 use Rattle.peer.specs.Incomings.{incomingOf}
@@ -97,7 +97,7 @@ module _ (area limit : ℕ) (p : Peer) (ws : List ℕ) where
   carried bs room q a (Verdict.More i o) j = continues bs room q a i o j
 
   pub step-case : (c : Call) → StepCase area limit p ws c (peerStep area limit p ws c)
-  unfolding peerStep postEffect placedIn packetEffect readEffect cancelEffect cancelAt reportEffect reportAt
+  unfolding peerStep postEffect placedIn packetEffect readEffect cancelEffect cancelSlot reportEffect reportSlot
   step-case (post r) =
       branch (StepCase area limit p ws (post r)) _ _ _ (λ x. refused (post r) badLength refl) (λ x.
       branch (StepCase area limit p ws (post r)) _ _ _ (λ y. refused (post r) overlaps refl) (λ y. place (vacancy 0 (p .slots)) refl (ltb-false area _ x) y))
@@ -115,13 +115,13 @@ module _ (area limit : ℕ) (p : Peer) (ws : List ℕ) where
   step-case (cancel i) =
       branch (StepCase area limit p ws (cancel i)) _ _ _ (λ x. refused (cancel i) badSlot refl) (λ x. at (phaseAt (p .slots) i) refl (leb-false slotCount i x))
     where
-      at : (f : Phase) → phaseAt (p .slots) i ≡ f → i < slotCount → StepCase area limit p ws (cancel i) (cancelAt p ws i f)
+      at : (f : Phase) → phaseAt (p .slots) i ≡ f → i < slotCount → StepCase area limit p ws (cancel i) (cancelSlot p ws i f)
       at Phase.Free e x = refused (cancel i) badSlot refl
       at (Phase.Posted r a) e x = cancelled i x (ap isFree e)
       at (Phase.Open o) e x = cancelled i x (ap isFree e)
   step-case (report i) = branch (StepCase area limit p ws (report i)) _ _ _ (λ x. refused (report i) badSlot refl) (λ x. at (phaseAt (p .slots) i) refl)
     where
-      at : (f : Phase) → phaseAt (p .slots) i ≡ f → StepCase area limit p ws (report i) (reportAt p ws f)
+      at : (f : Phase) → phaseAt (p .slots) i ≡ f → StepCase area limit p ws (report i) (reportSlot p ws f)
       at Phase.Free e = refused (report i) badSlot refl
       at (Phase.Posted r a) e = refused (report i) badSlot refl
       at (Phase.Open o) e = reported i o e

@@ -16,7 +16,7 @@ use Rattle.peer.specs.Calls.{Call, cancel, countOlder, countPosted, pack
 use Rattle.peer.specs.Effects.{Effect, accept, advance, begun, opened, progressOf, truncatedAt}
 use Rattle.peer.specs.Expected.{enter, expected}
 use Rattle.peer.specs.Incomings.{incomingOf}
-use Rattle.peer.specs.Plain.{Entry, Plain, Target, begunAt, enterAt, entryAt, freshPlain, moreAt, nextAfter, noEntry, nowhere, segmentOf, waiting}
+use Rattle.peer.specs.Plain.{Entry, Plain, Target, begunAt, enterAt, freshPlain, moreAt, nextAfter, noEntry, nowhere, segmentOf, slotEntry, waiting}
 use Rattle.peer.specs.State.{clash, freeSlot, freshPeer, isFree, phaseAt, phaseFits, slotCount, slotWith}
 use Rattle.peer.specs.declared.types.Answer.{Answer}
 use Rattle.peer.specs.declared.types.Inbound.{Inbound}
@@ -49,16 +49,16 @@ module _ (p : Peer) (ws : List ℕ) (mem : ℕ → ℕ) (l : Plain) (r : Receive
   es : List Entry
   es = set (l .entries) i e
 
-  here : (j : ℕ) → j ≡ i → (phaseAt ss j ≡ Phase.Posted r (countPosted (p .slots))) × (entryAt es j .serial ≡ l .posts)
+  here : (j : ℕ) → j ≡ i → (phaseAt ss j ≡ Phase.Posted r (countPosted (p .slots))) × (slotEntry es j .serial ≡ l .posts)
   unfolding ss es e
   here j x = (
     ap (phaseAt (set (renumbered (p .slots) (p .slots)) i (slotWith (Phase.Posted r (countPosted (p .slots)))))) x
         ∙ phase-same (renumbered (p .slots) (p .slots)) i (Phase.Posted r (countPosted (p .slots))) (omega (arith, inSlots, length-renumbered (p .slots) (p .slots))),
-    ap (λ (k : ℕ). entryAt es k .serial) x
+    ap (λ (k : ℕ). slotEntry es k .serial) x
         ∙ ap (λ (y : Entry). y .serial) (getD-set-same (l .entries) i e noEntry (omega (arith, inSlots, role-lengths (p .slots) (l .entries) (a .same)))),
   )
 
-  there : (j : ℕ) → (j ≡ i → ⊥) → (phaseAt ss j ≡ renumberedPhase (p .slots) (phaseAt (p .slots) j)) × (entryAt es j ≡ entryAt (l .entries) j)
+  there : (j : ℕ) → (j ≡ i → ⊥) → (phaseAt ss j ≡ renumberedPhase (p .slots) (phaseAt (p .slots) j)) × (slotEntry es j ≡ slotEntry (l .entries) j)
   unfolding ss es
   there j x = (
     phase-other (renumbered (p .slots) (p .slots)) i j (Phase.Posted r (countPosted (p .slots))) x ∙ phase-renumbered (p .slots) (p .slots) j,
@@ -85,8 +85,8 @@ module _ (p : Peer) (ws : List ℕ) (mem : ℕ → ℕ) (l : Plain) (r : Receive
 
   -- the age and the number of posts before of a posted receive
   data Dated (j : ℕ) (b : ℕ) : Type 0 where
-    now : j ≡ i → b ≡ countPosted (p .slots) → entryAt es j .serial ≡ l .posts → Dated j b
-    before : (s : Receive) (c : ℕ) → phaseAt (p .slots) j ≡ Phase.Posted s c → b ≡ countOlder c (p .slots) → entryAt es j .serial ≡ entryAt (l .entries) j .serial → Dated j b
+    now : j ≡ i → b ≡ countPosted (p .slots) → slotEntry es j .serial ≡ l .posts → Dated j b
+    before : (s : Receive) (c : ℕ) → phaseAt (p .slots) j ≡ Phase.Posted s c → b ≡ countOlder c (p .slots) → slotEntry es j .serial ≡ slotEntry (l .entries) j .serial → Dated j b
 
   dated : (j : ℕ) (s : Receive) (b : ℕ) → phaseAt ss j ≡ Phase.Posted s b → Dated j b
   dated j s b x = go (ℕ-discrete j i)
@@ -97,25 +97,25 @@ module _ (p : Peer) (ws : List ℕ) (mem : ℕ → ℕ) (l : Plain) (r : Receive
           let w = was-posted (phaseAt (p .slots) j) s b (sym (there j y .0) ∙ x) in
           before s (w .0) (w .1) (w .2) (ap (λ (z : Entry). z .serial) (there j y .1))
 
-  order : (j k b d : ℕ) → Dated j b → Dated k d → ltb b d ≡ ltb (entryAt es j .serial) (entryAt es k .serial)
-  order j k b d (now x y z) (now x′ y′ z′) = le-ltb b d (omega arith) ∙ sym (le-ltb (entryAt es j .serial) (entryAt es k .serial) (omega arith))
+  order : (j k b d : ℕ) → Dated j b → Dated k d → ltb b d ≡ ltb (slotEntry es j .serial) (slotEntry es k .serial)
+  order j k b d (now x y z) (now x′ y′ z′) = le-ltb b d (omega arith) ∙ sym (le-ltb (slotEntry es j .serial) (slotEntry es k .serial) (omega arith))
   order j k b d (now x y z) (before s c x′ y′ z′) =
       le-ltb b d (omega (arith, older-below (p .slots) k s c (in-slots k s c x′) x′))
-      ∙ sym (le-ltb (entryAt es j .serial) (entryAt es k .serial) (omega (arith, a .past k s c x′)))
+      ∙ sym (le-ltb (slotEntry es j .serial) (slotEntry es k .serial) (omega (arith, a .past k s c x′)))
   order j k b d (before s c x y z) (now x′ y′ z′) =
       lt-ltb b d (omega (arith, older-below (p .slots) j s c (in-slots j s c x) x))
-      ∙ sym (lt-ltb (entryAt es j .serial) (entryAt es k .serial) (omega (arith, a .past j s c x)))
+      ∙ sym (lt-ltb (slotEntry es j .serial) (slotEntry es k .serial) (omega (arith, a .past j s c x)))
   order j k b d (before s c x y z) (before s′ c′ x′ y′ z′) =
       ap₂ ltb y y′ ∙ order-kept (p .slots) j k s s′ c c′ (in-slots j s c x) x ∙ a .ordered j k s s′ c c′ x x′ ∙ sym (ap₂ ltb z z′)
 
-  past : (j b : ℕ) → Dated j b → entryAt es j .serial < l .posts + 1
+  past : (j b : ℕ) → Dated j b → slotEntry es j .serial < l .posts + 1
   past j b (now x y z) = omega arith
   past j b (before s c x y z) = omega (arith, a .past j s c x)
 
-  open-there : (j : ℕ) (o : Inbound) → phaseAt ss j ≡ Phase.Open o → (phaseAt (p .slots) j ≡ Phase.Open o) × (entryAt es j ≡ entryAt (l .entries) j)
+  open-there : (j : ℕ) (o : Inbound) → phaseAt ss j ≡ Phase.Open o → (phaseAt (p .slots) j ≡ Phase.Open o) × (slotEntry es j ≡ slotEntry (l .entries) j)
   open-there j o x = go (ℕ-discrete j i)
     where
-      go : Dec (j ≡ i) → (phaseAt (p .slots) j ≡ Phase.Open o) × (entryAt es j ≡ entryAt (l .entries) j)
+      go : Dec (j ≡ i) → (phaseAt (p .slots) j ≡ Phase.Open o) × (slotEntry es j ≡ slotEntry (l .entries) j)
       go (yes y) =
           let k : Phase.Posted r (countPosted (p .slots)) ≡ Phase.Open o = sym (here j y .0) ∙ x in
           absurd (let z : _≡_ {A = ℕ} 0 1 = cc in omega arith)
@@ -175,7 +175,7 @@ module _ (area limit : ℕ) (p : Peer) (ws : List ℕ) (mem mem′ : ℕ → ℕ
   entered (begins bs room q a i r b) w =
       let h : Incoming = incomingOf q in
       let ws′ : List ℕ = marked (cleared ws (r .start) (r .capacity)) (r .start + h .offset) (length (dataOf bs q)) in
-      let t : Target = begunAt h i r (entryAt (l .entries) i .serial) (segmentOf h (dataOf bs q)) in
+      let t : Target = begunAt h i r (slotEntry (l .entries) i .serial) (segmentOf h (dataOf bs q)) in
       settled-agrees area limit p (advance p .next) ws ws′ mem mem′ l bs room i (opened r h) t (progressOf ws′ (opened r h)) agrees (moved t refl) refl
       (begun-taken area limit p ws mem mem′ l h (dataOf bs q) v (read-formed limit bs q (a .reads)) big agrees i r b w)
   entered (continues bs room q a i o k) w =

@@ -128,26 +128,26 @@ packetEffect limit p ws bs room =
 -- ---- cancel and report
 
 -- "Cancel frees a posted or open slot"
-unfoldable pub cancelAt : Peer → List ℕ → ℕ → Phase → Effect
-cancelAt p ws i Phase.Free = refuse p ws badSlot
-cancelAt p ws i (Phase.Posted r a) = quiet (withPhase p i Phase.Free) ws (Answer.Cancelled i)
-cancelAt p ws i (Phase.Open o) = quiet (withPhase p i Phase.Free) ws (Answer.Cancelled i)
+unfoldable pub cancelSlot : Peer → List ℕ → ℕ → Phase → Effect
+cancelSlot p ws i Phase.Free = refuse p ws badSlot
+cancelSlot p ws i (Phase.Posted r a) = quiet (withPhase p i Phase.Free) ws (Answer.Cancelled i)
+cancelSlot p ws i (Phase.Open o) = quiet (withPhase p i Phase.Free) ws (Answer.Cancelled i)
 
 unfoldable pub cancelEffect : Peer → List ℕ → ℕ → Effect
-cancelEffect p ws i = pick (leb slotCount i) (refuse p ws badSlot) (cancelAt p ws i (phaseAt (p .slots) i))
+cancelEffect p ws i = pick (leb slotCount i) (refuse p ws badSlot) (cancelSlot p ws i (phaseAt (p .slots) i))
 
 -- "the received count, the set bits in the message's range, and the first missing offset"
 abbrev pub missingIn : List ℕ → Inbound → Answer
 missingIn ws o =
     Answer.Missing (countSet ws (o .receive .start) (o .message .length)) (firstClear ws (o .receive .start) (o .message .length))
 
-unfoldable pub reportAt : Peer → List ℕ → Phase → Effect
-reportAt p ws Phase.Free = refuse p ws badSlot
-reportAt p ws (Phase.Posted r a) = refuse p ws badSlot
-reportAt p ws (Phase.Open o) = quiet p ws (missingIn ws o)
+unfoldable pub reportSlot : Peer → List ℕ → Phase → Effect
+reportSlot p ws Phase.Free = refuse p ws badSlot
+reportSlot p ws (Phase.Posted r a) = refuse p ws badSlot
+reportSlot p ws (Phase.Open o) = quiet p ws (missingIn ws o)
 
 unfoldable pub reportEffect : Peer → List ℕ → ℕ → Effect
-reportEffect p ws i = pick (leb slotCount i) (refuse p ws badSlot) (reportAt p ws (phaseAt (p .slots) i))
+reportEffect p ws i = pick (leb slotCount i) (refuse p ws badSlot) (reportSlot p ws (phaseAt (p .slots) i))
 
 -- ---- the step
 

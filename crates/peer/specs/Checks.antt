@@ -15,7 +15,7 @@ use Rattle.peer.specs.Expected.{expected}
 use Rattle.peer.specs.Firsts.{RefusedByFirst}
 use Rattle.peer.specs.Sentences.{HasByte}
 use Rattle.peer.specs.Says.{said}
-use Rattle.peer.specs.PacketBytes.{Rtm, idIn, lengthIn, offsetIn, sizeIn, tagIn, typeIn, typeOf}
+use Rattle.peer.specs.PacketBytes.{RtmIn, idIn, lengthIn, offsetIn, sizeIn, tagIn, typeIn, typeOf}
 use Rattle.peer.specs.Plain.{Plain, idle, receiving, waiting}
 use Rattle.peer.specs.State.{peerFits}
 use Rattle.peer.specs.View.{OneEach, OpenIn, UsesRange, View, viewIn, viewOf}
@@ -114,16 +114,16 @@ CallFails area limit v (shortReply room) = room < 24
 -- 6 to 11, the reader's
 CallFails area limit v (unread bs c) = ReadFails false limit bs c
 -- 14: "id is open, but type, length or tag differs, or the type isn't medium"
-CallFails area limit v (rtmDiffers bs) = Rtm bs × ((i : ℕ) × (o : Inbound) × OpenIn v (idIn bs) i o × Differs bs (o .message))
+CallFails area limit v (rtmDiffers bs) = RtmIn bs × ((i : ℕ) × (o : Inbound) × OpenIn v (idIn bs) i o × Differs bs (o .message))
 -- 16: "segment shares a byte with one already accepted"
-CallFails area limit v (rtmRepeats bs) = Rtm bs × ((i : ℕ) × (o : Inbound) × OpenIn v (idIn bs) i o × Repeats v bs i)
+CallFails area limit v (rtmRepeats bs) = RtmIn bs × ((i : ℕ) × (o : Inbound) × OpenIn v (idIn bs) i o × Repeats v bs i)
 -- 15: "late: id behind next and not open"; "above that, late"
-CallFails area limit v (rtmLate bs) = Rtm bs × NotOpen v bs × ((d : ℕ) × Ahead v bs d × (2 ^ 31 ≤ d))
+CallFails area limit v (rtmLate bs) = RtmIn bs × NotOpen v bs × ((d : ℕ) × Ahead v bs d × (2 ^ 31 ≤ d))
 -- 12: "early: id ahead of next"; "1 to 2^31−1 is early"
-CallFails area limit v (rtmEarly bs) = Rtm bs × NotOpen v bs × ((d : ℕ) × Ahead v bs d × (1 ≤ d) × (d < 2 ^ 31))
+CallFails area limit v (rtmEarly bs) = RtmIn bs × NotOpen v bs × ((d : ℕ) × Ahead v bs d × (1 ≤ d) × (d < 2 ^ 31))
 -- 13: "id is next and no posted receive of this peer fits"
 CallFails area limit v (rtmUnmatched bs) =
-    Rtm bs × NotOpen v bs × Ahead v bs 0 × ((i : ℕ) (r : Receive) → v .role i ≡ waiting r → FitsIn bs r → ⊥)
+    RtmIn bs × NotOpen v bs × Ahead v bs 0 × ((i : ℕ) (r : Receive) → v .role i ≡ waiting r → FitsIn bs r → ⊥)
 -- 15: "CTSDATA for no open long message"
 CallFails area limit v (dataLate bs) = (typeIn bs ≡ 4) × ((i : ℕ) (o : Inbound) → OpenIn v (idIn bs) i o → Long (o .message) → ⊥)
 -- 17: "CTSDATA's offset + length, as whole numbers, is beyond the granted end"

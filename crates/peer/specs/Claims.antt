@@ -18,7 +18,7 @@ use Rattle.peer.specs.Coverage.{Segment, covers, inside, allOf}
 use Rattle.peer.specs.Expected.{enter, expected, expectedBytes, plainStep, targetOfCall}
 use Rattle.peer.specs.Incomings.{incomingOf, isLong}
 use Rattle.peer.specs.Matching.{ahead, fits}
-use Rattle.peer.specs.Plain.{Plain, Target, entryAt, freshPlain, receiving, waiting}
+use Rattle.peer.specs.Plain.{Plain, Target, freshPlain, receiving, slotEntry, waiting}
 use Rattle.wire.specs.LittleEndian.{leAt}
 
 -- the plain receiver after a history: a list of calls, each with the answer that 01 demands
@@ -63,10 +63,10 @@ DoneWhenCovered =
 pub record InOrder (l : Plain) (q : Packet) (t : Target) : Type 0 where
   pub next : ahead (incomingOf q .id) (l .next) ≡ 0
   pub receive : Receive
-  pub waits : entryAt (l .entries) (t .index) .role ≡ waiting receive
+  pub waits : slotEntry (l .entries) (t .index) .role ≡ waiting receive
   pub fit : fits (incomingOf q) receive ≡ true
-  pub first : (j : ℕ) (r : Receive) → entryAt (l .entries) j .role ≡ waiting r → fits (incomingOf q) r ≡ true
-      → entryAt (l .entries) (t .index) .serial ≤ entryAt (l .entries) j .serial
+  pub first : (j : ℕ) (r : Receive) → slotEntry (l .entries) j .role ≡ waiting r → fits (incomingOf q) r ≡ true
+      → slotEntry (l .entries) (t .index) .serial ≤ slotEntry (l .entries) j .serial
   -- the receive opened is the one that waited
   pub opens : (o : Inbound) → t .entry .role ≡ receiving o → o .receive ≡ receive
 
@@ -136,12 +136,12 @@ numbersOf named number limit l (c ∷ cs) (a ∷ answers) =
     (numbersOf named number limit (enter limit l c a) cs answers)
 
 -- a receive, by the number of posts before it
-abbrev pub receiveAt : Plain → Target → Call → ℕ
-receiveAt l t c = entryAt (l .entries) (t .index) .serial
+abbrev pub targetSerial : Plain → Target → Call → ℕ
+targetSerial l t c = slotEntry (l .entries) (t .index) .serial
 
 -- the receives that the answers name
 abbrev pub receivesOf : (Target → Answer → Bool) → ℕ → Plain → List Call → List Answer → List ℕ
-receivesOf named limit l cs answers = numbersOf named receiveAt limit l cs answers
+receivesOf named limit l cs answers = numbersOf named targetSerial limit l cs answers
 
 -- no number stands at two places
 abbrev pub Distinct : List ℕ → Type 0

@@ -28,7 +28,7 @@ use Rattle.peer.specs.Coverage.{Segment, covers, allOf, bytesFrom}
 use Rattle.peer.specs.Effects.{opened, grantOf}
 use Rattle.peer.specs.Incomings.{incomingOf, isRtm, isLong}
 use Rattle.peer.specs.Matching.{ahead, sameMessage}
-use Rattle.peer.specs.Plain.{Plain, Role, Target, begunAt, enterAt, entryAt, firstPosted, idle, moreAt, nowhere, openIn, receiving, roles, segmentOf, waiting}
+use Rattle.peer.specs.Plain.{Plain, Role, Target, begunAt, enterAt, firstPosted, idle, moreAt, nowhere, openIn, receiving, roles, segmentOf, slotEntry, waiting}
 use Rattle.peer.specs.State.{slotCount, overlap}
 
 -- ---- post: "11, 19, 18"
@@ -85,7 +85,7 @@ accepting limit o t = record { target = t; answer = expectTaken limit (t .index)
 -- 16: "segment shares a byte with one already accepted"
 unfoldable pub expectMore : ℕ → Plain → Incoming → List ℕ → ℕ → Inbound → Ruling
 expectMore limit l h bytes i o =
-    pick (someOf (covers (entryAt (l .entries) i .segments)) (h .offset) (h .size)) (refusing repeated)
+    pick (someOf (covers (slotEntry (l .entries) i .segments)) (h .offset) (h .size)) (refusing repeated)
     (accepting limit o (moreAt l i (segmentOf h bytes)))
 
 -- "RTMs: if open, 14, 16"
@@ -146,9 +146,9 @@ expectReport gs (receiving o) = Answer.Missing (countOf (covers gs) 0 (o .messag
 unfoldable pub expected : ℕ → ℕ → Plain → Call → Answer
 expected area limit l (post r) = expectPost area l r
 expected area limit l (packet bs room) = expectPacket limit l bs room .answer
-expected area limit l (cancel i) = pick (leb slotCount i) (Answer.Refused badSlot) (expectCancel i (entryAt (l .entries) i .role))
+expected area limit l (cancel i) = pick (leb slotCount i) (Answer.Refused badSlot) (expectCancel i (slotEntry (l .entries) i .role))
 expected area limit l (report i) =
-    pick (leb slotCount i) (Answer.Refused badSlot) (expectReport (entryAt (l .entries) i .segments) (entryAt (l .entries) i .role))
+    pick (leb slotCount i) (Answer.Refused badSlot) (expectReport (slotEntry (l .entries) i .segments) (slotEntry (l .entries) i .role))
 
 -- ---- what else a call yields
 
@@ -181,12 +181,12 @@ messageOf (waiting r) = noMessage
 messageOf (receiving o) = o .message
 
 -- the message that a packet's segment goes to
-abbrev pub messageIn : Target → Message
-messageIn t = messageOf (t .entry .role)
+abbrev pub targetMessage : Target → Message
+targetMessage t = messageOf (t .entry .role)
 
 -- "a CTS in the first 24 reply bytes" for the message, if the answer is granted; "no other answer touches the reply buffer"
 abbrev pub expectedReply : Target → Answer → List ℕ
-expectedReply t a = onGranted [] (λ n. ctsBytes (messageIn t .«send_id») (messageIn t .id) n) a
+expectedReply t a = onGranted [] (λ n. ctsBytes (targetMessage t .«send_id») (targetMessage t .id) n) a
 
 -- the bytes of a message that is answered done, by its accepted segments
 abbrev pub expectedBytes : List Segment → Answer → List ℕ

@@ -16,7 +16,7 @@ use Rattle.peer.specs.Checks.{Differs}
 use Rattle.peer.specs.Claims.{history, isMatch}
 use Rattle.peer.specs.Expected.{expected, expectedReply, plainStep, targetOfCall}
 use Rattle.peer.specs.PacketBytes.{idIn, lengthIn, offsetIn, tagIn, typeIn, typeOf}
-use Rattle.peer.specs.Plain.{Plain, Role, Target, entryAt, freshPlain, idle, receiving, waiting}
+use Rattle.peer.specs.Plain.{Plain, Role, Target, freshPlain, idle, receiving, slotEntry, waiting}
 use Rattle.peer.specs.State.{slotCount}
 use Rattle.peer.specs.declared.types.Answer.{Answer}
 use Rattle.peer.specs.declared.types.Inbound.{Inbound}
@@ -85,7 +85,7 @@ FromOrigin g (receiving o) = (o .receive ≡ g .posted) × BegunBy (g .rtm) (o .
 unfoldable pub OpenIsTheMatchingPackets : Type 0
 OpenIsTheMatchingPackets =
     (area limit : ℕ) (calls : List Call) (j : ℕ)
-    → FromOrigin (originAt (originsOf area limit calls) j) (entryAt (history area limit calls .entries) j .role)
+    → FromOrigin (originAt (originsOf area limit calls) j) (slotEntry (history area limit calls .entries) j .role)
 
 -- 14: "type, length or tag differs, or the type isn't medium", held against the matching packet's bytes
 abbrev pub DiffersFrom : List ℕ → List ℕ → Type 0
@@ -96,7 +96,7 @@ DiffersFrom rtm bs =
 unfoldable pub ComparedWithTheMatchingPacket : Type 0
 ComparedWithTheMatchingPacket =
     (area limit : ℕ) (calls : List Call) (j : ℕ) (o : Inbound) (bs : List ℕ)
-    → entryAt (history area limit calls .entries) j .role ≡ receiving o
+    → slotEntry (history area limit calls .entries) j .role ≡ receiving o
     → Differs bs (o .message) ↔ DiffersFrom (originAt (originsOf area limit calls) j .rtm) bs
 
 -- ---- an answer names its message's origin

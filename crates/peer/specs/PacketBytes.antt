@@ -1,10 +1,11 @@
 -- What a packet says, by the bytes where 01's table puts it ("Fields after type 1, version 1, flags 2"), for the types that the engine serves.
-use Prim.Native.Nat.{ℕ, _-_, _≤_}
+use Prim.Native.Nat.{ℕ, _-_}
 use lib.Dec.{eqb, ltb}
 use lib.ListN.{length}
 use mathlib.Core.Bool.{Bool, _||_}
 use mathlib.Core.List.{List}
 use Rattle.laws.specs.Choose.{pick}
+use Rattle.protocol.specs.ByType.{Rtm}
 pub use Rattle.protocol.specs.Sentences.{typeIn}
 use Rattle.protocol.specs.Sentences.{headIn}
 use Rattle.protocol.specs.declared.table.Shape.{Shape}
@@ -28,9 +29,9 @@ typeSaid h = typeNumber (h .shape) (h .tagged)
 abbrev pub typeOf : Message → ℕ
 typeOf m = typeNumber (m .shape) (m .tagged)
 
--- 64 to 69
-abbrev pub Rtm : List ℕ → Type 0
-Rtm bs = (64 ≤ typeIn bs) × (typeIn bs ≤ 69)
+-- its type is 64 to 69
+abbrev pub RtmIn : List ℕ → Type 0
+RtmIn bs = Rtm (typeIn bs)
 
 -- "msg_id 4", "recv_id 4": both stand after type, version and flags; "recv_id is the message's id"
 abbrev pub idIn : List ℕ → ℕ

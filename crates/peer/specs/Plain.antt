@@ -51,8 +51,8 @@ noEntry = record { role = idle; serial = 0; segments = []; rtm = 0; grants = [] 
 abbrev pub freshPlain : Plain
 freshPlain = record { next = 0; posts = 0; entries = replicate slotCount noEntry }
 
-abbrev pub entryAt : List Entry → ℕ → Entry
-entryAt es i = getD es i noEntry
+abbrev pub slotEntry : List Entry → ℕ → Entry
+slotEntry es i = getD es i noEntry
 
 abbrev pub roles : List Entry → List Role
 roles es = map (λ (e : Entry). e .role) es
@@ -98,7 +98,7 @@ nowhere = record { index = 0; entry = noEntry; matched = false }
 
 -- one segment more of the message in entry i
 abbrev pub moreAt : Plain → ℕ → Segment → Target
-moreAt l i g = record { index = i; entry = grown (entryAt (l .entries) i) g; matched = false }
+moreAt l i g = record { index = i; entry = grown (slotEntry (l .entries) i) g; matched = false }
 
 -- the first segment of the message that begins in the receive of entry i
 abbrev pub begunAt : Incoming → ℕ → Receive → ℕ → Segment → Target

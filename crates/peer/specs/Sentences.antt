@@ -18,7 +18,7 @@ use Rattle.peer.specs.Coverage.{Segment, allOf, covers}
 use Rattle.peer.specs.Incomings.{incomingOf, isEager, isLong, isMedium, isRtm}
 use Rattle.peer.specs.Matching.{ahead, fits, sameMessage}
 use Rattle.peer.specs.PacketBytes.{typeNumber, typeOf, typeSaid}
-use Rattle.peer.specs.Plain.{Entry, Role, entryAt, firstPosted, idle, openIn, receiving, waiting}
+use Rattle.peer.specs.Plain.{Entry, Role, firstPosted, idle, openIn, receiving, slotEntry, waiting}
 use Rattle.peer.specs.State.{overlap}
 use Rattle.peer.specs.declared.types.Fit.{Fit}
 use Rattle.peer.specs.declared.types.FoundOpen.{FoundOpen}
@@ -115,7 +115,7 @@ NothingFoundIsNoneOpen =
 unfoldable pub UnfitIsNoneWaiting : Type 0
 UnfitIsNoneWaiting =
     (h : Incoming) (es : List Entry)
-    → (firstPosted h 0 Fit.Unfit es ≡ Fit.Unfit) ↔ ((j : ℕ) (r : Receive) → entryAt es j .role ≡ waiting r → fits h r ≡ true → ⊥)
+    → (firstPosted h 0 Fit.Unfit es ≡ Fit.Unfit) ↔ ((j : ℕ) (r : Receive) → slotEntry es j .role ≡ waiting r → fits h r ≡ true → ⊥)
 
 -- ---- offsets
 
@@ -157,7 +157,7 @@ CountIsFullIfEvery = (f : ℕ → Bool) (n : ℕ) → (countOf f 0 n ≡ n) ↔ 
 
 -- ---- what a packet says, by the bytes where 01's table puts its fields ("Fields after type 1, version 1, flags 2")
 
-pub record Told (bs : List ℕ) (h : Incoming) : Type 0 where
+pub record IncomingTold (bs : List ℕ) (h : Incoming) : Type 0 where
   pub kind : typeSaid h ≡ getD bs 0 0
   -- tagged are exactly 65, 67 and 69
   pub tagged : h .tagged ≡ taggedTold (getD bs 0 0)
@@ -177,4 +177,4 @@ pub record Told (bs : List ℕ) (h : Incoming) : Type 0 where
   pub noTag : taggedTold (getD bs 0 0) ≡ false → h .tag ≡ 0
 
 unfoldable pub ReadAsTheTableSays : Type 0
-ReadAsTheTableSays = (limit : ℕ) (bs : List ℕ) (q : Packet) → readOf servedRow limit bs ≡ Read.Packet q → Told bs (incomingOf q)
+ReadAsTheTableSays = (limit : ℕ) (bs : List ℕ) (q : Packet) → readOf servedRow limit bs ≡ Read.Packet q → IncomingTold bs (incomingOf q)

@@ -7,7 +7,7 @@ use mathlib.Core.Path.{_≡_}
 use Rattle.peer.specs.Calls.{Call, packet}
 use Rattle.peer.specs.Checks.{FitsIn}
 use Rattle.peer.specs.Effects.{Effect}
-use Rattle.peer.specs.PacketBytes.{Rtm, idIn, lengthIn}
+use Rattle.peer.specs.PacketBytes.{RtmIn, idIn, lengthIn}
 use Rattle.peer.specs.Plain.{Role, idle, receiving, waiting}
 use Rattle.peer.specs.State.{phaseAt}
 use Rattle.peer.specs.View.{roleOf}
@@ -74,7 +74,7 @@ pub record Cancelling (p : Peer) (ws : List ℕ) (i : ℕ) (f : Effect) : Type 0
 
 -- "matches the oldest fitting receive": an RTM whose id is not open, and the receive of slot i. "Oldest means posted first": the lower age
 pub record Matching (p : Peer) (bs : List ℕ) (i : ℕ) (r : Receive) : Type 0 where
-  pub rtm : Rtm bs
+  pub rtm : RtmIn bs
   pub unopened : (j : ℕ) (o : Inbound) → roleAt p j ≡ receiving o → o .message .id ≡ idIn bs → ⊥
   pub age : ℕ
   pub waits : phaseAt (p .slots) i ≡ Phase.Posted r age

@@ -7,7 +7,7 @@ use mathlib.Core.Path.{_≡_}
 use lib.Dec.{eqb}
 use Rattle.bitmap.specs.Map.{bitAt}
 use Rattle.peer.specs.Coverage.{covers}
-use Rattle.peer.specs.Plain.{Plain, Role, entryAt, idle, receiving, waiting}
+use Rattle.peer.specs.Plain.{Plain, Role, idle, receiving, slotEntry, waiting}
 use Rattle.peer.specs.State.{phaseAt}
 use Rattle.peer.specs.declared.types.Inbound.{Inbound}
 use Rattle.peer.specs.declared.types.Peer.{Peer}
@@ -53,8 +53,8 @@ abbrev pub viewIn : Plain → View
 viewIn l =
     record {
       next = l .next;
-      role = λ i. entryAt (l .entries) i .role;
-      taken = λ i x. covers (entryAt (l .entries) i .segments) x;
+      role = λ i. slotEntry (l .entries) i .role;
+      taken = λ i x. covers (slotEntry (l .entries) i .segments) x;
     }
 
 -- ---- what a slot is used for

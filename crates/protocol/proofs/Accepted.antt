@@ -19,7 +19,7 @@ use Rattle.protocol.specs.Reading.{readOf}
 use Rattle.protocol.specs.Refusals.{refusal}
 use Rattle.protocol.specs.Types.{admit, everyRow, rowOf}
 use Rattle.protocol.specs.WriterSentences.{WriterCheck, brokenLengths, misplacedHeader, noType, overLongest, packetLength, shortBuffer, writeRefusedAs, writerCheckAt, writerChecks}
-use Rattle.protocol.specs.Writing.{Outcome, packetBytes, writeOf}
+use Rattle.protocol.specs.Writing.{WriteLeaves, packetBytes, writeOf}
 use Rattle.protocol.specs.declared.table.FoundRow.{FoundRow}
 use Rattle.protocol.specs.declared.table.FoundRow.the-variants.{Row}
 use Rattle.protocol.specs.declared.table.TypeRow.{TypeRow}
@@ -158,7 +158,7 @@ as-written h raw body out n e = accepted (row-out _ (pass noType))
     total : ℕ
     total = packetLength h (length raw) (length body)
 
-    kept : Outcome
+    kept : WriteLeaves
     kept = written h raw body out (rowOf (h .kind))
 
     tests : ((i : ℕ) → i < 5 → write-failing h raw body out (writerCheckAt i) ≡ false) × (Written.Length (total) ≡ Written.Length n)
@@ -168,8 +168,8 @@ as-written h raw body out n e = accepted (row-out _ (pass noType))
         writerChecks
         (Written.Length n)
         (λ c. no-length _ n)
-        (sym (judged-ap (λ (o : Outcome). o .answer) (write-failing h raw body out) (refusing h raw body out) kept writerChecks)
-        ∙ ap (λ (o : Outcome). o .answer) (sym (write-judged h raw body out))
+        (sym (judged-ap (λ (o : WriteLeaves). o .answer) (write-failing h raw body out) (refusing h raw body out) kept writerChecks)
+        ∙ ap (λ (o : WriteLeaves). o .answer) (sym (write-judged h raw body out))
         ∙ e)
 
     pass : (c : WriterCheck) → write-failing h raw body out c ≡ false

@@ -10,7 +10,7 @@ use mathlib.Core.Path.{_≡_, refl, sym, ap, _∙_}
 use native.Mathlib.Nat.{add-sub-cancel, div-add-mod', div-le-self, mul-div-cancel, mul-le-mul}
 use native.Mathlib.Omega.{arith}
 use Rattle.laws.specs.Choose.{pick}
-use Rattle.protocol.specs.Arrays.{arrayAllowed, arrayLength, arrayWhole, countOf, hasArray}
+use Rattle.protocol.specs.Arrays.{arrayAllowed, arrayCount, arrayLength, arrayWhole, hasArray}
 use Rattle.protocol.specs.Rules.{Sound}
 use Rattle.protocol.specs.declared.table.TypeRow.{TypeRow}
 use Rattle.laws.proofs.Choosing.{pick-false, pick-small, pick-true, tested}
@@ -43,21 +43,21 @@ module _ (r : TypeRow) where
   unit-some e = let n = eqb-false (r .unit) 0 (not-true (eqb (r .unit) 0) e) in omega (arith, n)
 
   -- the count that is written tells the bytes that are given
-  pub told-back : (n : ℕ) → hasArray r ≡ true → arrayWhole r n ≡ true → arrayLength r (countOf r n) ≡ n
-  unfolding arrayLength countOf arrayWhole
+  pub told-back : (n : ℕ) → hasArray r ≡ true → arrayWhole r n ≡ true → arrayLength r (arrayCount r n) ≡ n
+  unfolding arrayLength arrayCount arrayWhole
   told-back n e w =
       let z : n % r .unit ≡ 0 = eqb-true _ 0 (sym (pick-true _ _ e) ∙ w) in
       let c : pick (hasArray r) (n / r .unit + r .less) 0 - r .less ≡ n / r .unit = ap (λ (x : ℕ). x - r .less) (pick-true _ _ e) ∙ add-sub-cancel (n / r .unit) (r .less) in
       ap (λ (x : ℕ). x * r .unit) c ∙ (let d = div-add-mod' n (r .unit) in omega (arith, z, d))
 
   -- a count that was read tells its bytes, and these tell it again
-  pub count-back : (n : ℕ) → hasArray r ≡ true → r .less ≤ n → countOf r (arrayLength r n) ≡ n
-  unfolding arrayLength countOf
+  pub count-back : (n : ℕ) → hasArray r ≡ true → r .less ≤ n → arrayCount r (arrayLength r n) ≡ n
+  unfolding arrayLength arrayCount
   count-back n e l =
       pick-true _ _ e ∙ ap (λ (x : ℕ). x + r .less) (mul-div-cancel (n - r .less) (unit-some e)) ∙ omega (arith, l)
 
-  pub count-small : (n : ℕ) → Sound r → n ≤ 8192 → countOf r n < 256 ^ 4
-  unfolding countOf
+  pub count-small : (n : ℕ) → Sound r → n ≤ 8192 → arrayCount r n < 256 ^ 4
+  unfolding arrayCount
   count-small n s l =
       let fewer = div-le-self n (r .unit) in
       let most = pick-small (hasArray r) (n / r .unit + r .less) in

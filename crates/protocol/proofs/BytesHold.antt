@@ -14,7 +14,7 @@ use Rattle.laws.specs.Choose.{pick}
 use Rattle.laws.specs.Parts.{part}
 use Rattle.protocol.specs.ByType.{FlagRule, bitOf, column, fieldsTold, headerLength, ownTold}
 use Rattle.protocol.specs.Flags.{hasFlag}
-use Rattle.protocol.specs.Sentences.{ReadSaysItsBytes, ReadTellsItsBytes, Told, connidPlace, cqEnd, flagged, flagsIn, headIn, rawEnd, typeIn, valuesTold}
+use Rattle.protocol.specs.Sentences.{PacketTold, ReadSaysItsBytes, ReadTellsItsBytes, connidPlace, cqEnd, flagged, flagsIn, headIn, rawEnd, typeIn, valuesTold}
 use Rattle.protocol.specs.Layout.{multiuse, placeOf}
 use Rattle.protocol.specs.Options.{connidIn, cqDataIn}
 use Rattle.protocol.specs.Reading.{headerIn, packetIn}
@@ -134,7 +134,7 @@ module _ (limit : ℕ) (bs : List ℕ) (p : Packet) (r : TypeRow) (a : ReadAs li
   unfolding cqDataLength hasFlag
   connid-from = rw (there cq-data refl) (ap (λ (m : ℕ). connidAt r (m + flagged f 1 8)) raw-end ∙ connid-placed f bs k r (a .row) rule)
 
-  told : Told bs k f p
+  told : PacketTold bs k f p
   unfolding packetIn headerIn cqDataIn connidIn hasFlag
   told =
       record {
@@ -182,7 +182,7 @@ by-flag f i x a b p q = go (ℕ-discrete (bitOf f i) 1)
     go (yes e) = p e ∙ sym (set f i a b e)
     go (no e) = let z : bitOf f i ≡ 0 = omega (arith, e) in q z ∙ sym (clear f i a b z)
 
-module _ (bs : List ℕ) (p : Packet) (r : TypeRow) (row : rowOf (typeIn bs) ≡ Row r) (t : Told bs (typeIn bs) (flagsIn bs) p) where
+module _ (bs : List ℕ) (p : Packet) (r : TypeRow) (row : rowOf (typeIn bs) ≡ Row r) (t : PacketTold bs (typeIn bs) (flagsIn bs) p) where
   own-told : ownNumbers (rowOf (p .header .kind)) (p .header .fields) ≡ ownTold bs (typeIn bs)
   unfolding ownNumbers
   own-told =

@@ -5,7 +5,7 @@ use lib.ListN.{take, replicate}
 use mathlib.Core.List.{List, []}
 use mathlib.Core.Path.{_≡_, refl, ap, subst}
 use native.Mathlib.Omega.{arith}
-use Rattle.protocol.specs.Arrays.{arrayAllowed, arrayWhole, countOf}
+use Rattle.protocol.specs.Arrays.{arrayAllowed, arrayCount, arrayWhole}
 use Rattle.protocol.specs.Checks.{gives}
 use Rattle.protocol.specs.Cts.{ctsBytes, ctsHeader}
 use Rattle.protocol.specs.CtsSentences.{CtsReadBack, ReadsAsCts}
@@ -19,7 +19,7 @@ use Rattle.protocol.specs.RoundTrip.{Numbers}
 use Rattle.protocol.specs.Says.{readSays, writtenSays}
 use Rattle.protocol.specs.Types.{everyRow, rowIn, rowOf}
 use Rattle.protocol.specs.Values.{ownNumbers, values}
-use Rattle.protocol.specs.Writing.{Outcome, baseBytes, mandatoryBytes, packetBytes, writeAs, writeBytes, writeOf, writeTyped}
+use Rattle.protocol.specs.Writing.{WriteLeaves, baseBytes, mandatoryBytes, packetBytes, writeAs, writeBytes, writeOf, writeTyped}
 use Rattle.protocol.specs.declared.types.Written.{Written}
 use Rattle.laws.specs.Choose.{pick}
 use Rattle.laws.specs.Parts.{part, storeAt}
@@ -54,14 +54,14 @@ module _ (sendId recvId recvLength : ℕ) (s : sendId < 2 ^ 32) (r : recvId < 2 
 
   -- as the writer writes it into 24 bytes
   written : writeOf (ctsHeader sendId recvId recvLength) [] [] (replicate 24 0) ≡ record { answer = Written.Length 24; out = bytes }
-  unfolding bytes ctsBytes writeOf writeTyped writeAs writeBytes rowOf rowIn optionsFit arrayAllowed arrayWhole countOf flagsOf lengthsFit pick storeAt packetBytes mandatoryBytes baseBytes fieldBytes layout sectionsOf connidOrZero leBytes
+  unfolding bytes ctsBytes writeOf writeTyped writeAs writeBytes rowOf rowIn optionsFit arrayAllowed arrayWhole arrayCount flagsOf lengthsFit pick storeAt packetBytes mandatoryBytes baseBytes fieldBytes layout sectionsOf connidOrZero leBytes
   written = rw (le-leb 1 recvLength some)
 
   read-back : readSays bytes (readOf everyRow 8192 bytes) ≡ gives (values (ctsHeader sendId recvId recvLength) [] [])
   unfolding bytes ctsBytes packetBytes mandatoryBytes baseBytes leBytes fieldBytes layout pick sectionsOf
   read-back =
-      subst (λ (o : Outcome). readSays (take 24 (o .out)) (readOf everyRow 8192 (take 24 (o .out))) ≡ gives (values (ctsHeader sendId recvId recvLength) [] [])) written
-      (reads-what-was-written (ctsHeader sendId recvId recvLength) [] [] (replicate 24 0) 8192 24 numbers (omega arith) (ap (λ (o : Outcome). writtenSays (o .answer)) written))
+      subst (λ (o : WriteLeaves). readSays (take 24 (o .out)) (readOf everyRow 8192 (take 24 (o .out))) ≡ gives (values (ctsHeader sendId recvId recvLength) [] [])) written
+      (reads-what-was-written (ctsHeader sendId recvId recvLength) [] [] (replicate 24 0) 8192 24 numbers (omega arith) (ap (λ (o : WriteLeaves). writtenSays (o .answer)) written))
 
   cts-read : ReadsAsCts bytes sendId recvId recvLength
   unfolding bytes ctsBytes packetBytes mandatoryBytes baseBytes leBytes fieldBytes layout pick sectionsOf values ownNumbers ownFields rowOf rowIn leAt leOf part flagsOf connidOrZero

@@ -9,7 +9,7 @@ use mathlib.Core.Path.{_≡_, refl, sym, ap, ap₂, _∙_}
 use native.Mathlib.Omega.{arith}
 use Rattle.laws.specs.Choose.{pick}
 use Rattle.laws.specs.Parts.{part, storeAt}
-use Rattle.protocol.specs.FieldNumbers.{fieldBytes, numberAt, fieldNumber}
+use Rattle.protocol.specs.FieldNumbers.{fieldBytes, fieldIn, fieldNumber}
 use Rattle.protocol.specs.Layout.{Field, distinct, has, multiuse, ordinal, padding, sameField, width, widths}
 use Rattle.protocol.specs.declared.types.Header.{Header}
 use Rattle.wire.specs.LittleEndian.{leAt, leBytes}
@@ -34,7 +34,7 @@ zeroedFields t (g ∷ gs) at l = zeroedFields t gs (at + width g) (pick (isBlank
 
 -- a header, with the count that is told, has the numbers that the fields gs have in bs, and zero for the blank ones
 abbrev pub NumbersKept : Bool → List Field → ℕ → List ℕ → ℕ → Header → Type 0
-NumbersKept t gs at bs told h = (f : Field) → has f gs ≡ true → fieldNumber told h f ≡ pick (isBlank t f) 0 (numberAt gs at bs f)
+NumbersKept t gs at bs told h = (f : Field) → has f gs ≡ true → fieldNumber told h f ≡ pick (isBlank t f) 0 (fieldIn gs at bs f)
 
 module _ (t : Bool) (bs : List ℕ) (b : (i : ℕ) → getD bs i 0 < 256) where
   field-kept : (g : Field) (at n : ℕ) → at + width g ≤ length bs → n ≡ pick (isBlank t g) 0 (leAt (width g) bs at)
@@ -46,7 +46,7 @@ module _ (t : Bool) (bs : List ℕ) (b : (i : ℕ) → getD bs i 0 < 256) where
 
   fields-kept : (gs : List Field) (told : ℕ) (h : Header) (at : ℕ) → distinct gs ≡ true → at + widths gs ≤ length bs → NumbersKept t gs at bs told h
       → fieldBytes gs told h ≡ kept t gs at bs
-  unfolding fieldBytes numberAt
+  unfolding fieldBytes fieldIn
   fields-kept [] told h at d k e = refl
   fields-kept (g ∷ gs) told h at d k e =
       let self : sameField g g ≡ true = eq-eqb (ordinal g) (ordinal g) refl in

@@ -9,7 +9,7 @@ use mathlib.Core.Logic.{⊎-elim}
 use mathlib.Core.Path.{_≡_, refl, sym, ap, ap₂, _∙_}
 use native.Mathlib.Omega.{arith}
 use Rattle.laws.specs.Choose.{pick}
-use Rattle.protocol.specs.FieldNumbers.{fieldBytes, fieldsIn, numberAt, numberIn, fieldNumber, numberThere}
+use Rattle.protocol.specs.FieldNumbers.{fieldBytes, fieldsIn, fieldIn, numberIn, fieldNumber, numberThere}
 use Rattle.protocol.specs.Layout.{Field, count, credit-request, fields, has, isOwn, layout, msg-id, msg-length, multiuse, ordinal, padding, placeIn, placeOf, recv-id, recv-length, sameField, seg-length, seg-offset, select, send-id, tag, width, widths}
 use Rattle.protocol.specs.RoundTrip.{Numbers}
 use Rattle.protocol.specs.Rules.{Sound}
@@ -69,8 +69,8 @@ has-place (g ∷ gs) at f p m z =
 
 -- a field is read at its place
 pub number-there : (gs : List Field) (at : ℕ) (bs : List ℕ) (f : Field) → 0 < at
-    → numberAt gs at bs f ≡ numberThere (placeIn gs at f) (width f) bs
-unfolding numberAt placeIn numberThere pick
+    → fieldIn gs at bs f ≡ numberThere (placeIn gs at f) (width f) bs
+unfolding fieldIn placeIn numberThere pick
 number-there [] at bs f p = refl
 number-there (g ∷ gs) at bs f p =
     ⊎-elim (λ e. rw (e, ne-eqb at 0 (λ z. omega arith)))
@@ -80,7 +80,7 @@ number-there (g ∷ gs) at bs f p =
 -- ---- numbers
 
 -- the numbers of own fields
-number-in : (gs : List Field) (at : ℕ) (bs : List ℕ) (f : Field) → isOwn f ≡ true → numberIn (fieldsIn gs at bs) f ≡ numberAt gs at bs f
+number-in : (gs : List Field) (at : ℕ) (bs : List ℕ) (f : Field) → isOwn f ≡ true → numberIn (fieldsIn gs at bs) f ≡ fieldIn gs at bs f
 unfolding fieldsIn
 number-in gs at bs msg-id o = refl
 number-in gs at bs recv-id o = refl
@@ -128,8 +128,8 @@ number-fits told h count y x = unfold pick in y
 -- ---- written fields are read
 
 pub number-read : (gs : List Field) (told : ℕ) (h : Header) (a c : List ℕ) (at : ℕ) (f : Field) → told < 256 ^ 4 → Numbers h → length a ≡ at → has f gs ≡ true
-    → numberAt gs at (a ++ (fieldBytes gs told h ++ c)) f ≡ fieldNumber told h f
-unfolding numberAt fieldBytes
+    → fieldIn gs at (a ++ (fieldBytes gs told h ++ c)) f ≡ fieldNumber told h f
+unfolding fieldIn fieldBytes
 number-read [] told h a c at f y x p m = absurd (false≢true m)
 number-read (g ∷ gs) told h a c at f y x p m =
     ⊎-elim (λ e. pick-true _ _ e ∙ rw (same-field g f e, append-assoc) (le-behind (width f) (fieldNumber told h f) a _ at (number-fits told h f y x) p))
@@ -172,10 +172,10 @@ map-among u v gs (f ∷ fs) e m =
     ap₂ _∷_ (map-has u v gs f e (and-left (has f gs) _ m)) (map-among u v gs fs e (and-right (has f gs) _ m))
 
 -- the number of a field of a row is that at its place
-pub read-there : (r : TypeRow) (bs : List ℕ) (f : Field) → Sound r → numberThere (placeOf r f) (width f) bs ≡ numberAt (layout r) 4 bs f
+pub read-there : (r : TypeRow) (bs : List ℕ) (f : Field) → Sound r → numberThere (placeOf r f) (width f) bs ≡ fieldIn (layout r) 4 bs f
 read-there r bs f s = ap (λ (p : ℕ). numberThere p (width f) bs) (sym (s .placed f)) ∙ sym (number-there (layout r) 4 bs f (lit< tt))
 
 -- a field that the row has not reads 0
-pub read-none : (r : TypeRow) (bs : List ℕ) (f : Field) → Sound r → placeOf r f ≡ 0 → numberAt (layout r) 4 bs f ≡ 0
+pub read-none : (r : TypeRow) (bs : List ℕ) (f : Field) → Sound r → placeOf r f ≡ 0 → fieldIn (layout r) 4 bs f ≡ 0
 unfolding numberThere pick
 read-none r bs f s e = sym (read-there r bs f s) ∙ ap (λ (p : ℕ). numberThere p (width f) bs) e

@@ -11,8 +11,8 @@ use mathlib.Core.Path.{_≡_, refl, sym, ap, _∙_, subst}
 use native.Mathlib.Omega.{arith}
 use Rattle.laws.specs.Choose.{pick}
 use Rattle.laws.specs.Parts.{part}
-use Rattle.protocol.specs.Arrays.{arrayAllowed, arrayLength, arrayWhole, countOf, hasArray}
-use Rattle.protocol.specs.FieldNumbers.{countIn, fieldsIn, numberAt, numberIn, fieldNumber}
+use Rattle.protocol.specs.Arrays.{arrayAllowed, arrayCount, arrayLength, arrayWhole, hasArray}
+use Rattle.protocol.specs.FieldNumbers.{countIn, fieldsIn, fieldIn, numberIn, fieldNumber}
 use Rattle.protocol.specs.Flags.{flagsFit}
 use Rattle.protocol.specs.Optional.{connid, cq-data, flagged, flagsOf, optionsFit, raw-address}
 use Rattle.protocol.specs.Layout.{Field, count, has, layout, multiuse, ownFields, placeOf}
@@ -81,7 +81,7 @@ module _ (h : Header) (arr raw body : List ℕ) (r : TypeRow) (rule : Sound r) (
   headers-and-body : length whole ≡ length (headers r h arr raw) + length body
   headers-and-body = simp length-append (omega (arith, length-mandatory r h (length arr) rule))
 
-  count-fits : countOf r (length arr) < 256 ^ 4
+  count-fits : arrayCount r (length arr) < 256 ^ 4
   count-fits = count-small r (length arr) rule (omega (arith, length-packet r h arr raw body rule fits given, allowed))
 
   -- what is read from the mandatory header
@@ -92,13 +92,13 @@ module _ (h : Header) (arr raw body : List ℕ) (r : TypeRow) (rule : Sound r) (
 
   own-read : map (numberIn (fieldsIn (layout r) 4 whole)) (ownFields r) ≡ map (numberIn (h .fields)) (ownFields r)
   unfolding mandatoryBytes ownFields
-  own-read = simp append-assoc (fields-read (layout r) (countOf r (length arr)) h (baseBytes (r .kind) f) _ 4 count-fits x (length-base _ _))
+  own-read = simp append-assoc (fields-read (layout r) (arrayCount r (length arr)) h (baseBytes (r .kind) f) _ 4 count-fits x (length-base _ _))
 
-  field-read : (g : Field) → has g (layout r) ≡ true → numberAt (layout r) 4 whole g ≡ fieldNumber (countOf r (length arr)) h g
+  field-read : (g : Field) → has g (layout r) ≡ true → fieldIn (layout r) 4 whole g ≡ fieldNumber (arrayCount r (length arr)) h g
   unfolding mandatoryBytes
-  field-read g m = simp append-assoc (number-read (layout r) (countOf r (length arr)) h (baseBytes (r .kind) f) _ 4 g count-fits x (length-base _ _) m)
+  field-read g m = simp append-assoc (number-read (layout r) (arrayCount r (length arr)) h (baseBytes (r .kind) f) _ 4 g count-fits x (length-base _ _) m)
 
-  count-read : has count (layout r) ≡ true → numberAt (layout r) 4 whole count ≡ countOf r (length arr)
+  count-read : has count (layout r) ≡ true → fieldIn (layout r) 4 whole count ≡ arrayCount r (length arr)
   unfolding pick
   count-read m = field-read count m
 
@@ -112,7 +112,7 @@ module _ (h : Header) (arr raw body : List ℕ) (r : TypeRow) (rule : Sound r) (
       there e =
           let place : placeOf r count ≡ 0 → ⊥ = λ z. clashing _ (sym (rule .counted) ∙ eq-eqb _ 0 z) (not-true _ e) in
           let m = place-has (layout r) 4 count (λ z. place (sym (rule .placed count) ∙ z)) in
-          let told : countIn r whole ≡ countOf r (length arr) = number-here r whole count rule ∙ count-read m in
+          let told : countIn r whole ≡ arrayCount r (length arr) = number-here r whole count rule ∙ count-read m in
           pick-true _ _ e ∙ ap (arrayLength r) told ∙ told-back r (length arr) e members
 
       none : hasArray r ≡ false → pick (hasArray r) (arrayLength r (countIn r whole)) 0 ≡ length arr
@@ -156,7 +156,7 @@ module _ (h : Header) (arr raw body : List ℕ) (r : TypeRow) (rule : Sound r) (
       (λ e. ap (bytesAt whole) (pick-false _ _ e) ∙ sym (no-array-given r arr given e))
       (tested (hasArray r))
 
-  multiuse-read : has multiuse (layout r) ≡ true → numberAt (layout r) 4 whole multiuse ≡ connidOrZero (h .connid)
+  multiuse-read : has multiuse (layout r) ≡ true → fieldIn (layout r) 4 whole multiuse ≡ connidOrZero (h .connid)
   unfolding pick
   multiuse-read m = field-read multiuse m
 

@@ -5,7 +5,7 @@ use lib.ListN.{getD}
 use mathlib.Core.Bool.{Bool}
 use mathlib.Core.List.{List, [], _∷_}
 use mathlib.Core.Path.{_≡_}
-use Rattle.protocol.specs.FieldNumbers.{fieldsIn, numberAt, numberIn}
+use Rattle.protocol.specs.FieldNumbers.{fieldIn, fieldsIn, numberIn}
 use Rattle.protocol.specs.Layout.{Field, count, credit-request, layout, msg-id, msg-length, multiuse, padding, recv-id, recv-length, sameField, seg-length, seg-offset, send-id, tag, width}
 use Rattle.protocol.specs.Options.{connidIn, connidOrZero, cqDataIn}
 use Rattle.protocol.specs.Reading.{headerIn, packetIn, readOf}
@@ -35,8 +35,8 @@ none-small padding = lit< tt
 none-small count = lit< tt
 
 module _ (bs : List ℕ) (b : (i : ℕ) → getD bs i 0 < 256) where
-  number-small : (gs : List Field) (at : ℕ) (f : Field) → numberAt gs at bs f < 256 ^ width f
-  unfolding numberAt
+  number-small : (gs : List Field) (at : ℕ) (f : Field) → fieldIn gs at bs f < 256 ^ width f
+  unfolding fieldIn
   number-small [] at f = none-small f
   number-small (g ∷ gs) at f =
       pick-either (λ (n : ℕ). n < 256 ^ width f) (sameField g f) (le-at-fits (width f) bs at b) (number-small gs (at + width g) f)

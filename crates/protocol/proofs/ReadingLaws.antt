@@ -9,7 +9,7 @@ use mathlib.Core.Path.{_≡_, sym, _∙_}
 use native.Mathlib.Omega.{arith}
 use Rattle.laws.specs.Choose.{pick}
 use Rattle.protocol.specs.Layout.{multiuse}
-use Rattle.protocol.specs.Rules.{Inside, Sound}
+use Rattle.protocol.specs.Rules.{SectionsInside, Sound}
 use Rattle.protocol.specs.Optional.{connid, cq-data, flagged, raw-address}
 use Rattle.protocol.specs.Sections.{extentOf, rawSpan}
 use Rattle.protocol.specs.SectionsInTurn.{afterArray, afterRaw, connidLength, cqDataLength, sectionsAt, sectionsBehind, sectionsFrom}
@@ -32,7 +32,7 @@ unfolding sectionsFrom pick
 cut-before r f raw at n h = rw (lt-ltb n (at + cqDataLength r f + connidLength r f) (omega arith))
 
 module _ (r : TypeRow) (f : ℕ) (raw : Span) (at n : ℕ) (s : Sound r) (h : r .header ≤ at) where
-  sections-inside : at + cqDataLength r f + connidLength r f ≤ n → Inside r f (sectionsAt r f raw at) n
+  sections-inside : at + cqDataLength r f + connidLength r f ≤ n → SectionsInside r f (sectionsAt r f raw at) n
   unfolding cqDataLength connidLength
   sections-inside k =
       record {
@@ -45,7 +45,7 @@ module _ (r : TypeRow) (f : ℕ) (raw : Span) (at n : ℕ) (s : Sound r) (h : r 
         body = k;
       }
 
-  from-inside : (t : Sections) → sectionsFrom r f raw at n ≡ Whole t → Inside r f t n
+  from-inside : (t : Sections) → sectionsFrom r f raw at n ≡ Whole t → SectionsInside r f t n
   unfolding sectionsFrom
   from-inside t e =
       ⊎-elim (λ w. let z : _≡_ {A = ℕ} 0 1 = cc in absurd (omega arith))
@@ -53,7 +53,7 @@ module _ (r : TypeRow) (f : ℕ) (raw : Span) (at n : ℕ) (s : Sound r) (h : r 
       (pick-cases (ltb n (at + cqDataLength r f + connidLength r f)) Cut (Whole (sectionsAt r f raw at)) (Whole t) e)
 
 -- the sections that are found lie inside the packet
-pub extent-inside : (r : TypeRow) (f : ℕ) (bs : List ℕ) (t : Sections) → Sound r → extentOf r f bs ≡ Whole t → Inside r f t (length bs)
+pub extent-inside : (r : TypeRow) (f : ℕ) (bs : List ℕ) (t : Sections) → Sound r → extentOf r f bs ≡ Whole t → SectionsInside r f t (length bs)
 unfolding sectionsBehind afterArray
 extent-inside r f bs t s e =
     from-inside r f (rawSpan (flagged r f raw-address) bs (afterArray r bs)) (afterRaw r f bs) (length bs) s (unfold afterRaw in omega arith) t

@@ -9,7 +9,7 @@ use Rattle.protocol.specs.Checks.{gives}
 use Rattle.protocol.specs.RoundTrip.{LengthIsPackets, ReadsWhatWasWritten, WritesWhatWasRead}
 use Rattle.protocol.specs.Says.{readSays, writtenSays}
 use Rattle.protocol.specs.Values.{values, valuesIn}
-use Rattle.protocol.specs.Writing.{Outcome, packetBytes, writeOf}
+use Rattle.protocol.specs.Writing.{WriteLeaves, packetBytes, writeOf}
 use Rattle.protocol.specs.declared.types.Packet.{Packet}
 use Rattle.wire.specs.LittleEndian.{leAt}
 use Rattle.laws.proofs.Storing.{drop-store, part-store}
@@ -46,4 +46,4 @@ writes-what-was-read which limit bs h raw body out b small room e =
     let again = write-back limit bs r a b out small room in
     let v : valuesIn (packetOf r (leAt 2 bs 2) bs) bs ≡ values h raw body = ap (λ (x : Packet). valuesIn x bs) (sym q) ∙ v in
     let w = same-written h (packetOf r (leAt 2 bs 2) bs .header) raw _ body _ (sym v) out ∙ again in
-    (ap (λ (o : Outcome). writtenSays (o .answer)) w, ap (λ (o : Outcome). o .out) w)
+    (ap (λ (o : WriteLeaves). writtenSays (o .answer)) w, ap (λ (o : WriteLeaves). o .out) w)

@@ -9,7 +9,7 @@ use mathlib.Core.Path.{_≡_, sym, ap, _∙_}
 use native.Mathlib.Omega.{arith}
 use Rattle.laws.specs.Choose.{pick}
 use Rattle.protocol.specs.Arrays.{arrayLength}
-use Rattle.protocol.specs.FieldNumbers.{countIn, numberAt, numberThere}
+use Rattle.protocol.specs.FieldNumbers.{countIn, fieldIn, numberThere}
 use Rattle.protocol.specs.Layout.{Field, layout, multiuse, placeOf, tag, width}
 use Rattle.protocol.specs.Rules.{NumberWidth, Sound}
 use Rattle.protocol.specs.Sections.{connidAt}
@@ -47,15 +47,15 @@ unfolding connidAt
 connid-within r at n = pick-false _ _ (ne-eqb (placeOf r multiuse) 0 n)
 
 -- a field is read where the row says
-pub number-here : (r : TypeRow) (bs : List ℕ) (f : Field) → Sound r → numberThere (placeOf r f) (width f) bs ≡ numberAt (layout r) 4 bs f
+pub number-here : (r : TypeRow) (bs : List ℕ) (f : Field) → Sound r → numberThere (placeOf r f) (width f) bs ≡ fieldIn (layout r) 4 bs f
 number-here r bs f s = ap (λ p. numberThere p (width f) bs) (sym (s .placed f)) ∙ sym (number-there (layout r) 4 bs f (lit< tt))
 
 -- that of a field of the type there
-pub number-placed : (r : TypeRow) (bs : List ℕ) (f : Field) → Sound r → (placeOf r f ≡ 0 → ⊥) → numberAt (layout r) 4 bs f ≡ leAt (width f) bs (placeOf r f)
+pub number-placed : (r : TypeRow) (bs : List ℕ) (f : Field) → Sound r → (placeOf r f ≡ 0 → ⊥) → fieldIn (layout r) 4 bs f ≡ leAt (width f) bs (placeOf r f)
 unfolding numberThere
 number-placed r bs f s n = sym (number-here r bs f s) ∙ pick-false _ _ (ne-eqb (placeOf r f) 0 n)
 
 -- and is 0 where the type has no such field
-pub number-none : (r : TypeRow) (bs : List ℕ) (f : Field) → Sound r → placeOf r f ≡ 0 → numberAt (layout r) 4 bs f ≡ 0
+pub number-none : (r : TypeRow) (bs : List ℕ) (f : Field) → Sound r → placeOf r f ≡ 0 → fieldIn (layout r) 4 bs f ≡ 0
 unfolding numberThere
 number-none r bs f s e = sym (number-here r bs f s) ∙ pick-true _ _ (eq-eqb (placeOf r f) 0 e)

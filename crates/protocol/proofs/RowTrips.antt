@@ -17,7 +17,7 @@ use Rattle.protocol.specs.Reading.{readFlags, readLengths, readSections}
 use Rattle.protocol.specs.Refusals.{aboveLimit, badFlags, badLength, noRoom}
 use Rattle.protocol.specs.RoundTrip.{RowLengthIsPackets, RowReadsWhatWasWritten, RowTells}
 use Rattle.protocol.specs.SectionsInTurn.{afterRaw, sectionsBehind, sectionsFrom}
-use Rattle.protocol.specs.Writing.{Outcome, packetBytes, writeAs, writeBytes}
+use Rattle.protocol.specs.Writing.{WriteLeaves, packetBytes, writeAs, writeBytes}
 use Rattle.protocol.specs.declared.table.TypeRow.{TypeRow}
 use Rattle.protocol.specs.declared.types.Header.{Header}
 use Rattle.protocol.specs.declared.types.Packet.{Packet}
@@ -51,7 +51,7 @@ module _ (r : TypeRow) (h : Header) (arr raw body out : List ℕ) (n : ℕ) wher
   taken : writeAs r h arr raw body out .answer ≡ Written.Length n → Taken r h arr raw body out n
   unfolding writeAs writeBytes
   taken e =
-      let answer : Outcome → Written = λ o. o .answer in
+      let answer : WriteLeaves → Written = λ o. o .answer in
       let (a, e) = pick-first _ _ _ _ (no-length badFlags n) (sym (pick-ap answer _ _ _) ∙ e) in
       let (b, e) = pick-first _ _ _ _ (no-length badLength n) (sym (pick-ap answer _ _ _) ∙ e) in
       let (c, e) = pick-second _ _ _ _ (no-length aboveLimit n) (sym (pick-ap answer _ _ _) ∙ e) in
@@ -64,7 +64,7 @@ module _ (r : TypeRow) (h : Header) (arr raw body out : List ℕ) (n : ℕ) wher
         allowed = ltb-false 8192 (length bytes) c;
         room = ltb-false (length out) (length bytes) d;
         size = sym size;
-        left = ap (λ (o : Outcome). o .out) (pick-true _ _ a ∙ pick-true _ _ b ∙ pick-false _ _ c ∙ pick-false _ _ d);
+        left = ap (λ (o : WriteLeaves). o .out) (pick-true _ _ a ∙ pick-true _ _ b ∙ pick-false _ _ c ∙ pick-false _ _ d);
       }
 
 pub row-length-is-packets : RowLengthIsPackets

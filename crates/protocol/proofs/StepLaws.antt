@@ -14,7 +14,7 @@ use Rattle.protocol.specs.Flags.{cqDataFlag, connidFlag, hasFlag, rawAdd
 use Rattle.protocol.specs.Optional.{Section, array, connid, cq-data, flagged, hasCqData, optionsFit, ordinal, raw-address, sectionsOf}
 use Rattle.protocol.specs.Options.{connidBytes, cqDataBytes, rawAddressBytes, sectionsBytes}
 use Rattle.protocol.specs.Rules.{Sound}
-use Rattle.protocol.specs.Sections.{before, beginOf, connidAt, dataAt, endOf, extentOf, rawSpan, sectionsIn}
+use Rattle.protocol.specs.Sections.{beginOf, connidAt, dataAt, endOf, extentOf, rawSpan, sectionsBefore, sectionsIn}
 use Rattle.protocol.specs.SectionsInTurn.{afterArray, afterRaw, connidLength, cqDataLength, sectionsAt, sectionsBehind, sectionsFrom}
 use Rattle.protocol.specs.Totals.{sizes}
 use Rattle.protocol.specs.Writing.{mandatoryBytes, packetBytes}
@@ -39,26 +39,26 @@ arrayFirst a ss = pick a (array ∷ []) [] ++ ss
 abbrev behind : Bool → Bool → List Section
 behind q z = pick q (raw-address ∷ cq-data ∷ []) [] ++ pick z [] (connid ∷ [])
 
-before-array : (a : Bool) (s : Section) (ss : List Section) → ltb 0 (ordinal s) ≡ true → before s (arrayFirst a ss) ≡ arrayFirst a (before s ss)
+before-array : (a : Bool) (s : Section) (ss : List Section) → ltb 0 (ordinal s) ≡ true → sectionsBefore s (arrayFirst a ss) ≡ arrayFirst a (sectionsBefore s ss)
 unfolding pick
 before-array true s ss e = rw e
 before-array false s ss e = refl
 
-before-raw : (q z : Bool) → before raw-address (behind q z) ≡ []
+before-raw : (q z : Bool) → sectionsBefore raw-address (behind q z) ≡ []
 unfolding pick
 before-raw true true = refl
 before-raw true false = refl
 before-raw false true = refl
 before-raw false false = refl
 
-before-cq : (q z : Bool) → before cq-data (behind q z) ≡ pick q (raw-address ∷ []) []
+before-cq : (q z : Bool) → sectionsBefore cq-data (behind q z) ≡ pick q (raw-address ∷ []) []
 unfolding pick
 before-cq true true = refl
 before-cq true false = refl
 before-cq false true = refl
 before-cq false false = refl
 
-before-connid : (q z : Bool) → before connid (behind q z) ≡ behind q true
+before-connid : (q z : Bool) → sectionsBefore connid (behind q z) ≡ behind q true
 unfolding pick
 before-connid true true = refl
 before-connid true false = refl
@@ -107,12 +107,12 @@ module _ (r : TypeRow) (f : ℕ) (bs : List ℕ) where
   data-at = past-array (hasArray r) (behind (r .request) (eqb (r .connid) 0)) refl ∙ all-end (afterArray r bs) (r .request) (eqb (r .connid) 0) refl (eqb-true _ 0)
 
   -- where a section begins behind the array
-  begin-behind : (s : Section) (ss : List Section) → ltb 0 (ordinal s) ≡ true → before s (behind (r .request) (eqb (r .connid) 0)) ≡ ss
+  begin-behind : (s : Section) (ss : List Section) → ltb 0 (ordinal s) ≡ true → sectionsBefore s (behind (r .request) (eqb (r .connid) 0)) ≡ ss
       → beginOf r f bs s ≡ endOf r f bs (afterArray r bs) ss
   unfolding beginOf sectionsOf
   begin-behind s ss l e =
       ap (endOf r f bs (r .header)) (before-array (hasArray r) s (behind (r .request) (eqb (r .connid) 0)) l)
-      ∙ past-array (hasArray r) (before s (behind (r .request) (eqb (r .connid) 0))) refl
+      ∙ past-array (hasArray r) (sectionsBefore s (behind (r .request) (eqb (r .connid) 0))) refl
       ∙ ap (endOf r f bs (afterArray r bs)) e
 
   raw-begin : beginOf r f bs raw-address ≡ afterArray r bs

@@ -10,7 +10,7 @@ use mathlib.Core.Path.{_≡_, refl, sym, ap, _∙_, subst}
 use native.Mathlib.Omega.{arith}
 use Rattle.laws.specs.Choose.{pick}
 use Rattle.protocol.specs.ByType.{CtsOrData, FlagRule, Known, LengthRule, connidHeader, fieldsTold, headerLength, lengthAt, ownTold, shapeTold, taggedTold}
-use Rattle.protocol.specs.FieldNumbers.{fieldsIn, numberAt, numberIn}
+use Rattle.protocol.specs.FieldNumbers.{fieldIn, fieldsIn, numberIn}
 use Rattle.protocol.specs.Sentences.{LengthsStandAsTold, TypesAreTheTables}
 use Rattle.protocol.specs.Layout.{Field, has, layout, msg-length, ownFields, recv-length, seg-length, seg-offset}
 use Rattle.protocol.specs.Lengths.{lengthsFit}
@@ -54,7 +54,7 @@ request-in-words k r e = (λ q. ⊎-map (eqb-true k 3) (eqb-true k 4) (or-cases 
     told = rows-say (λ k r. r .request) (λ k. not (eqb k 3 || eqb k 4)) refl k r e
 
 pub fields-in-words : (bs : List ℕ) (k : ℕ) (r : TypeRow) → rowOf k ≡ Row r → fieldsIn (layout r) 4 bs ≡ fieldsTold bs k
-unfolding fieldsIn numberAt layout pick
+unfolding fieldsIn fieldIn layout pick
 fields-in-words bs = rows-say (λ k r. fieldsIn (layout r) 4 bs) (fieldsTold bs) refl
 
 pub own-in-words : (bs : List ℕ) (k : ℕ) (r : TypeRow) → rowOf k ≡ Row r → map (numberIn (fieldsTold bs k)) (ownFields r) ≡ ownTold bs k

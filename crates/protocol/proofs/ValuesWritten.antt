@@ -8,7 +8,7 @@ use mathlib.Core.Option.{Option, some, none}
 use mathlib.Core.Path.{_≡_, refl, sym, ap, ap₂, _∙_}
 use native.Mathlib.Omega.{arith}
 use Rattle.laws.specs.Choose.{pick}
-use Rattle.protocol.specs.Arrays.{countOf}
+use Rattle.protocol.specs.Arrays.{arrayCount}
 use Rattle.protocol.specs.FieldNumbers.{fieldBytes, numberIn, fieldNumber}
 use Rattle.protocol.specs.Optional.{Section, array, connid, cq-data, flagsOf, optionsFit, raw-address, sectionsOf}
 use Rattle.protocol.specs.Layout.{Field, count, credit-request, isOwn, layout, msg-id, msg-length, multiuse, ownFields, padding, recv-id, recv-length, seg-length, seg-offset, select, send-id, tag, width}
@@ -115,7 +115,7 @@ module _ (h g : Header) (raw raw′ body body′ : List ℕ) (same : values h ra
 
     bytes-same : packetBytes r h [] raw body ≡ packetBytes r g [] raw′ body′
     unfolding packetBytes mandatoryBytes ownFields
-    bytes-same = rw (flags-same, fields-same (countOf r 0) h g connid-same (layout r) own, sections-same (sectionsOf r), body-same)
+    bytes-same = rw (flags-same, fields-same (arrayCount r 0) h g connid-same (layout r) own, sections-same (sectionsOf r), body-same)
 
     row-same : (out : List ℕ) → writeAs r h [] raw body out ≡ writeAs r g [] raw′ body′ out
     unfolding writeAs

@@ -11,8 +11,8 @@ use native.Mathlib.Omega.{arith}
 use Rattle.laws.specs.Choose.{pick}
 use Rattle.laws.specs.Parts.{part, storeAt}
 use Rattle.protocol.specs.ByType.{column}
-use Rattle.protocol.specs.Arrays.{arrayAllowed, arrayLength, countOf, hasArray}
-use Rattle.protocol.specs.FieldNumbers.{countIn, fieldsIn, numberAt}
+use Rattle.protocol.specs.Arrays.{arrayAllowed, arrayCount, arrayLength, hasArray}
+use Rattle.protocol.specs.FieldNumbers.{countIn, fieldIn, fieldsIn}
 use Rattle.protocol.specs.Flags.{flagsFit, hasFlag}
 use Rattle.protocol.specs.Optional.{connid, cq-data, flagged, flagsOf, optionsFit, raw-address}
 use Rattle.protocol.specs.Layout.{count, credit-request, has, layout, msg-id, msg-length, multiuse, padding, placeOf, recv-id, recv-length, seg-length, seg-offset, send-id, tag, widths}
@@ -96,15 +96,15 @@ module _ (bs : List ℕ) (b : (i : ℕ) → getD bs i 0 < 256) (r : TypeRow) (ru
   unfolding afterRaw afterArray
   length-array = ap length array-again ∙ length-part bs (r .header) (arraySize r bs) (omega (arith, fits))
 
-  count-kept : has count (layout r) ≡ true → countOf r (length arr) ≡ numberAt (layout r) 4 bs count
+  count-kept : has count (layout r) ≡ true → arrayCount r (length arr) ≡ fieldIn (layout r) 4 bs count
   unfolding countIn
   count-kept m =
       let there : hasArray r ≡ true =
       ap not (sym (rule .counted)) ∙ ap not (ne-eqb (placeOf r count) 0 (λ z. has-place (layout r) 4 count (lit< tt) m (rule .placed count ∙ z))) in
-      ap (countOf r) (length-array ∙ pick-true _ _ there) ∙ count-back r (countIn r bs) there (told there) ∙ number-here r bs count rule
+      ap (arrayCount r) (length-array ∙ pick-true _ _ there) ∙ count-back r (countIn r bs) there (told there) ∙ number-here r bs count rule
 
   -- the fields, with a connid in multiuse where it is flagged
-  numbers-kept : NumbersKept (flagged r f connid) (layout r) 4 bs (countOf r (length arr)) (packetOf r f bs .header)
+  numbers-kept : NumbersKept (flagged r f connid) (layout r) 4 bs (arrayCount r (length arr)) (packetOf r f bs .header)
   unfolding packetIn headerIn fieldsIn pick
   numbers-kept msg-id m = refl
   numbers-kept recv-id m = refl
@@ -126,13 +126,13 @@ module _ (bs : List ℕ) (b : (i : ℕ) → getD bs i 0 < 256) (r : TypeRow) (ru
       at = connidAt r (connidFrom r f bs)
 
       there : flagged r f connid ≡ true
-          → connidOrZero (connidIn (flagged r f connid) bs at) ≡ pick (isBlank (flagged r f connid) multiuse) 0 (numberAt (layout r) 4 bs multiuse)
+          → connidOrZero (connidIn (flagged r f connid) bs at) ≡ pick (isBlank (flagged r f connid) multiuse) 0 (fieldIn (layout r) 4 bs multiuse)
       there e =
           unfold connidIn connidOrZero pick in
           rw e (ap (leAt 4 bs) (connid-within r (connidFrom r f bs) place) ∙ sym (number-placed r bs multiuse rule place))
 
       plain : flagged r f connid ≡ false
-          → connidOrZero (connidIn (flagged r f connid) bs at) ≡ pick (isBlank (flagged r f connid) multiuse) 0 (numberAt (layout r) 4 bs multiuse)
+          → connidOrZero (connidIn (flagged r f connid) bs at) ≡ pick (isBlank (flagged r f connid) multiuse) 0 (fieldIn (layout r) 4 bs multiuse)
       plain e = unfold connidIn connidOrZero pick in rw e
 
   middle-again : (z : List ℕ)
@@ -292,7 +292,7 @@ module _ (bs : List ℕ) (r : TypeRow) (rule : Sound r) (b : (i : ℕ) → getD 
       let (e, inside) = connid-again bs b r rule f fits told p refl in
       let room = header-fits bs b r rule f fits told in
       let n : length (padded (p .header .connid) r p bs) ≡ length bs = length-store bs _ _ (rw length-replicate inside) in
-      let again = fields-again (flagged r f connid) (layout r) (countOf r (length (bytesAt bs (arraySpan r bs (r .header))))) (p .header) bs (part bs 0 4)
+      let again = fields-again (flagged r f connid) (layout r) (arrayCount r (length (bytesAt bs (arraySpan r bs (r .header))))) (p .header) bs (part bs 0 4)
       (bytesAt bs (arraySpan r bs (r .header))
       ++ (rawAddressBytes (p .header .«raw_address») (bytesAt bs (p .«raw_address»))
       ++ (cqDataBytes (p .header .«cq_data») ++ (connidBytes r (p .header .connid) ++ drop (p .«data» .at) bs))))

@@ -20,7 +20,7 @@ use Rattle.protocol.specs.Refusals.{refusal}
 use Rattle.protocol.specs.Says.{writtenSays}
 use Rattle.protocol.specs.Types.{admit, everyRow, rowOf}
 use Rattle.protocol.specs.WriterSentences.{Misplaced, RefusedWriteChangesNothing, WriteFails, WriteRefusedByFirstToFail, WriterCheck, WrittenIfNoneFails, brokenLengths, connidTakes, cqDataTakes, misplacedHeader, noType, overLongest, packetLength, shortBuffer, writeRefusedAs, writerCheckAt, writerChecks}
-use Rattle.protocol.specs.Writing.{Outcome, packetBytes, writeAs, writeBytes, writeOf, writeTyped}
+use Rattle.protocol.specs.Writing.{WriteLeaves, packetBytes, writeAs, writeBytes, writeOf, writeTyped}
 use Rattle.protocol.specs.declared.table.FoundRow.{FoundRow}
 use Rattle.protocol.specs.declared.table.FoundRow.the-variants.{Row, Unknown}
 use Rattle.protocol.specs.declared.table.TypeRow.{TypeRow}
@@ -118,13 +118,13 @@ module _ (h : Header) (raw body out : List ℕ) where
   bytesAs Unknown = []
   bytesAs (Row r) = packetBytes r h [] raw body
 
-  abbrev pub written : FoundRow → Outcome
+  abbrev pub written : FoundRow → WriteLeaves
   written o = record { answer = Written.Length n; out = storeAt out 0 (bytesAs o) }
 
-  abbrev pub refusing : WriterCheck → Outcome
+  abbrev pub refusing : WriterCheck → WriteLeaves
   refusing c = record { answer = Written.Refused (refusal (writeRefusedAs c)); out = out }
 
-  abbrev judgedAs : FoundRow → List WriterCheck → Outcome
+  abbrev judgedAs : FoundRow → List WriterCheck → WriteLeaves
   judgedAs o = judged (failsAs o) refusing (written o)
 
   bytes-judged : (r : TypeRow) → rowOf k ≡ Row r → optionsFit r h ≡ true
@@ -132,7 +132,7 @@ module _ (h : Header) (raw body out : List ℕ) where
   unfolding writeBytes
   bytes-judged r e t = ap sized (length-in-words h raw body r e t)
     where
-      sized : ℕ → Outcome
+      sized : ℕ → WriteLeaves
       sized m =
           pick (ltb 8192 m) (refusing overLongest)
           (pick (ltb (length out) m) (refusing shortBuffer) (record { answer = Written.Length m; out = storeAt out 0 (packetBytes r h [] raw body) }))
@@ -144,7 +144,7 @@ module _ (h : Header) (raw body out : List ℕ) where
       unfold pick in
       rw (none-allowed r, none-whole r (no-array k r e), and-true (optionsFit r h))
       (⊎-elim (λ t. rw t (pick-not (lengthsFit (r .shape) (h .fields) (length body)) _ _
-      ∙ ap (λ (x : Outcome). pick (not (lengthsFit (r .shape) (h .fields) (length body))) (refusing brokenLengths) x) (bytes-judged r e t)))
+      ∙ ap (λ (x : WriteLeaves). pick (not (lengthsFit (r .shape) (h .fields) (length body))) (refusing brokenLengths) x) (bytes-judged r e t)))
       (λ t. rw t)
       (tested (optionsFit r h)))
 
@@ -193,12 +193,12 @@ module _ (h : Header) (raw body out : List ℕ) where
 
   is-said : writtenSays (writeOf h raw body out .answer) ≡ judged write-failing (λ c. refused (writeRefusedAs c)) (gives n) writerChecks
   is-said =
-      ap (λ (o : Outcome). writtenSays (o .answer)) write-judged
-      ∙ judged-ap (λ (o : Outcome). writtenSays (o .answer)) write-failing refusing (written (rowOf k)) writerChecks
+      ap (λ (o : WriteLeaves). writtenSays (o .answer)) write-judged
+      ∙ judged-ap (λ (o : WriteLeaves). writtenSays (o .answer)) write-failing refusing (written (rowOf k)) writerChecks
 
   -- the lent buffer
   leaves : writeOf h raw body out .out ≡ judged write-failing (λ c. out) (storeAt out 0 (bytesAs (rowOf k))) writerChecks
-  leaves = ap (λ (o : Outcome). o .out) write-judged ∙ judged-ap (λ (o : Outcome). o .out) write-failing refusing (written (rowOf k)) writerChecks
+  leaves = ap (λ (o : WriteLeaves). o .out) write-judged ∙ judged-ap (λ (o : WriteLeaves). o .out) write-failing refusing (written (rowOf k)) writerChecks
 
 pub write-refused-by-first-to-fail : WriteRefusedByFirstToFail
 unfolding WriteRefusedByFirstToFail

@@ -13,8 +13,8 @@ unfoldable pub arrayLength : TypeRow → ℕ → ℕ
 arrayLength r n = (n - r .less) * r .unit
 
 -- the count that tells an array of n bytes
-unfoldable pub countOf : TypeRow → ℕ → ℕ
-countOf r n = pick (hasArray r) (n / r .unit + r .less) 0
+unfoldable pub arrayCount : TypeRow → ℕ → ℕ
+arrayCount r n = pick (hasArray r) (n / r .unit + r .less) 0
 
 -- n bytes of an array may be given to a writer: none to a type that has no array (refusal 10)
 unfoldable pub arrayAllowed : TypeRow → ℕ → Bool

@@ -40,23 +40,23 @@ fieldBytes (g ∷ gs) n h = leBytes (width g) (fieldNumber n h g) ++ fieldBytes 
 -- ---- in bytes
 
 -- the number of field f in bytes bs that have the fields gs from `at` on; 0 where f is none of them
-unfoldable pub numberAt : List Field → ℕ → List ℕ → Field → ℕ
-numberAt [] at bs f = 0
-numberAt (g ∷ gs) at bs f = pick (sameField g f) (leAt (width f) bs at) (numberAt gs (at + width g) bs f)
+unfoldable pub fieldIn : List Field → ℕ → List ℕ → Field → ℕ
+fieldIn [] at bs f = 0
+fieldIn (g ∷ gs) at bs f = pick (sameField g f) (leAt (width f) bs at) (fieldIn gs (at + width g) bs f)
 
 -- the numbers of all fields, read so
 unfoldable pub fieldsIn : List Field → ℕ → List ℕ → Fields
 fieldsIn gs at bs =
     record {
-      «msg_id» = numberAt gs at bs msg-id;
-      «recv_id» = numberAt gs at bs recv-id;
-      «send_id» = numberAt gs at bs send-id;
-      «msg_length» = numberAt gs at bs msg-length;
-      «seg_length» = numberAt gs at bs seg-length;
-      «recv_length» = numberAt gs at bs recv-length;
-      «seg_offset» = numberAt gs at bs seg-offset;
-      «credit_request» = numberAt gs at bs credit-request;
-      tag = numberAt gs at bs tag;
+      «msg_id» = fieldIn gs at bs msg-id;
+      «recv_id» = fieldIn gs at bs recv-id;
+      «send_id» = fieldIn gs at bs send-id;
+      «msg_length» = fieldIn gs at bs msg-length;
+      «seg_length» = fieldIn gs at bs seg-length;
+      «recv_length» = fieldIn gs at bs recv-length;
+      «seg_offset» = fieldIn gs at bs seg-offset;
+      «credit_request» = fieldIn gs at bs credit-request;
+      tag = fieldIn gs at bs tag;
     }
 
 -- ---- at one place, where 0 is none

@@ -46,7 +46,7 @@ pub record Sound (r : TypeRow) : Type 0 where
   pub small : r .must + flagSum options < 2 ^ 16
 
 -- the sections s of a packet of n bytes lie inside it
-pub record Inside (r : TypeRow) (f : ℕ) (s : Sections) (n : ℕ) : Type 0 where
+pub record SectionsInside (r : TypeRow) (f : ℕ) (s : Sections) (n : ℕ) : Type 0 where
   pub header : r .header ≤ n
   pub cq : flagged r f cq-data ≡ true → s .«cq_at» + 8 ≤ n
   pub connid : flagged r f Optional.connid ≡ true → s .«connid_at» + 4 ≤ n

@@ -30,13 +30,13 @@ endOf r f bs at [] = at
 endOf r f bs at (s ∷ ss) = endOf r f bs (at + pick (flagged r f s) (sizeOf r (arrayLength r (countIn r bs)) (leAt 4 bs at) s) 0) ss
 
 -- those of some sections that come before s
-abbrev pub before : Section → List Section → List Section
-before s [] = []
-before s (t ∷ ts) = pick (ltb (ordinal t) (ordinal s)) (t ∷ before s ts) (before s ts)
+abbrev pub sectionsBefore : Section → List Section → List Section
+sectionsBefore s [] = []
+sectionsBefore s (t ∷ ts) = pick (ltb (ordinal t) (ordinal s)) (t ∷ sectionsBefore s ts) (sectionsBefore s ts)
 
 -- a section begins where those before it end, the first behind the mandatory header; so would one that the type has not
 unfoldable pub beginOf : TypeRow → ℕ → List ℕ → Section → ℕ
-beginOf r f bs s = endOf r f bs (r .header) (before s (sectionsOf r))
+beginOf r f bs s = endOf r f bs (r .header) (sectionsBefore s (sectionsOf r))
 
 -- the data begin where the last ends
 unfoldable pub dataAt : TypeRow → ℕ → List ℕ → ℕ

@@ -121,7 +121,7 @@ ReadIfNoneFails =
 abbrev pub connidPlace : ℕ → ℕ → List ℕ → ℕ
 connidPlace k f bs = column (cqEnd k f bs) ((3, 4) ∷ (4, 24) ∷ []) k
 
-pub record Told (bs : List ℕ) (k f : ℕ) (p : Packet) : Type 0 where
+pub record PacketTold (bs : List ℕ) (k f : ℕ) (p : Packet) : Type 0 where
   pub kind : p .header .kind ≡ k
   pub shape : p .shape ≡ shapeTold k
   pub tagged : p .tagged ≡ taggedTold k
@@ -140,7 +140,7 @@ pub record Told (bs : List ℕ) (k f : ℕ) (p : Packet) : Type 0 where
   pub rest : bytesAt bs (p .«data») ≡ drop (headersEnd k f bs) bs
 
 unfoldable pub ReadTellsItsBytes : Type 0
-ReadTellsItsBytes = (which : TypeRow → Bool) (limit : ℕ) (bs : List ℕ) (p : Packet) → readOf which limit bs ≡ Read.Packet p → Told bs (typeIn bs) (flagsIn bs) p
+ReadTellsItsBytes = (which : TypeRow → Bool) (limit : ℕ) (bs : List ℕ) (p : Packet) → readOf which limit bs ≡ Read.Packet p → PacketTold bs (typeIn bs) (flagsIn bs) p
 
 -- "A packet's values are its type, that type's own fields (padding and multiuse are none; a flagged multiuse is the connid), the optional headers
 -- present and the data", each by its bytes

@@ -14,7 +14,7 @@ use Rattle.protocol.specs.declared.types.Header.{Header}
 use Rattle.protocol.specs.declared.types.Refusal.{Refusal}
 use Rattle.protocol.specs.declared.types.Written.{Written}
 use Rattle.protocol.specs.Types.{rowOf}
-use Rattle.protocol.specs.Arrays.{arrayAllowed, arrayWhole, countOf}
+use Rattle.protocol.specs.Arrays.{arrayAllowed, arrayCount, arrayWhole}
 use Rattle.protocol.specs.FieldNumbers.{fieldBytes}
 use Rattle.protocol.specs.Layout.{layout}
 use Rattle.protocol.specs.Lengths.{lengthsFit}
@@ -29,29 +29,29 @@ baseBytes kind flags = kind ∷ 4 ∷ leBytes 2 flags
 
 -- the mandatory header of a packet with an array of n bytes
 unfoldable pub mandatoryBytes : TypeRow → Header → ℕ → List ℕ
-mandatoryBytes r h n = baseBytes (r .kind) (flagsOf r h) ++ fieldBytes (layout r) (countOf r n) h
+mandatoryBytes r h n = baseBytes (r .kind) (flagsOf r h) ++ fieldBytes (layout r) (arrayCount r n) h
 
 -- the bytes of a packet: the mandatory header, the array and the optional headers that its type may have, the data
 unfoldable pub packetBytes : TypeRow → Header → List ℕ → List ℕ → List ℕ → List ℕ
 packetBytes r h arr raw body = mandatoryBytes r h (length arr) ++ sectionsBytes r h arr raw (sectionsOf r) ++ body
 
 -- what a call of the writer leaves: its answer, and the lent buffer
-pub record Outcome : Type 0 where
+pub record WriteLeaves : Type 0 where
   pub answer : Written
   pub out : List ℕ
 
-abbrev pub refused : Refusal → List ℕ → Outcome
+abbrev pub refused : Refusal → List ℕ → WriteLeaves
 refused k out = record { answer = Written.Refused k; out = out }
 
 -- refusals 6 and 21, then the packet
-unfoldable pub writeBytes : List ℕ → List ℕ → Outcome
+unfoldable pub writeBytes : List ℕ → List ℕ → WriteLeaves
 writeBytes bytes out =
     pick (ltb packetLimit (length bytes)) (refused aboveLimit out)
     (pick (ltb (length out) (length bytes)) (refused noRoom out)
     (record { answer = Written.Length (length bytes); out = storeAt out 0 bytes }))
 
 -- refusals 10 (an optional header, or an array, that its type can't have) and 11
-unfoldable pub writeAs : TypeRow → Header → List ℕ → List ℕ → List ℕ → List ℕ → Outcome
+unfoldable pub writeAs : TypeRow → Header → List ℕ → List ℕ → List ℕ → List ℕ → WriteLeaves
 writeAs r h arr raw body out =
     pick (optionsFit r h && arrayAllowed r (length arr))
     (pick (arrayWhole r (length arr) && lengthsFit (r .shape) (h .fields) (length body)) (writeBytes (packetBytes r h arr raw body) out)
@@ -59,10 +59,10 @@ writeAs r h arr raw body out =
     (refused badFlags out)
 
 -- refusal 9
-unfoldable pub writeTyped : FoundRow → Header → List ℕ → List ℕ → List ℕ → List ℕ → Outcome
+unfoldable pub writeTyped : FoundRow → Header → List ℕ → List ℕ → List ℕ → List ℕ → WriteLeaves
 writeTyped Unknown h arr raw body out = refused badType out
 writeTyped (Row r) h arr raw body out = writeAs r h arr raw body out
 
 -- no type of the table has an array, so none is given
-unfoldable pub writeOf : Header → List ℕ → List ℕ → List ℕ → Outcome
+unfoldable pub writeOf : Header → List ℕ → List ℕ → List ℕ → WriteLeaves
 writeOf h raw body out = writeTyped (rowOf (h .kind)) h [] raw body out

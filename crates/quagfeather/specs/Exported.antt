@@ -25,8 +25,8 @@ pub record Marked : Type 0 where
   pub map : List ℕ
 
 -- the n bits from `at` on, of a map that a set-up can have: outside it 3, one of them set 16
-unfoldable pub markedIn : List ℕ → ℕ → ℕ → Marked
-markedIn m at n =
+unfoldable pub markOf : List ℕ → ℕ → ℕ → Marked
+markOf m at n =
     pick (leb (length m) 1024 && leb (at + n) (64 * length m))
     (pick (touched m at n) (record { refusal = 16; map = m }) (record { refusal = 0; map = marked m at n }))
     (record { refusal = 3; map = m })

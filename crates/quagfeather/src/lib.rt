@@ -8,7 +8,7 @@ ghost use Rattle.packet_words.specs.Writing.{writeFrom};
 ghost use Rattle.packed.specs.Running.{runOf};
 ghost use Rattle.packed.specs.Starting.{startOf};
 ghost use Rattle.replay.specs.Replaying.{replayOf};
-ghost use Rattle.quagfeather.specs.Exported.{texts, markedIn};
+ghost use Rattle.quagfeather.specs.Exported.{texts, markOf};
 
 // The most words of a map, those of eight areas of 8,192 bytes.
 const MAP: usize = 1024;
@@ -73,7 +73,7 @@ pub extern "C" fn quagfeather_write(
 // Marks a range of a map's bits, unless one of them is set.
 #[no_mangle]
 pub extern "C" fn quagfeather_mark(map: &mut [u64], at: usize, count: usize) -> usize
-    ensures { λ r. ⌜ record { refusal = r; map = now (map .exit) } ≡ markedIn (now (map .entry)) at count ⌝ }
+    ensures { λ r. ⌜ record { refusal = r; map = now (map .exit) } ≡ markOf (now (map .entry)) at count ⌝ }
 {
     let words = map.len();
     if MAP < words {

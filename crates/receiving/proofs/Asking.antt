@@ -14,11 +14,11 @@ use Rattle.protocol.specs.declared.table.TypeRow.{TypeRow}
 use Rattle.protocol.specs.declared.types.Packet.{Packet}
 use Rattle.protocol.specs.declared.types.Read.{Read}
 use Rattle.protocol.specs.Types.{servedRow}
-use Rattle.receiving.specs.Preconditions.{Beginning, Carrying, Granting, Judging, Limited, Placed, Storing}
+use Rattle.receiving.specs.Preconditions.{Limited, MayBegin, MayCarry, MayGrant, MayJudge, MayStore, Placed}
 use Rattle.peer.specs.Effects.{grantOf, opened, progressOf, quiet, withPhase}
 use Rattle.peer.specs.Incomings.{isRtm}
 use Rattle.peer.specs.Judging.{judge}
-use Rattle.receiving.specs.Leaves.{PacketLeaves, Replied, SegmentLeaves, leaves}
+use Rattle.receiving.specs.Leaves.{PacketLeaves, Replied, SegmentLeaves, packetLeaves}
 use Rattle.peer.specs.Matching.{findOpen, sameMessage}
 use Rattle.peer.specs.State.{slotCount}
 use Rattle.peer.specs.declared.types.Answer.{Answer}
@@ -42,7 +42,7 @@ use Rattle.peer.proofs.Verdicts.{Judged, again-inside, chosen-at, continued-at,
 
 -- ---- a grant
 
-pub grant-one : (limit : ℕ) (m : Message) → Granting limit m → 1 ≤ grantOf limit m
+pub grant-one : (limit : ℕ) (m : Message) → MayGrant limit m → 1 ≤ grantOf limit m
 unfolding grantOf
 grant-one limit m g =
     let most : 1 ≤ min (max (m .«credit_request») 1) 16 = omega arith in
@@ -66,7 +66,7 @@ due-remains ws o e =
 
 -- ---- the judgement
 
-module _ (words : ℕ) (p : Peer) (h : Incoming) (j : Judging words p h) (i : ℕ) (o : Inbound) (e : findOpen (h .id) 0 (p .slots) ≡ FoundOpen.At i o) where
+module _ (words : ℕ) (p : Peer) (h : Incoming) (j : MayJudge words p h) (i : ℕ) (o : Inbound) (e : findOpen (h .id) 0 (p .slots) ≡ FoundOpen.At i o) where
   valid : Valid (64 * words) (p .slots)
   valid = fits-valid (64 * words) p (j .mapped .fits)
 
@@ -84,8 +84,8 @@ module _ (words : ℕ) (p : Peer) (h : Incoming) (j : Judging words p h) (i : �
 
 -- ---- a verdict is carried out
 
-module _ (limit : ℕ) (p : Peer) (h : Incoming) (n area words reply : ℕ) (c : Carrying limit p h n area words reply) (eight : length (p .slots) ≡ slotCount) (ws : List ℕ) where
-  pub judging : Judging words p h
+module _ (limit : ℕ) (p : Peer) (h : Incoming) (n area words reply : ℕ) (c : MayCarry limit p h n area words reply) (eight : length (p .slots) ≡ slotCount) (ws : List ℕ) where
+  pub judging : MayJudge words p h
   judging =
       record {
         mapped = record { whole = refl; small = omega (arith, c .mapped .whole, c .mapped .small); fits = rw (c .mapped .whole) (c .mapped .fits) };
@@ -111,7 +111,7 @@ module _ (limit : ℕ) (p : Peer) (h : Incoming) (n area words reply : ℕ) (c :
   more-slot i o e = omega (arith, eight, continued-at p ws h i o (verdict (Verdict.More i o) e) .0)
 
   -- and what its parts ask is there
-  pub begins : (i : ℕ) (r : Receive) → judge p ws h ≡ Verdict.Begin i r → Beginning limit r h n area words reply
+  pub begins : (i : ℕ) (r : Receive) → judge p ws h ≡ Verdict.Begin i r → MayBegin limit r h n area words reply
   begins i r e =
       let v = verdict (Verdict.Begin i r) e in
       let s = begun-standing area p h n i r sound (c .form) v in
@@ -126,7 +126,7 @@ module _ (limit : ℕ) (p : Peer) (h : Incoming) (n area words reply : ℕ) (c :
         room = c .room;
       }
 
-  pub goes-on : (i : ℕ) (o : Inbound) → judge p ws h ≡ Verdict.More i o → Storing limit o (h .offset) n area words reply
+  pub goes-on : (i : ℕ) (o : Inbound) → judge p ws h ≡ Verdict.More i o → MayStore limit o (h .offset) n area words reply
   goes-on i o e =
       let v = verdict (Verdict.More i o) e in
       let s = continued-standing area p ws h i o sound v in
@@ -144,8 +144,8 @@ module _ (limit : ℕ) (p : Peer) (h : Incoming) (n area words reply : ℕ) (c :
       }
 
 -- a message that begins is stored as it was opened
-pub begun-stores : (limit : ℕ) (r : Receive) (h : Incoming) (n area words words′ reply : ℕ) → Beginning limit r h n area words reply
-    → 64 * words′ ≡ area → Storing limit (opened r h) (h .offset) n area words′ reply
+pub begun-stores : (limit : ℕ) (r : Receive) (h : Incoming) (n area words words′ reply : ℕ) → MayBegin limit r h n area words reply
+    → 64 * words′ ≡ area → MayStore limit (opened r h) (h .offset) n area words′ reply
 begun-stores limit r h n area words words′ reply b whole =
     record {
       accepting = record {
@@ -187,5 +187,5 @@ in-peer p i s t e = ap (inPeer p i) e
 
 -- a quiet step leaves what is lent
 pub left-quiet : (area ws reply : List ℕ) (p : Peer) (a : Answer)
-    → _≡_ {A = PacketLeaves} (record { step = record { peer = p; answer = a }; area = area; words = ws; reply = reply }) (leaves area reply (quiet p ws a))
+    → _≡_ {A = PacketLeaves} (record { step = record { peer = p; answer = a }; area = area; words = ws; reply = reply }) (packetLeaves area reply (quiet p ws a))
 left-quiet area ws reply p a = rw (store-nothing area 0, store-nothing reply 0)

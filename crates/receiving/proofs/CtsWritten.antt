@@ -13,11 +13,10 @@ use Rattle.protocol.specs.Layout.{layout}
 use Rattle.protocol.specs.Lengths.{lengthsFit}
 use Rattle.protocol.specs.Optional.{optionsFit, sectionsOf}
 use Rattle.protocol.specs.Types.{ctsRow, rowIn, rowOf}
-use Rattle.protocol.specs.Writing.{baseBytes, mandatoryBytes, packetBytes, writeOf}
+use Rattle.protocol.specs.Writing.{WriteLeaves, baseBytes, mandatoryBytes, packetBytes, writeOf}
 use Rattle.protocol.specs.declared.types.Written.{Written}
 use Rattle.wire.specs.LittleEndian.{leBytes}
 use Rattle.protocol.proofs.Accepted.{WrittenAs, write-as}
-use Rattle.protocol.specs.Writing as writing
 
 cts-length : (send recv n : ℕ) → length (ctsBytes send recv n) ≡ 24
 unfolding ctsBytes packetBytes mandatoryBytes baseBytes fieldBytes layout sectionsOf leBytes pick
@@ -44,4 +43,4 @@ cts-written send recv n out room one =
 -- what the writer leaves in the buffer
 pub cts-left : (send recv n : ℕ) (out : List ℕ) (a : Written) (l : List ℕ) → 24 ≤ length out → 1 ≤ n
     → record { answer = a; out = l } ≡ writeOf (ctsHeader send recv n) [] [] out → l ≡ storeAt out 0 (ctsBytes send recv n)
-cts-left send recv n out a l room one e = ap (λ (x : writing.Outcome). x .out) (e ∙ cts-written send recv n out room one)
+cts-left send recv n out a l room one e = ap (λ (x : WriteLeaves). x .out) (e ∙ cts-written send recv n out room one)

@@ -14,8 +14,8 @@ pub record PacketLeaves : Type 0 where
   pub reply : List ℕ
 
 -- the effect's bytes are put into the area, and its reply packet at the start of the reply buffer
-abbrev pub leaves : List ℕ → List ℕ → Effect → PacketLeaves
-leaves area reply f =
+abbrev pub packetLeaves : List ℕ → List ℕ → Effect → PacketLeaves
+packetLeaves area reply f =
     record {
       step = record { peer = f .peer; answer = f .answer };
       area = storeAt area (f .at) (f .bytes);

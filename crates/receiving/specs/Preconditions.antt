@@ -23,7 +23,7 @@ pub record Limited (limit : ℕ) : Type 0 where
   pub high : limit ≤ packetLimit
 
 -- a grant is due: length remains
-pub record Granting (limit : ℕ) (m : Message) : Type 0 where
+pub record MayGrant (limit : ℕ) (m : Message) : Type 0 where
   pub limited : Limited limit
   pub remains : m .granted < m .length
 
@@ -38,12 +38,12 @@ pub record Mapping (words : ℕ) (o : Inbound) : Type 0 where
   pub small : 64 * words ≤ areaLimit
 
 -- a packet that was read, for a peer that can be
-pub record Judging (words : ℕ) (p : Peer) (h : Incoming) : Type 0 where
+pub record MayJudge (words : ℕ) (p : Peer) (h : Incoming) : Type 0 where
   pub mapped : Mapped (64 * words) words p
   pub form : Formed h (h .size)
 
 -- an open message in an area with its map, and room for a reply
-pub record Accepting (limit : ℕ) (o : Inbound) (area words reply : ℕ) : Type 0 where
+pub record MayAccept (limit : ℕ) (o : Inbound) (area words reply : ℕ) : Type 0 where
   pub limited : Limited limit
   pub inArea : o .receive .start + o .receive .capacity ≤ area
   pub inRange : o .message .length ≤ o .receive .capacity
@@ -53,12 +53,12 @@ pub record Accepting (limit : ℕ) (o : Inbound) (area words reply : ℕ) : Type
   pub room : 24 ≤ reply
 
 -- the same, with n bytes to be stored at an offset in the message
-pub record Storing (limit : ℕ) (o : Inbound) (offset n area words reply : ℕ) : Type 0 where
-  pub accepting : Accepting limit o area words reply
+pub record MayStore (limit : ℕ) (o : Inbound) (offset n area words reply : ℕ) : Type 0 where
+  pub accepting : MayAccept limit o area words reply
   pub inMessage : offset + n ≤ o .message .length
 
 -- a message begins in a receive, with n bytes of data
-pub record Beginning (limit : ℕ) (r : Receive) (h : Incoming) (n area words reply : ℕ) : Type 0 where
+pub record MayBegin (limit : ℕ) (r : Receive) (h : Incoming) (n area words reply : ℕ) : Type 0 where
   pub limited : Limited limit
   pub inArea : r .start + r .capacity ≤ area
   pub inRange : h .length ≤ r .capacity
@@ -69,7 +69,7 @@ pub record Beginning (limit : ℕ) (r : Receive) (h : Incoming) (n area words re
   pub room : 24 ≤ reply
 
 -- a packet with n bytes of data is to be judged, and the verdict carried out
-pub record Carrying (limit : ℕ) (p : Peer) (h : Incoming) (n area words reply : ℕ) : Type 0 where
+pub record MayCarry (limit : ℕ) (p : Peer) (h : Incoming) (n area words reply : ℕ) : Type 0 where
   pub limited : Limited limit
   pub mapped : Mapped area words p
   pub form : Formed h n

@@ -17,10 +17,10 @@ use peer::Verdict;
 ghost use mathlib.Core.Path.{_≡_};
 ghost use Prim.Native.Nat.{_+_, _*_, _≤_};
 ghost use lib.ListN.{length};
-ghost use Rattle.receiving.specs.Preconditions.{Granting, Mapping, Accepting, Storing, Beginning, Carrying};
+ghost use Rattle.receiving.specs.Preconditions.{MayGrant, Mapping, MayAccept, MayStore, MayBegin, MayCarry};
 ghost use Rattle.peer.specs.Effects.{opened, extended, progressOf, finished, granting, holding, settledAs, accept, begun, carry};
 ghost use Rattle.peer.specs.Judging.{judge};
-ghost use Rattle.receiving.specs.Leaves.{leaves, replies, segmentLeaves};
+ghost use Rattle.receiving.specs.Leaves.{packetLeaves, replies, segmentLeaves};
 ghost use Rattle.peer.specs.declared.types.Answer.{Answer};
 ghost use Rattle.peer.specs.declared.types.Phase.{Phase};
 
@@ -105,7 +105,7 @@ fn hold(inbound: Inbound) -> SlotStep
 
 // The message is granted more: a CTS is written, and its granted end moves on.
 fn grant(limit: usize, inbound: Inbound, reply: &mut [u8]) -> SlotStep
-    requires { ⌜ Granting limit (inbound .message) ⌝ }
+    requires { ⌜ MayGrant limit (inbound .message) ⌝ }
     requires { ⌜ 24 ≤ length (now reply) ⌝ }
     ensures { λ r. ⌜ record { step = r; reply = now (reply .exit) } ≡ replies (now (reply .entry)) (granting limit inbound) ⌝ }
 {
@@ -120,7 +120,7 @@ fn grant(limit: usize, inbound: Inbound, reply: &mut [u8]) -> SlotStep
 
 // What the map says of the message in slot i after a segment: done, granted or stored.
 fn settle(limit: usize, i: usize, inbound: Inbound, words: &[u64], reply: &mut [u8]) -> SlotStep
-    requires { ⌜ Accepting limit inbound (64 * length (now words)) (length (now words)) (length (now reply)) ⌝ }
+    requires { ⌜ MayAccept limit inbound (64 * length (now words)) (length (now words)) (length (now reply)) ⌝ }
     ensures { λ r. ⌜ record { step = r; reply = now (reply .exit) } ≡ replies (now (reply .entry)) (settledAs limit i inbound (progressOf (now (words .entry)) inbound)) ⌝ }
 {
     match progress(inbound, words) {
@@ -141,7 +141,7 @@ fn accept(
     words: &mut [u64],
     reply: &mut [u8],
 ) -> SlotStep
-    requires { ⌜ Storing limit inbound offset (length (now bytes)) (length (now area)) (length (now words)) (length (now reply)) ⌝ }
+    requires { ⌜ MayStore limit inbound offset (length (now bytes)) (length (now area)) (length (now words)) (length (now reply)) ⌝ }
     ensures { λ r. ⌜ record { step = r; area = now (area .exit); words = now (words .exit); reply = now (reply .exit) } ≡ segmentLeaves (now (area .entry)) (now (reply .entry)) (accept limit (now (words .entry)) i inbound offset (now (bytes .entry))) ⌝ }
 {
     let receive = inbound.receive;
@@ -162,7 +162,7 @@ fn begin(
     words: &mut [u64],
     reply: &mut [u8],
 ) -> SlotStep
-    requires { ⌜ Beginning limit receive h (length (now bytes)) (length (now area)) (length (now words)) (length (now reply)) ⌝ }
+    requires { ⌜ MayBegin limit receive h (length (now bytes)) (length (now area)) (length (now words)) (length (now reply)) ⌝ }
     ensures { λ r. ⌜ record { step = r; area = now (area .exit); words = now (words .exit); reply = now (reply .exit) } ≡ segmentLeaves (now (area .entry)) (now (reply .entry)) (begun limit (now (words .entry)) i receive h (now (bytes .entry))) ⌝ }
 {
     let inbound = opened(receive, h);
@@ -195,8 +195,8 @@ pub(crate) fn carry(
     words: &mut [u64],
     reply: &mut [u8],
 ) -> Step
-    requires { ⌜ Carrying limit peer h (length (now bytes)) (length (now area)) (length (now words)) (length (now reply)) ⌝ }
-    ensures { λ r. ⌜ record { step = r; area = now (area .exit); words = now (words .exit); reply = now (reply .exit) } ≡ leaves (now (area .entry)) (now (reply .entry)) (carry limit peer (now (words .entry)) h (now (bytes .entry)) (judge peer (now (words .entry)) h)) ⌝ }
+    requires { ⌜ MayCarry limit peer h (length (now bytes)) (length (now area)) (length (now words)) (length (now reply)) ⌝ }
+    ensures { λ r. ⌜ record { step = r; area = now (area .exit); words = now (words .exit); reply = now (reply .exit) } ≡ packetLeaves (now (area .entry)) (now (reply .entry)) (carry limit peer (now (words .entry)) h (now (bytes .entry)) (judge peer (now (words .entry)) h)) ⌝ }
 {
     match judging::judge(peer, h, words) {
         Verdict::Refuse(refusal) => peer.refused(refusal),

@@ -10,7 +10,7 @@ ghost use Prim.Native.Nat.{_≤_, min, max};
 ghost use lib.ListN.{length};
 ghost use Rattle.laws.specs.Parts.{storeAt};
 ghost use Rattle.protocol.specs.Cts.{ctsHeader, ctsBytes};
-ghost use Rattle.receiving.specs.Preconditions.{Granting};
+ghost use Rattle.receiving.specs.Preconditions.{MayGrant};
 ghost use Rattle.peer.specs.Effects.{grantOf};
 
 // The numbers of a CTS packet; its flags are clear.
@@ -62,7 +62,7 @@ fn granted_packets(credit_request: u32) -> usize
 
 // How many bytes the next CTS grants.
 pub(crate) fn grant_of(message: Message, limit: usize) -> usize
-    requires { ⌜ Granting limit message ⌝ }
+    requires { ⌜ MayGrant limit message ⌝ }
     ensures { λ r. ⌜ r ≡ grantOf limit message ⌝ }
 {
     let most = granted_packets(message.credit_request) * (limit - Peer::HEADER_ALLOWANCE);

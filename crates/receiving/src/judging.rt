@@ -18,7 +18,7 @@ ghost use mathlib.Core.Bool.{true};
 ghost use Prim.Native.Nat.{_+_};
 ghost use lib.Dec.{leb};
 ghost use lib.ListN.{length};
-ghost use Rattle.receiving.specs.Preconditions.{Placed, Judging};
+ghost use Rattle.receiving.specs.Preconditions.{Placed, MayJudge};
 ghost use Rattle.peer.specs.Matching.{sameMessage};
 ghost use Rattle.peer.specs.Judging.{judgeMore, judgeAgain, judgeData, judgeFit, judgeNew, judge};
 
@@ -99,7 +99,7 @@ fn judge_new(peer: Peer, h: Incoming) -> Verdict
 
 // A packet that was read.
 pub(crate) fn judge(peer: Peer, h: Incoming, words: &[u64]) -> Verdict
-    requires { ⌜ Judging (length (now words)) peer h ⌝ }
+    requires { ⌜ MayJudge (length (now words)) peer h ⌝ }
     ensures { λ r. ⌜ r ≡ judge peer (now (words .entry)) h ⌝ }
 {
     let shape = h.shape;

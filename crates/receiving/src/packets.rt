@@ -9,7 +9,7 @@ ghost use mathlib.Core.Path.{_≡_};
 ghost use lib.ListN.{length};
 ghost use Rattle.receiving.specs.Preconditions.{Limited, Mapped};
 ghost use Rattle.peer.specs.Calls.{packetEffect};
-ghost use Rattle.receiving.specs.Leaves.{leaves};
+ghost use Rattle.receiving.specs.Leaves.{packetLeaves};
 
 // A packet comes in: it is read, judged, and the verdict carried out in the peer's own area and map words.
 pub fn packet(
@@ -22,7 +22,7 @@ pub fn packet(
 ) -> Step
     requires { ⌜ Limited limit ⌝ }
     requires { ⌜ Mapped (length (now area)) (length (now words)) peer ⌝ }
-    ensures { λ r. ⌜ record { step = r; area = now (area .exit); words = now (words .exit); reply = now (reply .exit) } ≡ leaves (now (area .entry)) (now (reply .entry)) (packetEffect limit peer (now (words .entry)) (now (bytes .entry)) (length (now (reply .entry)))) ⌝ }
+    ensures { λ r. ⌜ record { step = r; area = now (area .exit); words = now (words .exit); reply = now (reply .exit) } ≡ packetLeaves (now (area .entry)) (now (reply .entry)) (packetEffect limit peer (now (words .entry)) (now (bytes .entry)) (length (now (reply .entry)))) ⌝ }
 {
     if reply.len() < Peer::CTS_LENGTH {
         return peer.refused(SHORT_REPLY);

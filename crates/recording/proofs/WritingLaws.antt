@@ -12,7 +12,7 @@ use Rattle.laws.specs.Parts.{storeAt}
 use Rattle.trace.specs.Numbers.{numberBytes}
 use Rattle.trace.specs.Recorded.{numbersBytes}
 use Rattle.recording.specs.Writing.{wrote}
-use Rattle.recording.specs.declared.types.Written.the-variants.{Next, Short}
+use Rattle.recording.specs.declared.types.TraceWritten.the-variants.{Next, Short}
 use Rattle.laws.proofs.Storing.{store-store}
 
 pub numbers-next : (l : List ℕ) (k : ℕ) → k < length l → numbersBytes (drop k l) ≡ numberBytes (getD l k 0) ++ numbersBytes (drop (suc k) l)

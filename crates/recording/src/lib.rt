@@ -3,7 +3,7 @@ mod number;
 mod types;
 mod writing;
 
-pub use types::Written;
+pub use types::TraceWritten;
 pub use writing::write_cancel;
 pub use writing::write_packet;
 pub use writing::write_post;

@@ -1,13 +1,13 @@
 // Writing a trace, for whoever records a run.
 use crate::number;
-use crate::types::Written;
+use crate::types::TraceWritten;
 use peer::Receive;
 ghost use mathlib.Core.List.{_++_};
 ghost use mathlib.Core.Path.{_≡_};
 ghost use Prim.Native.Nat.{_+_, _≤_};
 ghost use lib.ListN.{length};
 ghost use Rattle.laws.specs.Parts.{storeAt};
-ghost use Rattle.trace.specs.Recorded.{numbersBytes, setUpBytes, postBytes, packetBytes, cancelBytes};
+ghost use Rattle.trace.specs.Recorded.{numbersBytes, setUpBytes, postEntry, packetEntry, cancelEntry};
 ghost use Rattle.recording.specs.Writing.{wrote};
 
 // How many bytes the numbers take.
@@ -40,34 +40,34 @@ fn put_numbers(out: &mut [u8], at: usize, numbers: &[u64]) -> usize
 }
 
 // Numbers, and bytes behind them, at a place of a buffer.
-fn write(numbers: &[u64], bytes: &[u8], out: &mut [u8], at: usize) -> Written
+fn write(numbers: &[u64], bytes: &[u8], out: &mut [u8], at: usize) -> TraceWritten
     requires { ⌜ length (now numbers) ≤ 8 ⌝ }
     ensures { λ r. ⌜ record { written = r; out = now (out .exit) } ≡ wrote (now (out .entry)) at (numbersBytes (now (numbers .entry)) ++ now (bytes .entry)) ⌝ }
 {
     if out.len() < at {
-        return Written::Short;
+        return TraceWritten::Short;
     }
     let room = out.len() - at;
     let size = numbers_size(numbers);
     if room < size {
-        return Written::Short;
+        return TraceWritten::Short;
     }
     if room - size < bytes.len() {
-        return Written::Short;
+        return TraceWritten::Short;
     }
     let next = put_numbers(out, at, numbers);
-    Written::Next(wire::write_bytes(out, next, bytes))
+    TraceWritten::Next(wire::write_bytes(out, next, bytes))
 }
 
 // The first three numbers of a trace.
-pub fn write_set_up(n: usize, area: usize, limit: usize, out: &mut [u8], at: usize) -> Written
+pub fn write_set_up(n: usize, area: usize, limit: usize, out: &mut [u8], at: usize) -> TraceWritten
     ensures { λ r. ⌜ record { written = r; out = now (out .exit) } ≡ wrote (now (out .entry)) at (setUpBytes n area limit) ⌝ }
 {
     write(&[n as u64, area as u64, limit as u64], b"", out, at)
 }
 
-pub fn write_post(peer: usize, receive: Receive, out: &mut [u8], at: usize) -> Written
-    ensures { λ r. ⌜ record { written = r; out = now (out .exit) } ≡ wrote (now (out .entry)) at (postBytes peer receive) ⌝ }
+pub fn write_post(peer: usize, receive: Receive, out: &mut [u8], at: usize) -> TraceWritten
+    ensures { λ r. ⌜ record { written = r; out = now (out .exit) } ≡ wrote (now (out .entry)) at (postEntry peer receive) ⌝ }
 {
     let kind: u64 = if receive.tagged { 1 } else { 0 };
     let numbers = [
@@ -82,14 +82,14 @@ pub fn write_post(peer: usize, receive: Receive, out: &mut [u8], at: usize) -> W
     write(&numbers, b"", out, at)
 }
 
-pub fn write_packet(peer: usize, bytes: &[u8], out: &mut [u8], at: usize) -> Written
-    ensures { λ r. ⌜ record { written = r; out = now (out .exit) } ≡ wrote (now (out .entry)) at (packetBytes peer (now (bytes .entry))) ⌝ }
+pub fn write_packet(peer: usize, bytes: &[u8], out: &mut [u8], at: usize) -> TraceWritten
+    ensures { λ r. ⌜ record { written = r; out = now (out .exit) } ≡ wrote (now (out .entry)) at (packetEntry peer (now (bytes .entry))) ⌝ }
 {
     write(&[2, peer as u64, bytes.len() as u64], bytes, out, at)
 }
 
-pub fn write_cancel(peer: usize, slot: usize, out: &mut [u8], at: usize) -> Written
-    ensures { λ r. ⌜ record { written = r; out = now (out .exit) } ≡ wrote (now (out .entry)) at (cancelBytes peer slot) ⌝ }
+pub fn write_cancel(peer: usize, slot: usize, out: &mut [u8], at: usize) -> TraceWritten
+    ensures { λ r. ⌜ record { written = r; out = now (out .exit) } ≡ wrote (now (out .entry)) at (cancelEntry peer slot) ⌝ }
 {
     write(&[3, peer as u64, slot as u64], b"", out, at)
 }

@@ -11,12 +11,12 @@ use Rattle.laws.proofs.Choosing.{pick-either, pick-false, pick-true}
 use Rattle.peer.specs.declared.types.Request.{Request}
 use Rattle.trace.specs.Entries.{entryAt}
 use Rattle.trace.specs.declared.types.FoundEntry.{FoundEntry}
-use Rattle.replay.specs.Decoding.{Decoded, before, decode, endingAt, lentBuffer, noMore, onFound}
+use Rattle.replay.specs.Decoding.{Decoded, decode, endingAt, lentBuffer, noMore, onFoundEntry, withFirst}
 use Rattle.replay.specs.declared.types.Ending.{Ending}
 
 module _ (k : ℕ) (s buffer : List ℕ) (at : ℕ) where
   pub decode-entry : (q : Request) (next : ℕ) → at < length s → entryAt s at ≡ FoundEntry.Entry q next
-      → decode (suc k) s buffer at ≡ before (lentBuffer (length buffer) q) (decode k s buffer next)
+      → decode (suc k) s buffer at ≡ withFirst (lentBuffer (length buffer) q) (decode k s buffer next)
   unfolding decode
   decode-entry q next h f = pick-false _ _ (lt-leb (length s) at h) ∙ rw f
 
@@ -40,6 +40,6 @@ calls-few (suc k) s buffer at =
     pick-either (λ (d : Decoded). length (d .calls) ≤ suc k) (leb (length s) at) (omega arith) (found (entryAt s at) (calls-few k s buffer))
   where
     found : (f : FoundEntry) → ((next : ℕ) → length (decode k s buffer next .calls) ≤ k)
-        → length (onFound f (noMore (Ending.Bad at)) (λ q next. before (lentBuffer (length buffer) q) (decode k s buffer next)) .calls) ≤ suc k
+        → length (onFoundEntry f (noMore (Ending.Bad at)) (λ q next. withFirst (lentBuffer (length buffer) q) (decode k s buffer next)) .calls) ≤ suc k
     found FoundEntry.Bad ih = omega arith
     found (FoundEntry.Entry q next) ih = let l = ih next in omega arith

@@ -18,9 +18,9 @@ use Rattle.trace.specs.declared.types.SetUp.{SetUp}
 use Rattle.trace.proofs.OnlyAsRecorded.{entry-only-as-recorded, set-up-only-as-recorded}
 use Rattle.trace.proofs.ReadBack.{bad-if-nothing-recorded, set-up-read-back}
 use Rattle.engine.specs.Steps.{World}
-use Rattle.replay.specs.Decoding.{Decoded, before, decode, endingAt, lentBuffer, noMore, onFound}
+use Rattle.replay.specs.Decoding.{Decoded, decode, endingAt, lentBuffer, noMore, onFoundEntry, withFirst}
 use Rattle.replay.specs.Endings.{DecodesWhatStands, EndsAfter, EndsAs, ReplayEndsAsSaid, ReplayTakesAtMost, Taken, TakesAtMost, setUpAnswer}
-use Rattle.replay.specs.Replaying.{ReplayLeaves, begun, hasRoom, onReady, replayOf, reported, started, told}
+use Rattle.replay.specs.Replaying.{ReplayLeaves, hasRoom, onReady, replayFrom, replayOf, reported, started, told}
 use Rattle.replay.specs.declared.types.Ending.{Ending}
 
 -- ---- entries
@@ -52,7 +52,7 @@ module _ (s buffer : List ℕ) (bytes : (i : ℕ) → getD s i 0 < 256) where
   none k at e h = ([], refl, record { place = at; stand = refl; few = omega arith; ends = h })
 
   found : (k at : ℕ) → at < length s → ((next : ℕ) → next ≤ length s → Decodes s buffer k next (decode k s buffer next)) → (f : FoundEntry) → entryAt s at ≡ f
-      → Decodes s buffer (suc k) at (onFound f (noMore (Ending.Bad at)) (λ q next. before (lentBuffer (length buffer) q) (decode k s buffer next)))
+      → Decodes s buffer (suc k) at (onFoundEntry f (noMore (Ending.Bad at)) (λ q next. withFirst (lentBuffer (length buffer) q) (decode k s buffer next)))
   found k at l ih FoundEntry.Bad p = none (suc k) at (Ending.Bad at) (refl, l, omega arith, bad-if-nothing-recorded s at p)
   found k at l ih (FoundEntry.Entry q next) p =
       let h = entry-only-as-recorded s at q next bytes p in
@@ -109,12 +109,12 @@ module _ (s : List ℕ) (budget : ℕ) (arena words reply text : List ℕ) (byte
 
   set-up-stands : (n area limit next : ℕ) → SetUpStands s 0 n area limit next
       → EndsAfter s budget next (setUpAnswer n area limit arena words) (started s budget arena words reply text (SetUp.Are n area limit next) .replayed)
-  unfolding started begun
+  unfolding started replayFrom
   set-up-stands n area limit next h =
       answered s budget next reply text _ _ _ _ (setUpAnswer n area limit arena words) (decodes-what-stands budget s reply next bytes (h .3 .inside))
 
   started-at-most : (u : SetUp) → setUpAt s 0 ≡ u → TakesAtMost budget (started s budget arena words reply text u .replayed)
-  unfolding started begun
+  unfolding started replayFrom
   started-at-most SetUp.Bad e = (omega arith, λ p. let z : _≡_ {A = ℕ} 0 1 = cc in omega arith)
   started-at-most (SetUp.Are n area limit next) e =
       let h = set-up-only-as-recorded s 0 n area limit next bytes e in

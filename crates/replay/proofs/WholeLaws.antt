@@ -27,7 +27,7 @@ use Rattle.guarantees.specs.Receiving.{freshWorld}
 use Rattle.guarantees.proofs.SetUps.{fresh-good}
 use Rattle.replay.specs.Decoding.{Decoded, decode}
 use Rattle.replay.specs.Lines.{answerLine, endingLine, setUpLine}
-use Rattle.replay.specs.Replaying.{ReplayLeaves, begun, hasRoom, onReady, putBack, ran, replayOf, report, reported, started, told}
+use Rattle.replay.specs.Replaying.{ReplayLeaves, hasRoom, inWhole, onReady, ran, replayFrom, replayOf, report, reported, started, told}
 use Rattle.replay.specs.declared.types.Ending.{Ending}
 use Rattle.replay.proofs.LineRoom.{ending-room, lines-room, tell-room}
 use Rattle.replay.proofs.DecodeLaws.{calls-few}
@@ -57,15 +57,15 @@ module _ (n area limit : ℕ) (s : List ℕ) (next budget : ℕ) (arena map repl
   untouched : (k : Refusal) → x .started .answer ≡ Ready.Refused k → x .map ≡ map
   untouched k = either (λ (y : Prepared). y .started .answer ≡ Ready.Refused k → y .map ≡ map) (λ r. refused-or-ready (sym r)) (λ r. refl)
 
-  pub begun-ready : x .started .answer ≡ Ready.Ready
-      → begun n area limit s next budget arena map reply text ≡ reported s reply (world (x .started .engine) arena (x .map)) text (decode budget s reply next)
-  unfolding begun freshWorld
-  begun-ready r = rw (← e, r)
+  pub replay-from-ready : x .started .answer ≡ Ready.Ready
+      → replayFrom n area limit s next budget arena map reply text ≡ reported s reply (world (x .started .engine) arena (x .map)) text (decode budget s reply next)
+  unfolding replayFrom freshWorld
+  replay-from-ready r = rw (← e, r)
 
-  pub begun-refused : (k : Refusal) → x .started .answer ≡ Ready.Refused k
-      → begun n area limit s next budget arena map reply text ≡ told arena (x .map) reply text (Ending.NotSetUp k)
-  unfolding begun
-  begun-refused k r = rw (← e, r, untouched k r)
+  pub replay-from-refused : (k : Refusal) → x .started .answer ≡ Ready.Refused k
+      → replayFrom n area limit s next budget arena map reply text ≡ told arena (x .map) reply text (Ending.NotSetUp k)
+  unfolding replayFrom
+  replay-from-refused k r = rw (← e, r, untouched k r)
 
 -- ---- the text
 
@@ -142,16 +142,16 @@ pub put-back : (arena map : List ℕ) (x : ReplayLeaves) (bytes words : ℕ) →
       reply = x .reply;
       text = x .text;
     }
-    ≡ putBack arena map x
+    ≡ inWhole arena map x
 put-back arena map x bytes words p q = rw (store-start arena (x .arena) bytes p, store-start map (x .map) words q)
 
 -- ---- the text lies within its buffer
 
 module _ (s : List ℕ) (budget : ℕ) (arena map reply text : List ℕ) where
-  begun-inside : 64 + 80 * budget ≤ length text → (n area limit next : ℕ) (a m : List ℕ)
-      → begun n area limit s next budget a m reply text .replayed .written ≤ length text
-  unfolding begun reported
-  begun-inside room n area limit next a m = ready (setUp n area limit (length a) m .started .answer)
+  replay-from-inside : 64 + 80 * budget ≤ length text → (n area limit next : ℕ) (a m : List ℕ)
+      → replayFrom n area limit s next budget a m reply text .replayed .written ≤ length text
+  unfolding replayFrom reported
+  replay-from-inside room n area limit next a m = ready (setUp n area limit (length a) m .started .answer)
     where
       ready : (r : Ready)
           → onReady r (reported s reply (freshWorld n area limit a m) text (decode budget s reply next)) (told a m reply text) .replayed .written ≤ length text
@@ -161,7 +161,7 @@ module _ (s : List ℕ) (budget : ℕ) (arena map reply text : List ℕ) where
   started-inside : 64 + 80 * budget ≤ length text → (u : SetUp) → started s budget arena map reply text u .replayed .written ≤ length text
   unfolding started
   started-inside room SetUp.Bad = tell-room (Ending.Bad 0) budget (length text) room
-  started-inside room (SetUp.Are n area limit next) = begun-inside room n area limit next _ _
+  started-inside room (SetUp.Are n area limit next) = replay-from-inside room n area limit next _ _
 
   written-inside : replayOf s budget arena map reply text .replayed .written ≤ length text
   unfolding replayOf hasRoom endingLine

@@ -27,12 +27,12 @@ pub record Decoded : Type 0 where
 abbrev pub noMore : Ending → Decoded
 noMore e = record { calls = []; ending = e }
 
-abbrev pub before : Request → Decoded → Decoded
-before q d = record { calls = q ∷ d .calls; ending = d .ending }
+abbrev pub withFirst : Request → Decoded → Decoded
+withFirst q d = record { calls = q ∷ d .calls; ending = d .ending }
 
-abbrev pub onFound : {A : Type 0} → FoundEntry → A → (Request → ℕ → A) → A
-onFound FoundEntry.Bad bad f = bad
-onFound (FoundEntry.Entry q next) bad f = f q next
+abbrev pub onFoundEntry : {A : Type 0} → FoundEntry → A → (Request → ℕ → A) → A
+onFoundEntry FoundEntry.Bad bad f = bad
+onFoundEntry (FoundEntry.Entry q next) bad f = f q next
 
 -- whether the trace of n bytes is at its end, or bytes remain
 abbrev pub endingAt : ℕ → ℕ → Ending
@@ -43,4 +43,4 @@ unfoldable pub decode : ℕ → List ℕ → List ℕ → ℕ → Decoded
 decode zero s buffer at = noMore (endingAt at (length s))
 decode (suc k) s buffer at =
     pick (leb (length s) at) (noMore Ending.End)
-    (onFound (entryAt s at) (noMore (Ending.Bad at)) (λ q next. before (lentBuffer (length buffer) q) (decode k s buffer next)))
+    (onFoundEntry (entryAt s at) (noMore (Ending.Bad at)) (λ q next. withFirst (lentBuffer (length buffer) q) (decode k s buffer next)))

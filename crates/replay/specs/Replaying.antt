@@ -78,8 +78,8 @@ onReady Ready.Ready run stop = run
 onReady (Ready.Refused k) run stop = stop (Ending.NotSetUp k)
 
 -- the set-up, and the run of what the trace s records from `next` on
-unfoldable pub begun : ℕ → ℕ → ℕ → List ℕ → ℕ → ℕ → List ℕ → List ℕ → List ℕ → List ℕ → ReplayLeaves
-begun n area limit s next budget arena map reply text =
+unfoldable pub replayFrom : ℕ → ℕ → ℕ → List ℕ → ℕ → ℕ → List ℕ → List ℕ → List ℕ → List ℕ → ReplayLeaves
+replayFrom n area limit s next budget arena map reply text =
     onReady (setUp n area limit (length arena) map .started .answer)
     (reported s reply (freshWorld n area limit arena map) text (decode budget s reply next))
     (told arena map reply text)
@@ -89,8 +89,8 @@ unfoldable pub lentOf : ℕ → ℕ → ℕ → ℕ
 lentOf n each there = pick (leb n peerCount && (leb each areaLimit && leb (n * each) there)) (n * each) 0
 
 -- the first elements of arena and map as they are left
-abbrev pub putBack : List ℕ → List ℕ → ReplayLeaves → ReplayLeaves
-putBack arena map l =
+abbrev pub inWhole : List ℕ → List ℕ → ReplayLeaves → ReplayLeaves
+inWhole arena map l =
     record {
       replayed = l .replayed;
       arena = storeAt arena 0 (l .arena);
@@ -103,8 +103,8 @@ putBack arena map l =
 unfoldable pub started : List ℕ → ℕ → List ℕ → List ℕ → List ℕ → List ℕ → SetUp → ReplayLeaves
 started s budget arena map reply text SetUp.Bad = told arena map reply text (Ending.Bad 0)
 started s budget arena map reply text (SetUp.Are n area limit next) =
-    putBack arena map
-    (begun n area limit s next budget
+    inWhole arena map
+    (replayFrom n area limit s next budget
     (part arena 0 (lentOf n area (length arena))) (part map 0 (lentOf n (area / 64) (length map))) reply text)
 
 -- the room that a text takes at most: its first and its last line, and a line for each entry

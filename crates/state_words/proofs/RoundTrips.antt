@@ -23,7 +23,7 @@ use Rattle.engine.specs.declared.types.Engine.{Engine}
 use Rattle.state_words.specs.Flat.{flat, same}
 use Rattle.state_words.specs.Loading.{engineIn, isState, peerIn, phaseIn, shapeIn, stateOf}
 use Rattle.state_words.specs.RoundTrip.{Held, LoadedAgain, MessageHeld, PeerHeld, SavedAgain}
-use Rattle.words.specs.Presence.{bitOf, cqBit, cqValue}
+use Rattle.words.specs.Presence.{boolBit, cqBit, cqValue}
 use Rattle.state_words.specs.Saving.{engineWords, peerSize, peerWords, phaseWords, shapeNumber, slotSize, slotWords, sortWord}
 use Rattle.laws.proofs.Choosing.{pick-true}
 use Rattle.state_words.proofs.FlatLaws.{length-flat, tabulate-is, same-refl, same-true}
@@ -66,7 +66,7 @@ stand-each f c l d each w at s i h j k =
 
 -- ---- what is read where they stand
 
-bit-read : (b : Bool) → eqb (bitOf b) 1 ≡ b
+bit-read : (b : Bool) → eqb (boolBit b) 1 ≡ b
 bit-read true = refl
 bit-read false = refl
 

@@ -5,7 +5,7 @@ use mathlib.Core.Bool.{Bool}
 use mathlib.Core.List.{List, [], _∷_}
 use Rattle.protocol.specs.declared.table.Shape.{Shape}
 use Rattle.protocol.specs.declared.table.Shape.the-variants.{Cts, CtsData, Eager, Medium, LongCts}
-use Rattle.words.specs.Presence.{bitOf, cqBit, cqValue}
+use Rattle.words.specs.Presence.{boolBit, cqBit, cqValue}
 use Rattle.peer.specs.declared.types.Receive.{Receive}
 use Rattle.peer.specs.declared.types.Message.{Message}
 use Rattle.peer.specs.declared.types.Phase.{Phase}
@@ -36,17 +36,17 @@ shapeNumber LongCts = 4
 
 -- shape and tagged in one word
 abbrev pub sortWord : Shape → Bool → ℕ
-sortWord s tagged = 2 * shapeNumber s + bitOf tagged
+sortWord s tagged = 2 * shapeNumber s + boolBit tagged
 
 -- a phase, by its number, its receive, its age and its message; what it has not is 0
 unfoldable pub phaseWords : Phase → List ℕ
 phaseWords Phase.Free = 0 ∷ 0 ∷ 0 ∷ 0 ∷ 0 ∷ 0 ∷ 0 ∷ 0 ∷ 0 ∷ 0 ∷ 0 ∷ 0 ∷ 0 ∷ 0 ∷ 0 ∷ 0 ∷ []
 phaseWords (Phase.Posted r age) =
-    1 ∷ bitOf (r .tagged) ∷ r .tag ∷ r .ignore ∷ r .start ∷ r .capacity ∷ age ∷ 0 ∷ 0 ∷ 0 ∷ 0 ∷ 0 ∷ 0 ∷ 0 ∷ 0 ∷ 0 ∷ []
+    1 ∷ boolBit (r .tagged) ∷ r .tag ∷ r .ignore ∷ r .start ∷ r .capacity ∷ age ∷ 0 ∷ 0 ∷ 0 ∷ 0 ∷ 0 ∷ 0 ∷ 0 ∷ 0 ∷ 0 ∷ []
 phaseWords (Phase.Open o) =
     let r : Receive = o .receive in
     let m : Message = o .message in
-    2 ∷ bitOf (r .tagged) ∷ r .tag ∷ r .ignore ∷ r .start ∷ r .capacity ∷ 0
+    2 ∷ boolBit (r .tagged) ∷ r .tag ∷ r .ignore ∷ r .start ∷ r .capacity ∷ 0
     ∷ sortWord (m .shape) (m .tagged) ∷ m .id ∷ m .tag ∷ m .length ∷ m .granted ∷ m .«send_id» ∷ m .«credit_request» ∷ cqBit (m .«cq_data») ∷ cqValue (m .«cq_data») ∷ []
 
 abbrev pub slotWords : Slot → List ℕ

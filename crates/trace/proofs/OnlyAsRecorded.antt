@@ -15,7 +15,7 @@ use Rattle.trace.specs.Entries.{cancelAt, entryAt, onNumber, onPair, pac
 use Rattle.trace.specs.ExactlyRecorded.{EntryOnlyAsRecorded, EntryStands, SetUpOnlyAsRecorded, SetUpStands, Stands}
 use Rattle.trace.specs.Numbers.{numberAt, numberBytes}
 use Rattle.trace.specs.Recorded.{numbersBytes}
-use Rattle.trace.specs.ShortestForm.{Small}
+use Rattle.trace.specs.ShortestForm.{IsWord}
 use Rattle.trace.specs.declared.types.Asked.{Asked}
 use Rattle.trace.specs.declared.types.FoundEntry.{FoundEntry}
 use Rattle.trace.specs.declared.types.Number.the-variants.{Is}
@@ -39,7 +39,7 @@ kind-is (suc zero) h = refl
 kind-is (suc (suc k)) h = absurd (omega arith)
 
 module _ (s : List ℕ) (bytes : (i : ℕ) → getD s i 0 < 256) where
-  number-stands : (at v next : ℕ) → numberAt s at ≡ Is v next → Small v × Stands s at (numbersBytes (v ∷ [])) next
+  number-stands : (at v next : ℕ) → numberAt s at ≡ Is v next → IsWord v × Stands s at (numbersBytes (v ∷ [])) next
   unfolding numbersBytes
   number-stands at v next e =
       let (small, place, form) = number-shortest s at v next bytes e in
@@ -48,9 +48,9 @@ module _ (s : List ℕ) (bytes : (i : ℕ) → getD s i 0 < 256) where
 
   abbrev PairStands : ℕ → Pair → Type 0
   PairStands at Pair.Bad = Unit {0}
-  PairStands at (Pair.Are a b next) = Small a × Small b × Stands s at (numbersBytes (a ∷ b ∷ [])) next
+  PairStands at (Pair.Are a b next) = IsWord a × IsWord b × Stands s at (numbersBytes (a ∷ b ∷ [])) next
 
-  pair-stands : (at a b next : ℕ) → pairAt s at ≡ Pair.Are a b next → Small a × Small b × Stands s at (numbersBytes (a ∷ b ∷ [])) next
+  pair-stands : (at a b next : ℕ) → pairAt s at ≡ Pair.Are a b next → IsWord a × IsWord b × Stands s at (numbersBytes (a ∷ b ∷ [])) next
   unfolding pairAt
   pair-stands at a b next e =
       rw e at (on-number (PairStands at) (numberAt s at) Pair.Bad (λ a m. onNumber (numberAt s m) Pair.Bad (λ b end. Pair.Are a b end)) tt

@@ -15,7 +15,7 @@ use Rattle.laws.specs.Parts.{part}
 use Rattle.laws.proofs.Storing.{length-part}
 use Rattle.trace.specs.Entries.{pairAt, setUpAt, receiveAt, postAt, packetAt, cancelAt, entryAt, entryOf}
 use Rattle.trace.specs.Numbers.{numberAt, numberBytes}
-use Rattle.trace.specs.ShortestForm.{Small}
+use Rattle.trace.specs.ShortestForm.{IsWord}
 use Rattle.trace.specs.ExactlyRecorded.{BadIfNothingRecorded, CallStands, EntryReadBack, SetUpReadBack, Stands}
 use Rattle.trace.specs.Recorded.{kindOf, numbersBytes}
 use Rattle.trace.specs.declared.types.Number.the-variants.{Is}
@@ -39,14 +39,14 @@ unfolding numbersBytes
 behind-is [] at = sym (add-zero at)
 behind-is (n ∷ ns) at = rw (behind-is ns, length-append, add-assoc)
 
-number : {s ns r : List ℕ} {at n : ℕ} → Small n → Stand s at (n ∷ ns) r
+number : {s ns r : List ℕ} {at n : ℕ} → IsWord n → Stand s at (n ∷ ns) r
     → (numberAt s at ≡ Is n (behind at (n ∷ []))) × Stand s (behind at (n ∷ [])) ns r
 unfolding numbersBytes
 number {s} {ns} {r} {at} {n} h w =
     let e = w .bytes ∙ append-assoc (numberBytes n) (numbersBytes ns) r in
     (number-read s at n _ h e, record { bytes = rw (← drop-drop, e) (drop-append-seam (numberBytes n) (numbersBytes ns ++ r)) })
 
-pair : {s ns r : List ℕ} {at a b : ℕ} → Small a → Small b → Stand s at (a ∷ b ∷ ns) r
+pair : {s ns r : List ℕ} {at a b : ℕ} → IsWord a → IsWord b → Stand s at (a ∷ b ∷ ns) r
     → (pairAt s at ≡ Pair.Are a b (behind at (a ∷ b ∷ []))) × Stand s (behind at (a ∷ b ∷ [])) ns r
 unfolding pairAt
 pair p q w = let (x, w) = number p w in let (y, w) = number q w in (rw (x, y), w)

@@ -10,8 +10,8 @@ use Rattle.peer.specs.declared.types.Request.{Request}
 use Rattle.trace.specs.declared.types.SetUp.{SetUp}
 use Rattle.trace.specs.declared.types.FoundEntry.{FoundEntry}
 use Rattle.trace.specs.Entries.{setUpAt, entryAt, noBuffer}
-use Rattle.trace.specs.Recorded.{setUpBytes, postBytes, packetBytes, cancelBytes}
-use Rattle.trace.specs.ShortestForm.{Small}
+use Rattle.trace.specs.Recorded.{setUpBytes, postEntry, packetEntry, cancelEntry}
+use Rattle.trace.specs.ShortestForm.{IsWord}
 
 -- ---- where they stand
 
@@ -22,16 +22,16 @@ pub record Stands (s : List ℕ) (at : ℕ) (bytes : List ℕ) (next : ℕ) : Ty
   pub there : part s at (length bytes) ≡ bytes
 
 abbrev pub SetUpStands : List ℕ → ℕ → ℕ → ℕ → ℕ → ℕ → Type 0
-SetUpStands s at n area limit next = Small n × Small area × Small limit × Stands s at (setUpBytes n area limit) next
+SetUpStands s at n area limit next = IsWord n × IsWord area × IsWord limit × Stands s at (setUpBytes n area limit) next
 
 -- a packet's bytes end where it does, and no reply buffer is recorded with it; a report is not recorded
 abbrev pub CallStands : List ℕ → ℕ → ℕ → Call → ℕ → Type 0
 CallStands s at peer (Call.Post r) next =
-    Small peer × Small (r .tag) × Small (r .ignore) × Small (r .start) × Small (r .capacity) × Stands s at (postBytes peer r) next
+    IsWord peer × IsWord (r .tag) × IsWord (r .ignore) × IsWord (r .start) × IsWord (r .capacity) × Stands s at (postEntry peer r) next
 CallStands s at peer (Call.Packet sent reply) next =
-    Small peer × Small (sent .size) × (sent .at + sent .size ≡ next) × (reply ≡ noBuffer)
-    × Stands s at (packetBytes peer (part s (sent .at) (sent .size))) next
-CallStands s at peer (Call.Cancel slot) next = Small peer × Small slot × Stands s at (cancelBytes peer slot) next
+    IsWord peer × IsWord (sent .size) × (sent .at + sent .size ≡ next) × (reply ≡ noBuffer)
+    × Stands s at (packetEntry peer (part s (sent .at) (sent .size))) next
+CallStands s at peer (Call.Cancel slot) next = IsWord peer × IsWord slot × Stands s at (cancelEntry peer slot) next
 CallStands s at peer (Call.Report slot) next = ⊥
 
 abbrev pub EntryStands : List ℕ → ℕ → Request → ℕ → Type 0

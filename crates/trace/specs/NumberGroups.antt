@@ -5,7 +5,7 @@ use mathlib.Core.List.{List, [], _∷_}
 use mathlib.Core.Path.{_≡_}
 use lib.ListN.{length, getD}
 use Rattle.trace.specs.Numbers.{numberBytes}
-use Rattle.trace.specs.ShortestForm.{Small}
+use Rattle.trace.specs.ShortestForm.{IsWord}
 
 -- what bytes count as "groups of seven bits, least first"
 unfoldable pub groupsValue : List ℕ → ℕ
@@ -24,8 +24,8 @@ pub record GroupsOf (v : ℕ) (bs : List ℕ) : Type 0 where
 
 -- what is written of a number "below 2^64", ten bytes at most
 abbrev pub NumberInGroups : Type 0
-NumberInGroups = (v : ℕ) → Small v → GroupsOf v (numberBytes v) × (length (numberBytes v) ≤ 10)
+NumberInGroups = (v : ℕ) → IsWord v → GroupsOf v (numberBytes v) × (length (numberBytes v) ≤ 10)
 
 -- and no other bytes are
 abbrev pub NumberInNoOther : Type 0
-NumberInNoOther = (v : ℕ) (bs : List ℕ) → Small v → GroupsOf v bs → bs ≡ numberBytes v
+NumberInNoOther = (v : ℕ) (bs : List ℕ) → IsWord v → GroupsOf v bs → bs ≡ numberBytes v

@@ -19,11 +19,11 @@ kindOf r = pick (r .tagged) 1 0
 abbrev pub setUpBytes : ℕ → ℕ → ℕ → List ℕ
 setUpBytes n area limit = numbersBytes (n ∷ area ∷ limit ∷ [])
 
-abbrev pub postBytes : ℕ → Receive → List ℕ
-postBytes peer r = numbersBytes (1 ∷ peer ∷ kindOf r ∷ r .tag ∷ r .ignore ∷ r .start ∷ r .capacity ∷ [])
+abbrev pub postEntry : ℕ → Receive → List ℕ
+postEntry peer r = numbersBytes (1 ∷ peer ∷ kindOf r ∷ r .tag ∷ r .ignore ∷ r .start ∷ r .capacity ∷ [])
 
-abbrev pub packetBytes : ℕ → List ℕ → List ℕ
-packetBytes peer bytes = numbersBytes (2 ∷ peer ∷ length bytes ∷ []) ++ bytes
+abbrev pub packetEntry : ℕ → List ℕ → List ℕ
+packetEntry peer bytes = numbersBytes (2 ∷ peer ∷ length bytes ∷ []) ++ bytes
 
-abbrev pub cancelBytes : ℕ → ℕ → List ℕ
-cancelBytes peer slot = numbersBytes (3 ∷ peer ∷ slot ∷ [])
+abbrev pub cancelEntry : ℕ → ℕ → List ℕ
+cancelEntry peer slot = numbersBytes (3 ∷ peer ∷ slot ∷ [])

@@ -7,12 +7,12 @@ use Rattle.laws.specs.Parts.{part}
 use Rattle.trace.specs.declared.types.Number.the-variants.{Is}
 use Rattle.trace.specs.Numbers.{numberAt, numberBytes}
 
--- what machine integers are
-abbrev pub Small : ℕ → Type 0
-Small v = v < 2 ^ 64
+-- what a machine's word holds
+abbrev pub IsWord : ℕ → Type 0
+IsWord v = v < 2 ^ 64
 
--- what is read is small, and its shortest form stands where it is read, up to the place behind it
+-- what is read is such a number, and its shortest form stands where it is read, up to the place behind it
 abbrev pub NumberShortest : Type 0
 NumberShortest =
     (s : List ℕ) (at v next : ℕ) → ((i : ℕ) → getD s i 0 < 256) → numberAt s at ≡ Is v next
-    → Small v × (next ≡ at + length (numberBytes v)) × (part s at (next - at) ≡ numberBytes v)
+    → IsWord v × (next ≡ at + length (numberBytes v)) × (part s at (next - at) ≡ numberBytes v)

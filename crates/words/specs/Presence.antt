@@ -3,9 +3,9 @@ use Prim.Native.Nat.{ℕ}
 use mathlib.Core.Bool.{Bool, true, false}
 use Rattle.protocol.specs.declared.types.CqData.{CqData}
 
-abbrev pub bitOf : Bool → ℕ
-bitOf true = 1
-bitOf false = 0
+abbrev pub boolBit : Bool → ℕ
+boolBit true = 1
+boolBit false = 0
 
 abbrev pub cqBit : CqData → ℕ
 cqBit CqData.Absent = 0

@@ -5,7 +5,7 @@ ghost use mathlib.Core.Path.{_≡_};
 ghost use Prim.Native.Nat.{_+_, _≤_};
 ghost use lib.ListN.{length};
 ghost use Rattle.laws.specs.Parts.{storeAt};
-ghost use Rattle.words.specs.Presence.{bitOf, cqBit, cqValue};
+ghost use Rattle.words.specs.Presence.{boolBit, cqBit, cqValue};
 
 // The words of `from` are put into `words`, from `at` on.
 pub fn put_words(words: &mut [u64], at: usize, from: &[u64])
@@ -20,7 +20,7 @@ pub fn put_words(words: &mut [u64], at: usize, from: &[u64])
 }
 
 pub fn bit_of(b: bool) -> u64
-    ensures { λ r. ⌜ r ≡ bitOf b ⌝ }
+    ensures { λ r. ⌜ r ≡ boolBit b ⌝ }
 {
     if b { 1 } else { 0 }
 }

@@ -8,15 +8,15 @@ use lib.ListN.{length, replicate}
 use Rattle.wire.specs.LittleEndian.{leAt, leBytes, leOf}
 use Rattle.peer.specs.Says.{Saying, say, refused, posted, stored, granted, done, truncated}
 use Rattle.engine.specs.SetUp.{allPeersFit, engineFits, lentFits, numbersFit, peerAt, setUp}
-use Rattle.peer.specs.Calls.{LentCall, cancelAt, cancelEffect, countOlder, countPosted, packet, packetEffect, peerStep, placed, placedIn, post, postEffect, readEffect, renumbered, reportAt, reportEffect, someInTheWay}
+use Rattle.peer.specs.Calls.{LentCall, cancelEffect, cancelSlot, countOlder, countPosted, packet, packetEffect, peerStep, placed, placedIn, post, postEffect, readEffect, renumbered, reportEffect, reportSlot, someInTheWay}
 use Rattle.guarantees.specs.Runs.{callsOf, observe, worldAfter}
-use Rattle.guarantees.specs.Receiving.{Request, Seen, freshWorld, noStarts, receiving, turnOf}
+use Rattle.guarantees.specs.Receiving.{LentRequest, Seen, freshWorld, noStarts, receiving, turnOf}
 use Rattle.laws.specs.Choose.{pick}
 use Rattle.laws.specs.Parts.{part, storeAt}
 use Rattle.protocol.specs.Cts.{ctsBytes}
 use Rattle.protocol.specs.Flags.{hasFlag, flagsFit}
-use Rattle.protocol.specs.Arrays.{arrayLength, countOf}
-use Rattle.protocol.specs.FieldNumbers.{fieldBytes, numberAt, fieldsIn, countIn, numberThere}
+use Rattle.protocol.specs.Arrays.{arrayCount, arrayLength}
+use Rattle.protocol.specs.FieldNumbers.{fieldBytes, fieldIn, fieldsIn, countIn, numberThere}
 use Rattle.protocol.specs.Layout.{layout}
 use Rattle.protocol.specs.Lengths.{lengthsFit}
 use Rattle.protocol.specs.Optional.{flagged, flagsOf, sectionsOf}
@@ -67,7 +67,7 @@ receiveTagged tag ignore = post (record { tagged = true; tag = tag; ignore = ign
 abbrev pub give : List ℕ → LentCall
 give bs = packet bs (replicate 24 255)
 
-abbrev pub asPeer : LentCall → Request
+abbrev pub asPeer : LentCall → LentRequest
 asPeer a = record { peer = 1; call = a }
 
 -- ---- the table
@@ -81,8 +81,8 @@ pub record Yield : Type 0 where
 abbrev pub answers : Saying → Yield
 answers s = record { answer = s; reply = []; bytes = [] }
 
-abbrev pub isDone : ℕ → List ℕ → Yield
-isDone len bytes = record { answer = say done (0 ∷ 0 ∷ len ∷ []); reply = []; bytes = bytes }
+abbrev pub yieldsDone : ℕ → List ℕ → Yield
+yieldsDone len bytes = record { answer = say done (0 ∷ 0 ∷ len ∷ []); reply = []; bytes = bytes }
 
 -- "03 04 00 00 00 00 00 00 07 00 00 00 00 00 00 00 80 00 00 00 00 00 00 00" and its like
 abbrev pub grants : ℕ → Yield
@@ -120,15 +120,15 @@ no k = answers (say refused (k ∷ []))
 abbrev pub cases : List Case
 cases =
     -- "The 11-byte packet above, capacity 3: done, 3. Capacity 2: truncated, 3; next is 1."
-    case (receive 3 ∷ give (eager 0 abc) ∷ []) (postedFirst ∷ isDone 3 abc ∷ []) 1
+    case (receive 3 ∷ give (eager 0 abc) ∷ []) (postedFirst ∷ yieldsDone 3 abc ∷ []) 1
     ∷ case (receive 2 ∷ give (eager 0 abc) ∷ []) (postedFirst ∷ answers (say truncated (0 ∷ 0 ∷ 3 ∷ [])) ∷ []) 1
     -- "Eager without data, capacity 0: done, 0."
-    ∷ case (receive 0 ∷ give (eager 0 []) ∷ []) (postedFirst ∷ isDone 0 [] ∷ []) 1
+    ∷ case (receive 0 ∷ give (eager 0 []) ∷ []) (postedFirst ∷ yieldsDone 0 [] ∷ []) 1
     -- "Seven bytes: 7." "Type 64 with flags 0x000C: 10."
     ∷ case (give (64 ∷ 4 ∷ 4 ∷ 0 ∷ 0 ∷ 0 ∷ 0 ∷ []) ∷ []) (no 7 ∷ []) 0
     ∷ case (give (64 ∷ 4 ∷ 0x0C ∷ 0 ∷ 0 ∷ 0 ∷ 0 ∷ 0 ∷ []) ∷ []) (no 10 ∷ []) 0
     -- "Medium, length 4: `cd` at 2 stored, `ab` at 0 done. `cd` at 2 twice: 16, not done."
-    ∷ case (receive 4 ∷ give (medium 4 2 cd) ∷ give (medium 4 0 ab) ∷ []) (postedFirst ∷ answers (say stored []) ∷ isDone 4 (ab ++ cd) ∷ []) 1
+    ∷ case (receive 4 ∷ give (medium 4 2 cd) ∷ give (medium 4 0 ab) ∷ []) (postedFirst ∷ answers (say stored []) ∷ yieldsDone 4 (ab ++ cd) ∷ []) 1
     ∷ case (receive 4 ∷ give (medium 4 2 cd) ∷ give (medium 4 2 cd) ∷ []) (postedFirst ∷ answers (say stored []) ∷ no 16 ∷ []) 1
     -- "Next 0: ids 1 and 0x7FFFFFFF: 12; 0x80000000 and 0xFFFFFFFF: 15."
     ∷ case (give (eager 1 []) ∷ give (eager 0x7FFFFFFF []) ∷ give (eager 0x80000000 []) ∷ give (eager 0xFFFFFFFF []) ∷ [])
@@ -138,14 +138,14 @@ cases =
     (receive 200 ∷ give (long 200 2 (replicate 40 1)) ∷ give (ctsData 167 (9 ∷ [])) ∷ give (ctsData 168 (9 ∷ []))
     ∷ give (ctsData 40 (replicate 72 2)) ∷ give (ctsData 112 (replicate 55 2)) ∷ give (ctsData 168 (replicate 32 3)) ∷ [])
     (postedFirst ∷ grants 128 ∷ answers (say stored []) ∷ no 17 ∷ answers (say stored []) ∷ grants 32
-    ∷ isDone 200 (replicate 40 1 ++ replicate 127 2 ++ (9 ∷ []) ++ replicate 32 3) ∷ []) 1
-    -- "Request 0: 64, 64, 32."
+    ∷ yieldsDone 200 (replicate 40 1 ++ replicate 127 2 ++ (9 ∷ []) ++ replicate 32 3) ∷ []) 1
+    -- "LentRequest 0: 64, 64, 32."
     ∷ case
     (receive 200 ∷ give (long 200 0 (replicate 40 1)) ∷ give (ctsData 40 (replicate 64 2)) ∷ give (ctsData 104 (replicate 64 2))
     ∷ give (ctsData 168 (replicate 32 2)) ∷ [])
-    (postedFirst ∷ grants 64 ∷ grants 64 ∷ grants 32 ∷ isDone 200 (replicate 40 1 ++ replicate 160 2) ∷ []) 1
+    (postedFirst ∷ grants 64 ∷ grants 64 ∷ grants 32 ∷ yieldsDone 200 (replicate 40 1 ++ replicate 160 2) ∷ []) 1
     -- "Want 0x10, ignore 0x0F: tag 0x1A fits; 0x2A: 13."
-    ∷ case (receiveTagged 0x10 0x0F ∷ give (eagerTagged 0x2A) ∷ give (eagerTagged 0x1A) ∷ []) (postedFirst ∷ no 13 ∷ isDone 0 [] ∷ []) 1
+    ∷ case (receiveTagged 0x10 0x0F ∷ give (eagerTagged 0x2A) ∷ give (eagerTagged 0x1A) ∷ []) (postedFirst ∷ no 13 ∷ yieldsDone 0 [] ∷ []) 1
     ∷ []
 
 -- ---- what the definitions say of a case
@@ -154,18 +154,18 @@ abbrev yieldOf : Seen → Yield
 yieldOf s = record { answer = s .says; reply = s .reply; bytes = s .bytes }
 
 unfoldable pub run : List LentCall → Case
-unfolding pick part storeAt leBytes leOf leAt ctsBytes hasFlag flagsFit flagged flagsOf sectionsOf layout fieldBytes numberAt fieldsIn
+unfolding pick part storeAt leBytes leOf leAt ctsBytes hasFlag flagsFit flagged flagsOf sectionsOf layout fieldBytes fieldIn fieldsIn
     lengthsFit rawAddressBytes cqDataBytes connidBytes connidOrZero cqDataIn connidIn headerIn packetIn readLengths readSections readFlags
-    readTyped readOf arrayLength countOf countIn numberThere arraySpan rawSpan beginOf connidAt dataAt sectionsIn extentOf rowIn rowOf admit
+    readTyped readOf arrayLength arrayCount countIn numberThere arraySpan rawSpan beginOf connidAt dataAt sectionsIn extentOf rowIn rowOf admit
     baseBytes mandatoryBytes packetBytes bit bitAt setBit clearBit marked cleared touched countSet firstClear someInTheWay countPosted
-    countOlder renumbered placed placedIn postEffect readEffect packetEffect cancelAt cancelEffect reportAt reportEffect peerStep progressOf
+    countOlder renumbered placed placedIn postEffect readEffect packetEffect cancelSlot cancelEffect reportSlot reportEffect peerStep progressOf
     grantOf settledAs accept begun truncatedAt carry incomingOf judgeMore judgeAgain judgeData judgeFit judgeNew judgeFound judge openHere
     findOpen sameOutside fits older olderHere oldest vacancy ahead sameMedium sameMessage freshPeer overlap inTheWay phaseFits clash allFit
     noneClash pairsApart peerFits numbersFit lentFits allPeersFit engineFits putBack peerTurn callTurn setUp freshWorld turnOf worldAfter
     observe callsOf
 run calls =
     let start : World = freshWorld 2 256 96 (replicate 512 7) (replicate 8 1) in
-    let all : List Request = map asPeer calls in
+    let all : List LentRequest = map asPeer calls in
     record {
       calls = calls;
       yields = map yieldOf (observe receiving 1 start noStarts all);

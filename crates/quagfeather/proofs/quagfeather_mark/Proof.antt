@@ -8,32 +8,32 @@ use lib.ListN.{length}
 use mathlib.Core.Path.{sym, _∙_}
 use native.Mathlib.Omega.{arith}
 use Rattle.laws.specs.Choose.{pick}
-use Rattle.quagfeather.specs.Exported.{markedIn}
+use Rattle.quagfeather.specs.Exported.{markOf}
 
 -- the range lies in the map
 inside : (c : tie.Else2) → let a = c .before .before .before .before .args in a .at + a .count ≤ 64 * length (a .map .now)
 inside c = leb-true _ _ (sym (c .before .ends-by .ensures) ∙ not-false (c .before .ends-by .result) (c .if2 .left))
 
 returns : tie.Need-returns
-unfolding markedIn pick
+unfolding markOf pick
 returns c = rw (lt-leb _ _ (c .if1 .taken))
 
 returns-2 : tie.Need-returns-2
-unfolding markedIn pick
+unfolding markOf pick
 returns-2 c = rw (le-leb _ _ (c .before .before .if1 .left), ← c .before .ends-by .ensures, not-true (c .before .ends-by .result) (c .if2 .taken))
 
 is-touched-requires : tie.Need-is-touched-requires
 is-touched-requires c κs = let h = inside (c .before) in (h, omega (arith, h, c .before .before .before .if1 .left))
 
 returns-3 : tie.Need-returns-3
-unfolding markedIn pick
+unfolding markOf pick
 returns-3 c = rw (le-leb _ _ (c .before .before .before .before .before .if1 .left), ← c .before .before .before .before .ends-by .ensures, not-false (c .before .before .before .before .ends-by .result) (c .before .before .before .if2 .left), ← c .before .is-touched .ensures, c .if3 .taken)
 
 mark-requires : tie.Need-mark-requires
 mark-requires c κs = let h = inside (c .before .before .before .before) in (h, omega (arith, h, c .before .before .before .before .before .before .if1 .left))
 
 returns-4 : tie.Need-returns-4
-unfolding markedIn pick
+unfolding markOf pick
 returns-4 c = rw (le-leb _ _ (c .before .before .before .before .before .before .before .before .before .if1 .left), ← c .before .before .before .before .before .before .before .before .ends-by .ensures, not-false (c .before .before .before .before .before .before .before .before .ends-by .result) (c .before .before .before .before .before .before .before .if2 .left), ← c .before .before .before .before .before .is-touched .ensures, c .before .before .before .before .if3 .left, c .before .before .mark .ensures)
 
 pub quagfeather-mark-spec : {M : Type 1} → statement M

@@ -4,7 +4,7 @@ use borrow.Author.Tests.{le-leb, lt-leb}
 use lib.ListN.{length}
 use mathlib.Core.Path.{refl}
 use Rattle.laws.specs.Choose.{pick}
-use Rattle.peer.specs.Calls.{reportAt, reportEffect}
+use Rattle.peer.specs.Calls.{reportEffect, reportSlot}
 use Rattle.lending.proofs.OpenSlots.{open-mapped}
 use Rattle.lending.proofs.reporting.report.Statement.{statement}
 use Rattle.lending.proofs.reporting.report.Tie as tie
@@ -19,15 +19,15 @@ missing-requires c κs =
     open-mapped (length (s .args .words .now)) (s .args .t1) (s .args .slot) _ (s .pre) (c .before .phase .given .1)
 
 returns-2 : tie.Need-returns-2
-unfolding reportEffect reportAt pick
+unfolding reportEffect reportSlot pick
 returns-2 c = rw (lt-leb _ _ (c .before .before .before .if1 .left), c .enum-told .given .1)
 
 returns-3 : tie.Need-returns-3
-unfolding reportEffect reportAt pick
+unfolding reportEffect reportSlot pick
 returns-3 c = rw (lt-leb _ _ (c .before .before .before .if1 .left), c .enum-told2 .given .1) refl
 
 returns-4 : tie.Need-returns-4
-unfolding reportEffect reportAt pick
+unfolding reportEffect reportSlot pick
 returns-4 c = rw (lt-leb _ _ (c .before .before .before .before .before .if1 .left), c .before .before .phase .given .1, c .missing .ensures)
 
 pub report-spec : {M : Type 1} → statement M

@@ -1,7 +1,7 @@
 -- `packet::layout::read_any` meets its contract: each field is read where the row says.
 use mathlib.Core.Path.{_≡_, _∙_}
 use native.Mathlib.Omega.{arith}
-use Rattle.protocol.specs.FieldNumbers.{fieldsIn, numberAt, numberThere}
+use Rattle.protocol.specs.FieldNumbers.{fieldIn, fieldsIn, numberThere}
 use Rattle.protocol.specs.Layout.{Field, credit-request, layout, msg-id, msg-length, placeOf, recv-id, recv-length, seg-length, seg-offset, send-id, tag, width}
 use Rattle.protocol.proofs.LayoutLaws.{read-there}
 use Rattle.packet.proofs.layout.read_any.Statement.{statement}
@@ -38,7 +38,7 @@ returns : tie.Need-returns
 unfolding fieldsIn
 returns c =
     let s = c .before .before .before .before .before .before .before .before .before .before in
-    let there : (f : Field) → numberThere (placeOf (s .args .row) f) (width f) (s .args .bytes .now) ≡ numberAt (layout (s .args .row)) 4 (s .args .bytes .now) f =
+    let there : (f : Field) → numberThere (placeOf (s .args .row) f) (width f) (s .args .bytes .now) ≡ fieldIn (layout (s .args .row)) 4 (s .args .bytes .now) f =
     λ f. read-there (s .args .row) (s .args .bytes .now) f (s .pre .0) in
     λ i. record {
       «msg_id» = (c .before .before .before .before .before .before .before .before .number-u32 .ensures ∙ there msg-id) i;

@@ -1,7 +1,7 @@
 -- `packet::layout::read_request` meets its contract: each field is read where the row says, and those that a request has not are 0.
 use mathlib.Core.Path.{_≡_, sym, _∙_}
 use native.Mathlib.Omega.{arith}
-use Rattle.protocol.specs.FieldNumbers.{fieldsIn, numberAt, numberThere}
+use Rattle.protocol.specs.FieldNumbers.{fieldIn, fieldsIn, numberThere}
 use Rattle.protocol.specs.Layout.{Field, credit-request, layout, msg-id, msg-length, placeOf, recv-id, recv-length, seg-length, seg-offset, send-id, tag, width}
 use Rattle.protocol.proofs.LayoutLaws.{read-none, read-there}
 use Rattle.packet.proofs.layout.read_request.Statement.{statement}
@@ -38,7 +38,7 @@ returns c =
     let bs = s .args .bytes .now in
     let rule = s .pre .0 in
     let none = rule .requestHas (s .pre .1 .1) in
-    let there : (f : Field) → numberThere (placeOf r f) (width f) bs ≡ numberAt (layout r) 4 bs f = λ f. read-there r bs f rule in
+    let there : (f : Field) → numberThere (placeOf r f) (width f) bs ≡ fieldIn (layout r) 4 bs f = λ f. read-there r bs f rule in
     λ i. record {
       «msg_id» = (w1 .number-u32 .ensures ∙ there msg-id) i;
       «recv_id» = sym (read-none r bs recv-id rule (none .0)) i;

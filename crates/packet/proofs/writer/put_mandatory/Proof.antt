@@ -1,7 +1,7 @@
 -- `packet::writer::put_mandatory` meets its contract: its two parts are stored side by side.
 use borrow.Author.Needs.{needs}
 use native.Mathlib.Omega.{arith}
-use Rattle.protocol.specs.Arrays.{countOf}
+use Rattle.protocol.specs.Arrays.{arrayCount}
 use Rattle.protocol.specs.FieldNumbers.{fieldBytes}
 use Rattle.protocol.specs.Optional.{flagsOf}
 use Rattle.protocol.specs.Layout.{layout}
@@ -22,9 +22,9 @@ returns c =
     let r = s .args .row in
     let h = s .args .header in
     let base = baseBytes (r .kind) (flagsOf r h) in
-    let fields = fieldBytes (layout r) (countOf r (s .args .n)) h in
+    let fields = fieldBytes (layout r) (arrayCount r (s .args .n)) h in
     let n1 = length-base (r .kind) (flagsOf r h) in
-    let n2 = length-fields (layout r) (countOf r (s .args .n)) h in
+    let n2 = length-fields (layout r) (arrayCount r (s .args .n)) h in
     let n3 = s .pre .0 .header in
     let n4 = s .pre .1 .0 in
     rw (w2 .write .ensures, k .count-of .ensures, w1 .put-base .ensures, s .pre .1 .1 .0) (store-next (s .args .out .now) 0 base fields 4 (omega arith) (omega arith))

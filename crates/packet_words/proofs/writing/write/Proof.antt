@@ -5,7 +5,7 @@ use borrow.Author.Tests.{lt-leb, le-leb}
 use mathlib.Core.Path.{sym, _∙_}
 use native.Mathlib.Omega.{arith}
 use Rattle.laws.specs.Choose.{pick}
-use Rattle.packet_words.specs.Writing.{writeFrom, writeTyped}
+use Rattle.packet_words.specs.Writing.{putTyped, writeFrom}
 use Rattle.protocol.proofs.TableRule.{sound}
 use Rattle.packet_words.proofs.Narrow.{written-at-once}
 use Rattle.packet_words.proofs.Rows.{no-type}
@@ -17,7 +17,7 @@ unfolding writeFrom pick
 returns c = rw (lt-leb _ _ (c .if1 .taken))
 
 returns-2 : tie.Need-returns-2
-unfolding writeFrom writeTyped pick
+unfolding writeFrom putTyped pick
 returns-2 c = rw (le-leb _ _ (c .before .before .if1 .left), no-type _ (c .if2 .taken))
 
 returns-3 : tie.Need-returns-3
@@ -37,7 +37,7 @@ write-as-requires c κs =
     (sound _ _ (sym (w .before .before .find .ensures) ∙ w .row .given .1), omega arith)
 
 returns-4 : tie.Need-returns-4
-unfolding writeFrom writeTyped pick
+unfolding writeFrom putTyped pick
 returns-4 c =
     let f = c .before .before in
     rw (le-leb _ _ (f .before .before .before .before .before .if1 .left), ← f .find .ensures, c .enum-told .given .1)

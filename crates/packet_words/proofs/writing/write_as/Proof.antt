@@ -2,16 +2,16 @@
 use borrow.Author.Needs.{needs}
 use borrow.Author.Tests.{not-true, not-false}
 use Rattle.laws.specs.Choose.{pick}
-use Rattle.packet_words.specs.Writing.{writeTyped}
+use Rattle.packet_words.specs.Writing.{putTyped}
 use Rattle.packet_words.proofs.writing.write_as.Statement.{statement}
 use Rattle.packet_words.proofs.writing.write_as.Tie as tie
 
 returns : tie.Need-returns
-unfolding writeTyped pick
+unfolding putTyped pick
 returns c = rw (← c .before .options-fit .ensures, not-true (c .before .options-fit .result) (c .if1 .taken))
 
 returns-2 : tie.Need-returns-2
-unfolding writeTyped pick
+unfolding putTyped pick
 returns-2 c =
     let o = c .before .before in
     rw (
@@ -22,7 +22,7 @@ returns-2 c =
     )
 
 returns-3 : tie.Need-returns-3
-unfolding writeTyped pick
+unfolding putTyped pick
 returns-3 c =
     let w = c .before .before in
     let m = w .before .before .before in

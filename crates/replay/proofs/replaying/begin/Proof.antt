@@ -7,7 +7,7 @@ use mathlib.Core.Path.{_≡_, sym, _∙_}
 use native.Mathlib.Omega.{arith}
 use Rattle.replay.proofs.DecodeLaws.{calls-few}
 use Rattle.replay.proofs.LineRoom.{tell-room}
-use Rattle.replay.proofs.WholeLaws.{begun-ready, begun-refused, last-room, ready-holds, reported-by-parts, set-up-room}
+use Rattle.replay.proofs.WholeLaws.{last-room, ready-holds, replay-from-ready, replay-from-refused, reported-by-parts, set-up-room}
 
 tell-requires : tie.Need-tell-requires
 tell-requires c κs = tell-room _ _ _ (c .before .before .before .before .before .before .before .before .before .before .before .before .before .before .before .pre)
@@ -36,7 +36,7 @@ put-ending-requires c κs =
 returns : tie.Need-returns
 returns c =
     c .before .before .tell .ensures _ _ _
-    ∙ sym (begun-refused _ _ _ _ _ _ _ _ _ _ _ (c .before .before .before .before .before .before .before .before .before .before .set-up .ensures) _ (c .before .before .before .before .before .answer .given .1))
+    ∙ sym (replay-from-refused _ _ _ _ _ _ _ _ _ _ _ (c .before .before .before .before .before .before .before .before .before .before .set-up .ensures) _ (c .before .before .before .before .before .answer .given .1))
 
 returns-2 : tie.Need-returns-2
 returns-2 c =
@@ -47,7 +47,7 @@ returns-2 c =
     let p = c .before .before .put-ending in
     reported-by-parts _ _ _ (a .text .now) _ (a .budget) (calls-few (a .budget) _ _ _) (s .pre) _ _ (w .ensures .0) (rw (w .ensures .1) at (r .ensures)) _ _
     (p .ensures .0) (p .ensures .1)
-    ∙ sym (begun-ready _ _ _ _ _ _ _ _ _ _ _ (c .before .before .before .before .before .before .before .before .before .before .before .before .before .before .before .before .before .before .before .before .before .before .before .before .before .before .before .before .set-up .ensures) (c .before .before .before .before .before .before .before .before .before .before .before .before .before .before .before .before .before .before .before .before .before .before .before .enum-told .given .1))
+    ∙ sym (replay-from-ready _ _ _ _ _ _ _ _ _ _ _ (c .before .before .before .before .before .before .before .before .before .before .before .before .before .before .before .before .before .before .before .before .before .before .before .before .before .before .before .before .set-up .ensures) (c .before .before .before .before .before .before .before .before .before .before .before .before .before .before .before .before .before .before .before .before .before .before .before .enum-told .given .1))
 
 pub begin-spec : {M : Type 1} → statement M
 begin-spec =

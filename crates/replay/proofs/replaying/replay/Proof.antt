@@ -12,7 +12,7 @@ use Rattle.laws.specs.Parts.{part}
 use Rattle.laws.proofs.Choosing.{pick-false, pick-true}
 use Rattle.laws.proofs.Storing.{store-nothing}
 use Rattle.replay.specs.Lines.{endingLine}
-use Rattle.replay.specs.Replaying.{hasRoom, putBack, replayOf, started}
+use Rattle.replay.specs.Replaying.{hasRoom, inWhole, replayOf, started}
 use Rattle.replay.proofs.RoomLaws.{lent-there}
 use Rattle.replay.proofs.LineRoom.{tell-room}
 use Rattle.replay.proofs.WholeLaws.{put-back}
@@ -68,7 +68,7 @@ returns-3 c =
     put-back (a .arena .now) (a .map .now) _ (m .result) (k .result)
     (g .kept .1 .1 .1 .1 .1 .1 .0 ∙ length-take-le _ _ (rw (m .ensures) (lent-there _ _ _)))
     (g .kept .1 .1 .1 .1 .1 .1 .1 .0 ∙ length-take-le _ _ (rw (k .ensures) (lent-there _ _ _)))
-    ∙ ap (putBack (a .arena .now) (a .map .now)) (g .ensures)
+    ∙ ap (inWhole (a .arena .now) (a .map .now)) (g .ensures)
     ∙ sym (pick-true _ _ (open-room (c .before .before .before .before .before .before .before .before .before .before .before .before .before .before .before .before .before .before .before)) ∙ rw (sym (c .before .before .before .before .before .before .before .before .before .before .before .before .before .before .before .before .before .before .read-set-up .ensures) ∙ c .before .before .before .before .before .before .before .before .before .before .before .before .before .before .before .before .n .given .1, ← m .ensures, ← k .ensures))
 
 pub replay-spec : {M : Type 1} → statement M
