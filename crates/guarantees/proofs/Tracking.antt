@@ -33,7 +33,7 @@ use Rattle.peer.proofs.Agreement.{Agrees, meets, mirrors}
 use Rattle.peer.proofs.AnswerLaws.{taken-same}
 use Rattle.peer.proofs.CoverageLaws.{Wrote, byte-at, length-bytes}
 use Rattle.peer.proofs.Entered.{agrees-kept}
-use Rattle.peer.proofs.HistoryFacts.{outcome}
+use Rattle.peer.proofs.HistoryFacts.{answer-facts}
 use Rattle.peer.proofs.Kept.{Kept}
 use Rattle.peer.proofs.OriginReplies.{own-claim}
 use Rattle.peer.proofs.OriginsHold.{Trace, call-claim}
@@ -200,7 +200,7 @@ module _ (p : ℕ) (w : World) (starts : List ℕ) (l : Plain) (t : Tracks p w s
       claim : OwnClaim (w .engine .area) (originOfCall (w .engine .limit) l gs (callOf a) e) (callOf a) e (f .at) (f .bytes)
       claim =
           own-claim (w .engine .area) (w .engine .limit) l (callOf a) t′ (originOfCall (w .engine .limit) l gs (callOf a) e) (f .at) (f .bytes) e
-          (outcome (w .engine .area) (w .engine .limit) l (callOf a)) (call-claim (w .engine .limit) l gs from (w .engine .area) (callOf a))
+          (answer-facts (w .engine .area) (w .engine .limit) l (callOf a)) (call-claim (w .engine .limit) l gs from (w .engine .area) (callOf a))
           (subst (λ (x : Answer). WriteClaim (w .engine .area) t′ x (f .at) (f .bytes)) (step .answer) (yields .writes))
 
 module _ (p : ℕ) (w : World) (starts : List ℕ) (l : Plain) (t : Tracks p w starts l) (q : LentRequest) where

@@ -21,11 +21,11 @@ use Rattle.peer.specs.declared.types.Incoming.{Incoming}
 use Rattle.laws.proofs.Choosing.{tested, clashing, pick-false, pick-true}
 use Rattle.peer.proofs.AnswerLaws.{claim-from}
 use Rattle.peer.proofs.CoverageLaws.{all-at, byte-at, inside-end, length-bytes}
-use Rattle.peer.proofs.HistoryFacts.{Aims, Every, Lasting, Outcome, Partly, begins, bytesOf, every-entry, goesOn, headOf, outcome, taken-role}
+use Rattle.peer.proofs.HistoryFacts.{Aims, AnswerFacts, Every, Lasting, Partly, answer-facts, begins, bytesOf, every-entry, goesOn, headOf, taken-role}
 use Rattle.peer.proofs.OffsetsHold.{some-of-is-some-offset}
 use Rattle.peer.proofs.PacketsRead.{read-formed}
 
-done-claim : (limit : ℕ) (l : Plain) (c : Call) (t : Target) (a : Answer) → Outcome limit l c t a → DoneClaim t a
+done-claim : (limit : ℕ) (l : Plain) (c : Call) (t : Target) (a : Answer) → AnswerFacts limit l c t a → DoneClaim t a
 done-claim limit l c t a w =
     claim-from a (λ e u. tt) (λ e x. left x) (λ n e x. left (x .partly))
     (λ slot id n cq e x. record {
@@ -44,7 +44,7 @@ pub done-when-covered : DoneWhenCovered
 unfolding DoneWhenCovered
 done-when-covered area limit calls c =
     let l : Plain = history area limit calls in
-    done-claim limit l c (targetOfCall limit l c) (expected area limit l c) (outcome area limit l c)
+    done-claim limit l c (targetOfCall limit l c) (expected area limit l c) (answer-facts area limit l c)
 
 -- ---- segments that share no offset
 
@@ -123,7 +123,7 @@ apart-lasts limit =
 
 -- ---- the claim
 
-bytes-claim : (limit : ℕ) (l : Plain) (c : Call) (t : Target) (a : Answer) → Every (λ (e : Entry). Apart (e .segments)) l → Outcome limit l c t a → BytesClaim t a
+bytes-claim : (limit : ℕ) (l : Plain) (c : Call) (t : Target) (a : Answer) → Every (λ (e : Entry). Apart (e .segments)) l → AnswerFacts limit l c t a → BytesClaim t a
 bytes-claim limit l c t a f w =
     claim-from a (λ e u. tt) (λ e x. tt) (λ n e x. tt)
     (λ slot id n cq e x. (
@@ -141,4 +141,4 @@ unfolding BytesBySegments
 bytes-by-segments area limit calls c =
     let l : Plain = history area limit calls in
     bytes-claim limit l c (targetOfCall limit l c) (expected area limit l c)
-    (every-entry area limit (λ (e : Entry). Apart (e .segments)) (apart-lasts limit) calls) (outcome area limit l c)
+    (every-entry area limit (λ (e : Entry). Apart (e .segments)) (apart-lasts limit) calls) (answer-facts area limit l c)

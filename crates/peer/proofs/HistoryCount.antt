@@ -19,7 +19,7 @@ use Rattle.wire.specs.LittleEndian.{leAt}
 use Rattle.laws.proofs.Choosing.{branch, pick-first}
 use Rattle.protocol.proofs.SentencesHold.{numbers-are-little-endian}
 use Rattle.peer.proofs.BytesHold.{read-says}
-use Rattle.peer.proofs.HistoryFacts.{Aims, Entered, asBefore, begins, entered, goesOn, outcome, taken-by, withCancel, withEnd, withGrant, withPost, withSegment}
+use Rattle.peer.proofs.HistoryFacts.{Aims, Entered, answer-facts, asBefore, begins, entered, goesOn, taken-by, withCancel, withEnd, withGrant, withPost, withSegment}
 
 -- ---- the next id
 
@@ -59,7 +59,7 @@ module _ (area limit : ℕ) (l : Plain) (c : Call) where
   match-id : AreBytes c → l .next < 2 ^ 32 → isMatch t a ≡ true → idAt l t c ≡ l .next
   match-id b small x =
       let (took, matched) = pick-first (takes a) (t .matched) false true (λ y. false≢true y) x in
-      let w = taken-by a (outcome area limit l c) took in
+      let w = taken-by a (answer-facts area limit l c) took in
       let b′ = subst AreBytes (w .brings .call) b in
       let id = read-says limit (w .brings .text) (w .brings .read) (w .brings .reads) .id in
       ap (idAt l t) (w .brings .call)

@@ -134,7 +134,7 @@ pub record Cut (limit : ℕ) (l : Plain) (c : Call) (t : Target) (slot id n : �
   pub lengthIs : n ≡ headOf (taken .brings) .length
   pub above : taken .message .receive .capacity < n
 
-pub record Granting (limit : ℕ) (l : Plain) (c : Call) (t : Target) (n : ℕ) : Type 0 where
+pub record GrantFacts (limit : ℕ) (l : Plain) (c : Call) (t : Target) (n : ℕ) : Type 0 where
   pub partly : Partly limit l c t
   pub long : isLong (partly .taken .message .message .shape) ≡ true
   pub amount : n ≡ grantOf limit (partly .taken .message .message)
@@ -149,12 +149,12 @@ pub record Wholly (limit : ℕ) (l : Plain) (c : Call) (t : Target) (slot id n :
   pub cqIs : cq ≡ taken .message .message .«cq_data»
   pub fits : Fitting (t .matched) (taken .message)
 
-abbrev pub Outcome : ℕ → Plain → Call → Target → Answer → Type 0
-Outcome limit l c t a =
-    onTaken (Unit {0}) (Partly limit l c t) (Granting limit l c t) (Wholly limit l c t) (Cut limit l c t) a
+abbrev pub AnswerFacts : ℕ → Plain → Call → Target → Answer → Type 0
+AnswerFacts limit l c t a =
+    onTaken (Unit {0}) (Partly limit l c t) (GrantFacts limit l c t) (Wholly limit l c t) (Cut limit l c t) a
 
 -- an answer that takes the packet
-pub taken-by : {limit : ℕ} {l : Plain} {c : Call} {t : Target} (a : Answer) → Outcome limit l c t a → takes a ≡ true → Taken limit l c t
+pub taken-by : {limit : ℕ} {l : Plain} {c : Call} {t : Target} (a : Answer) → AnswerFacts limit l c t a → takes a ≡ true → Taken limit l c t
 taken-by a w e = claim-taken a (claim-from a (λ e u. tt) (λ e x. x .taken) (λ n e x. x .partly .taken) (λ i id n cq e x. x .taken) (λ i id n e x. x .taken) w) e
 
 -- ---- what a call enters
@@ -165,11 +165,11 @@ pub data Entered (limit : ℕ) (l : Plain) (c : Call) : Target → Answer → Pl
   withPost : (t : Target) (i : ℕ) (r : Receive) → c ≡ post r → Entered limit l c t (Answer.Posted i) (posted l i r)
   withCancel : (t : Target) (i : ℕ) → ((gs : List Origin) → noteOrigin t gs c (Answer.Cancelled i) ≡ gs) → Entered limit l c t (Answer.Cancelled i) (put l i noEntry)
   withSegment : (t : Target) → Partly limit l c t → Entered limit l c t Answer.Stored (settle l t (t .entry))
-  withGrant : (t : Target) (n : ℕ) → Granting limit l c t n → Entered limit l c t (Answer.Granted n) (settle l t (grantedEntry n (t .entry)))
+  withGrant : (t : Target) (n : ℕ) → GrantFacts limit l c t n → Entered limit l c t (Answer.Granted n) (settle l t (grantedEntry n (t .entry)))
   withEnd : (t : Target) (a : Answer) → Taken limit l c t → takes a ≡ true → Entered limit l c t a (settle l t noEntry)
 
 abbrev Walked : ℕ → Plain → Call → Target → Answer → Type 0
-Walked limit l c t a = Outcome limit l c t a × Entered limit l c t a (enterAt l c t a)
+Walked limit l c t a = AnswerFacts limit l c t a × Entered limit l c t a (enterAt l c t a)
 
 -- a refusal enters nothing
 refused-walked : (limit : ℕ) (l : Plain) (c : Call) (k : Refusal) → Walked limit l c nowhere (Answer.Refused k)
@@ -267,7 +267,7 @@ module _ (limit : ℕ) (l : Plain) (bs : List ℕ) (room : ℕ) (q : Packet) (re
       let p : Partly limit l (packet bs room) t = record { taken = w; covered = x; fits = f } in
       branch (Walked limit l (packet bs room) t) _ (Answer.Granted (grantOf limit (o .message))) Answer.Stored
       (λ y.
-      let g : Granting limit l (packet bs room) t (grantOf limit (o .message)) = record {
+      let g : GrantFacts limit l (packet bs room) t (grantOf limit (o .message)) = record {
         partly = p;
         long = and-left (isLong (o .message .shape)) _ y;
         amount = refl;
@@ -320,8 +320,8 @@ walked area limit l (report i) =
     go (waiting r) = refused-walked limit l (report i) badSlot
     go (receiving o) = (tt, asBefore nowhere _ refl (λ gs. refl))
 
-pub outcome : (area limit : ℕ) (l : Plain) (c : Call) → Outcome limit l c (targetOfCall limit l c) (expected area limit l c)
-outcome area limit l c = walked area limit l c .0
+pub answer-facts : (area limit : ℕ) (l : Plain) (c : Call) → AnswerFacts limit l c (targetOfCall limit l c) (expected area limit l c)
+answer-facts area limit l c = walked area limit l c .0
 
 pub entered : (area limit : ℕ) (l : Plain) (c : Call)
     → Entered limit l c (targetOfCall limit l c) (expected area limit l c) (enter limit l c (expected area limit l c))
@@ -338,7 +338,7 @@ pub record Lasting (limit : ℕ) (P : Entry → Type 0) : Type 0 where
   pub unused : P noEntry
   pub waits : (r : Receive) (serial : ℕ) → P (record { role = waiting r; serial = serial; segments = []; rtm = 0; grants = [] })
   pub takesIn : (l : Plain) (c : Call) (t : Target) → Every P l → Taken limit l c t → P (t .entry)
-  pub grants : (l : Plain) (c : Call) (t : Target) (n : ℕ) → Granting limit l c t n → P (t .entry) → P (grantedEntry n (t .entry))
+  pub grants : (l : Plain) (c : Call) (t : Target) (n : ℕ) → GrantFacts limit l c t n → P (t .entry) → P (grantedEntry n (t .entry))
 
 module _ (area limit : ℕ) (P : Entry → Type 0) (p : Lasting limit P) where
   step : (l : Plain) (c : Call) (t : Target) (a : Answer) (l′ : Plain) → Every P l → Entered limit l c t a l′ → Every P l′

@@ -23,7 +23,7 @@ use Rattle.peer.specs.declared.types.Receive.{Receive}
 use Rattle.laws.proofs.Choosing.{or-cases}
 use Rattle.peer.proofs.AnswerLaws.{claim-from}
 use Rattle.peer.proofs.CoverageLaws.{all-at, inside-end}
-use Rattle.peer.proofs.HistoryFacts.{Aims, Every, Lasting, Outcome, Taken, begins, bytesOf, every-entry, goesOn, headOf, in-grant, outcome, same-message, taken-role}
+use Rattle.peer.proofs.HistoryFacts.{Aims, AnswerFacts, Every, Lasting, Taken, answer-facts, begins, bytesOf, every-entry, goesOn, headOf, in-grant, same-message, taken-role}
 use Rattle.peer.proofs.PacketsRead.{read-formed}
 
 -- of an open message: all that may come is its RTM's data and the grants; what came lies below; each grant but one that reaches the length is
@@ -126,7 +126,7 @@ few-grants : (limit n : ℕ) (e : Entry) (o : Inbound) → 64 ≤ limit → Paid
 few-grants limit n e o big p short =
     le-div-iff-mul-le {k = limit - 32} (omega arith) .1 (omega (arith, suc-mul (length (e .grants)) (limit - 32), p .reach short))
 
-grant-claim : (limit : ℕ) (l : Plain) (c : Call) (t : Target) (a : Answer) → 64 ≤ limit → Every (Pays limit) l → Outcome limit l c t a → GrantClaim limit t a
+grant-claim : (limit : ℕ) (l : Plain) (c : Call) (t : Target) (a : Answer) → 64 ≤ limit → Every (Pays limit) l → AnswerFacts limit l c t a → GrantClaim limit t a
 grant-claim limit l c t a big f w =
     claim-from a (λ e u. tt) (λ e x. tt)
     (λ n e x.
@@ -152,4 +152,4 @@ unfolding GrantsBounded
 grants-bounded area limit calls c big =
     let l : Plain = history area limit calls in
     grant-claim limit l c (targetOfCall limit l c) (expected area limit l c) big (every-entry area limit (Pays limit) (pays-last limit) calls)
-    (outcome area limit l c)
+    (answer-facts area limit l c)

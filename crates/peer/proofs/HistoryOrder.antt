@@ -21,7 +21,7 @@ use Rattle.peer.specs.declared.types.Inbound.{Inbound}
 use Rattle.peer.specs.declared.types.Incoming.{Incoming}
 use Rattle.peer.specs.declared.types.Receive.{Receive}
 use Rattle.peer.proofs.AnswerLaws.{claim-from}
-use Rattle.peer.proofs.HistoryFacts.{Aims, Brings, Fitting, Outcome, Taken, begins, goesOn, headOf, outcome, taken-by}
+use Rattle.peer.proofs.HistoryFacts.{Aims, AnswerFacts, Brings, Fitting, Taken, answer-facts, begins, goesOn, headOf, taken-by}
 
 in-order : {l : Plain} {h : Incoming} {bytes : List ℕ} {t : Target} {o : Inbound} (q : Packet) → incomingOf q ≡ h → Aims l h bytes t o
     → t .matched ≡ true → InOrder l q t
@@ -48,7 +48,7 @@ pub matched-in-order : MatchedInOrder
 unfolding MatchedInOrder
 matched-in-order area limit calls bs room q e x y =
     let l : Plain = history area limit calls in
-    let w = taken-by (expected area limit l (packet bs room)) (outcome area limit l (packet bs room)) x in
+    let w = taken-by (expected area limit l (packet bs room)) (answer-facts area limit l (packet bs room)) x in
     in-order q (same-head limit bs room q e (w .brings)) (w .aims) y
 
 -- ---- truncated
@@ -71,7 +71,7 @@ module _ (limit : ℕ) (l : Plain) (bs : List ℕ) (room : ℕ) (q : Packet) (e 
             subst₂ (λ (x y : ℕ). x ≤ y) (size ∙ ap (λ (h : Incoming). h .length) (sym head)) (ap (λ (r : Receive). r .capacity) receive) (f m);
       }
 
-  claim : (a : Answer) → Outcome limit l (packet bs room) t a → TruncateClaim l q t a
+  claim : (a : Answer) → AnswerFacts limit l (packet bs room) t a → TruncateClaim l q t a
   claim a w =
       claim-from a (λ e u. tt) (λ e x. roomy (x .taken) (x .fits)) (λ n e x. roomy (x .partly .taken) (x .partly .fits)) (λ slot id n cq e x. roomy (x .taken) (x .fits))
       (λ slot id n is x.
@@ -89,4 +89,4 @@ pub truncated-above-capacity : TruncatedAboveCapacity
 unfolding TruncatedAboveCapacity
 truncated-above-capacity area limit calls bs room q e =
     let l : Plain = history area limit calls in
-    claim limit l bs room q e _ (expected area limit l (packet bs room)) (outcome area limit l (packet bs room))
+    claim limit l bs room q e _ (expected area limit l (packet bs room)) (answer-facts area limit l (packet bs room))

@@ -32,7 +32,7 @@ use Rattle.protocol.proofs.CtsRead.{cts-read-back}
 use Rattle.protocol.proofs.SentencesHold.{numbers-are-little-endian}
 use Rattle.peer.proofs.AnswerLaws.{claim-both, untaken-is}
 use Rattle.peer.proofs.BytesHold.{bytes-told, read-says}
-use Rattle.peer.proofs.HistoryFacts.{Aims, Granting, Outcome, Taken, begins, bytesOf, goesOn, headOf, outcome, same-message, taken-role}
+use Rattle.peer.proofs.HistoryFacts.{Aims, AnswerFacts, GrantFacts, Taken, answer-facts, begins, bytesOf, goesOn, headOf, same-message, taken-role}
 use Rattle.peer.proofs.OriginsHold.{accepted-from-origin}
 use Rattle.peer.proofs.SentencesHold.{long-is-68-and-69}
 
@@ -61,7 +61,7 @@ long-length bs (inl e) = ap (λ (k : ℕ). lengthAs k bs) e
 long-length bs (inr e) = ap (λ (k : ℕ). lengthAs k bs) e
 
 module _ (limit : ℕ) (low : 64 ≤ limit) (l : Plain) (c : Call) (t : Target) (g : Origin) where
-  granted-cts : (n : ℕ) → Granting limit l c t n → Comes g t → ReplyClaim g (Answer.Granted n) (expectedReply t (Answer.Granted n))
+  granted-cts : (n : ℕ) → GrantFacts limit l c t n → Comes g t → ReplyClaim g (Answer.Granted n) (expectedReply t (Answer.Granted n))
   granted-cts n w k b =
       unfold CtsReadBack in
       subst₂ (λ (send recv : ℕ). ReadsAsCts (ctsBytes send recv n) (leAt 4 (g .rtm) 16) (idIn (g .rtm)) n) (sym send) (sym recv)
@@ -99,7 +99,7 @@ module _ (limit : ℕ) (low : 64 ≤ limit) (l : Plain) (c : Call) (t : Target) 
       recv : targetMessage t .id ≡ idIn (g .rtm)
       recv = ap (λ (x : Message). x .id) message ∙ k .begun .id
 
-  reply-claim : (a : Answer) → Outcome limit l c t a → OriginClaim g t a → ReplyClaim g a (expectedReply t a)
+  reply-claim : (a : Answer) → AnswerFacts limit l c t a → OriginClaim g t a → ReplyClaim g a (expectedReply t a)
   reply-claim a w o =
       claim-both a (λ e x y. untaken-is [] [] _ (λ i id n cq. []) (λ i id n. []) a e) (λ e x y. ap (expectedReply t) e)
       (λ n e x y. subst (λ (b : Answer). ReplyClaim g (Answer.Granted n) (expectedReply t b)) (sym e) (granted-cts n x y))
@@ -110,7 +110,7 @@ unfolding GrantIsACts
 grant-is-a-cts area limit calls c low =
     let l : Plain = history area limit calls in
     reply-claim limit low l c _ (originOfCall limit l (originsOf area limit calls) c (expected area limit l c)) (expected area limit l c)
-    (outcome area limit l c) (unfold AcceptedFromOrigin in accepted-from-origin area limit calls c)
+    (answer-facts area limit l c) (unfold AcceptedFromOrigin in accepted-from-origin area limit calls c)
 
 -- ---- what is written
 
@@ -144,7 +144,7 @@ module _ (area limit : ℕ) (l : Plain) (c : Call) (t : Target) (g : Origin) (at
       offset : s .segment .offset ≡ offsetIn (w .brings .text)
       offset = ap (λ (x : Segment). x .offset) is ∙ read-says limit (w .brings .text) (w .brings .read) (w .brings .reads) .offset
 
-  pub own-claim : (a : Answer) → Outcome limit l c t a → OriginClaim g t a → WriteClaim area t a at bytes → OwnClaim area g c a at bytes
+  pub own-claim : (a : Answer) → AnswerFacts limit l c t a → OriginClaim g t a → WriteClaim area t a at bytes → OwnClaim area g c a at bytes
   own-claim a w o s =
       claim-both a (λ e f x. x) (λ e f x. f x) (λ n e f x. f x) (λ slot id n cq e f x. f x) (λ slot id n e f x. x) own s
     where

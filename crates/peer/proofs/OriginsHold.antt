@@ -28,7 +28,7 @@ use Rattle.laws.proofs.Listing.{replicate-each, set-cases}
 use Rattle.peer.proofs.AnswersChecked.{rtm-of}
 use Rattle.peer.proofs.AnswerLaws.{claim-from}
 use Rattle.peer.proofs.BytesHold.{bytes-told, read-says, told}
-use Rattle.peer.proofs.HistoryFacts.{Aims, Entered, Outcome, Taken, asBefore, begins, entered, goesOn, outcome, taken-role, withCancel, withEnd, withGrant, withPost, withSegment}
+use Rattle.peer.proofs.HistoryFacts.{Aims, AnswerFacts, Entered, Taken, answer-facts, asBefore, begins, entered, goesOn, taken-role, withCancel, withEnd, withGrant, withPost, withSegment}
 
 -- ---- a packet that begins a message
 
@@ -145,7 +145,7 @@ module _ (limit : ℕ) (l : Plain) (gs : List Origin) (from : Trace l gs) where
         subst (λ (os : List Origin). Comes (originAt os (t .index)) t) (sym (noted a w e))
         (record { message = w .message; role = taken-role w; receive = taken-origin w .0; begun = taken-origin w .1 })
 
-    origin-claim : (a : Answer) → Outcome limit l c t a → OriginClaim (originAt (noteOrigin t gs c a) (t .index)) t a
+    origin-claim : (a : Answer) → AnswerFacts limit l c t a → OriginClaim (originAt (noteOrigin t gs c a) (t .index)) t a
     unfolding comes
     origin-claim a w =
         claim-from a (λ e u. tt) (λ e x. comes a (ap takes e) (x .taken)) (λ n e x. comes a (ap takes e) (x .partly .taken))
@@ -172,7 +172,7 @@ module _ (limit : ℕ) (l : Plain) (gs : List Origin) (from : Trace l gs) where
 
   pub call-claim : (area : ℕ) (c : Call)
       → OriginClaim (originOfCall limit l gs c (expected area limit l c)) (targetOfCall limit l c) (expected area limit l c)
-  call-claim area c = origin-claim c (targetOfCall limit l c) (expected area limit l c) (outcome area limit l c)
+  call-claim area c = origin-claim c (targetOfCall limit l c) (expected area limit l c) (answer-facts area limit l c)
 
 -- ---- a history
 
