@@ -153,10 +153,22 @@ pub record Gated (e : Engine) (arena map p : ℕ) (g : Gate) : Type 0 where
   pub eight : length (e .peers) ≡ peerCount
   pub says : g ≡ gateOf (engineFits e) (e .n) (e .area) arena map p
 
+numbers-twice : (a b : Bool) → ((a && b) && a) ≡ (a && b)
+numbers-twice false b = refl
+numbers-twice true false = refl
+numbers-twice true true = refl
+
 -- behind the walk
 pub gated : {e : Engine} {fits : Bool} {i arena map p : ℕ} {g : Gate} → Walked e fits i → ((fits ≡ true) × (ltb i (e .n) ≡ false)) ⊎ (fits ≡ false)
-    → g ≡ gateOf fits (e .n) (e .area) arena map p → Gated e arena map p g
-gated w c y = record { eight = w .eight; says = rw (⊎-elim (λ h. walk-end w (h .0) (h .1)) (λ h. walk-left w h) c) y }
+    → g ≡ gateOf (fits && numbersFit (e .n) (e .area) (e .limit)) (e .n) (e .area) arena map p → Gated e arena map p g
+unfolding engineFits
+gated {e} {fits} {i} {arena} {map} {p} {g} w c y =
+    let whole : engineFits e ≡ fits = ⊎-elim (λ h. walk-end w (h .0) (h .1)) (λ h. walk-left w h) c in
+    let numbers : Bool = numbersFit (e .n) (e .area) (e .limit) in
+    record {
+      eight = w .eight;
+      says = y ∙ ap (λ (b : Bool). gateOf b (e .n) (e .area) arena map p) (ap (λ (b : Bool). b && numbers) (sym whole) ∙ numbers-twice numbers _);
+    }
 
 pub opened : {e : Engine} {arena map p : ℕ} {g : Gate} → Gated e arena map p g → g ≡ Gate.Open → Opened e arena map p
 opened {e} {arena} {map} {p} w h =

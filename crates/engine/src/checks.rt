@@ -12,7 +12,7 @@ ghost use Rattle.engine.specs.Gates.{SmallArena, gateOf};
 ghost use Rattle.engine.specs.SetUp.{numbersFit, lentFits};
 
 // The limits of the three set-up numbers.
-pub(crate) fn numbers_fit(n: usize, area: usize, limit: usize) -> bool
+pub fn numbers_fit(n: usize, area: usize, limit: usize) -> bool
     ensures { λ r. ⌜ r ≡ numbersFit n area limit ⌝ }
 {
     if n < 1 {

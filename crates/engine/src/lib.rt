@@ -1,15 +1,11 @@
 // The receive engine: set-up, and the calls that lend it arena, map and reply buffer. No call asks
 // anything of its caller, and each states its whole result by a definition of specs/.
-mod calls;
 mod checks;
 mod run_checks;
 mod setting_up;
 mod types;
 
-pub use calls::cancel;
-pub use calls::packet;
-pub use calls::post;
-pub use calls::report;
+pub use checks::numbers_fit;
 pub use run_checks::admit;
 pub use run_checks::fits;
 pub use setting_up::set_up;

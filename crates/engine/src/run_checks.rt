@@ -3,7 +3,9 @@
 use crate::checks;
 use crate::types::Engine;
 use crate::types::Gate;
+use protocol::BAD_STATE;
 ghost use mathlib.Core.Path.{_≡_};
+ghost use mathlib.Core.Bool.{_&&_};
 ghost use Rattle.engine.specs.Gates.{gateOf};
 ghost use Rattle.engine.specs.SetUp.{engineFits, numbersFit};
 
@@ -23,11 +25,22 @@ pub fn fits(engine: Engine) -> bool
     good
 }
 
-// Whether a call of a peer goes through, by the set-up numbers, the lengths of arena and map and the
-// peer's number alone: of the state it says nothing.
-pub fn admit(n: usize, area: usize, limit: usize, arena: usize, map: usize, peer: usize) -> Gate
-    ensures { λ r. ⌜ r ≡ gateOf (numbersFit n area limit) n area arena map peer ⌝ }
+// Whether a call of a peer goes through, by what the check of the state said, the set-up numbers, the
+// lengths of arena and map and the peer's number.
+pub fn admit(
+    good: bool,
+    n: usize,
+    area: usize,
+    limit: usize,
+    arena: usize,
+    map: usize,
+    peer: usize,
+) -> Gate
+    ensures { λ r. ⌜ r ≡ gateOf (good && numbersFit n area limit) n area arena map peer ⌝ }
 {
+    if !good {
+        return Gate::Shut(BAD_STATE);
+    }
     let numbers = checks::numbers_fit(n, area, limit);
     checks::gate(numbers, n, area, arena, map, peer)
 }

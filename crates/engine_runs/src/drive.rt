@@ -89,9 +89,9 @@ fn answered(
     let arena_lent = &arena[0..a];
     let map_lent = &map[0..m];
     match what {
-        Ask::Post(receive) => engine::post(engine, peer, receive, arena_lent, map_lent),
-        Ask::Cancel(slot) => engine::cancel(engine, peer, slot, arena_lent, map_lent),
-        Ask::Report(slot) => engine::report(engine, peer, slot, arena_lent, map_lent),
+        Ask::Post(receive) => calls::post(engine, peer, receive, arena_lent, map_lent),
+        Ask::Cancel(slot) => calls::cancel(engine, peer, slot, arena_lent, map_lent),
+        Ask::Report(slot) => calls::report(engine, peer, slot, arena_lent, map_lent),
     }
 }
 
@@ -120,7 +120,7 @@ fn received(
     let a = least(lent.arena, arena.len());
     let m = least(lent.map, map.len());
     let r = least(lent.reply, reply.len());
-    engine::packet(
+    calls::packet(
         engine,
         peer,
         packet,

@@ -2,7 +2,6 @@
 // eight words.
 mod answers;
 mod calls;
-mod gates;
 mod running;
 mod starting;
 mod types;

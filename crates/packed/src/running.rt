@@ -2,7 +2,6 @@
 // once: a call of an engine whose state can be leaves one whose state can be.
 use crate::answers;
 use crate::calls;
-use crate::gates;
 use crate::types::FoundRequest;
 use crate::types::Ran;
 use engine::Engine;
@@ -50,7 +49,7 @@ fn run_calls(
         let n = engine.n;
         let area = engine.area;
         let limit = engine.limit;
-        let answer = match gates::admit(good, n, area, limit, arena.len(), map.len(), p) {
+        let answer = match engine::admit(good, n, area, limit, arena.len(), map.len(), p) {
             Gate::Shut(refusal) => Answer::Refused(refusal),
             Gate::Open => {
                 let there = engine.peers[p];

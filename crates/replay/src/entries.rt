@@ -55,7 +55,7 @@ pub(crate) fn run(
         let call = with_buffer(recorded, reply.len());
         let area = engine.area;
         let limit = engine.limit;
-        let answer = match engine::admit(engine.n, area, limit, arena.len(), map.len(), p) {
+        let answer = match engine::admit(true, engine.n, area, limit, arena.len(), map.len(), p) {
             Gate::Shut(refusal) => Answer::Refused(refusal),
             Gate::Open => {
                 let there = engine.peers[p];

@@ -1,16 +1,15 @@
 // The four calls: the checks, then one peer's step, and the peer is put back. The state check walks
 // the peers here, where the engine already is: an engine is never handed on.
-use crate::checks;
-use crate::types::Engine;
-use crate::types::Gate;
-use crate::types::Outcome;
+use engine::Engine;
+use engine::Gate;
+use engine::Outcome;
 use peer::Answer;
 use peer::Receive;
 ghost use mathlib.Core.Path.{_≡_};
 ghost use lib.ListN.{length};
 ghost use Rattle.peer.specs.Calls.{post, packet, cancel, report};
 ghost use Rattle.engine.specs.Leaves.{world, silent, callLeaves};
 ghost use Rattle.engine.specs.Steps.{callTurn};
 
 // A receive is posted for a peer.
 pub fn post(mut engine: Engine, peer: usize, receive: Receive, arena: &[u8], map: &[u64]) -> Outcome
@@ -18,14 +17,15 @@ pub fn post(mut engine: Engine, peer: usize, receive: Receive, arena: &[u8], map
 {
     let n = engine.n;
     let area = engine.area;
-    let mut fits = checks::numbers_fit(n, area, engine.limit);
+    let limit = engine.limit;
+    let mut fits = engine::numbers_fit(n, area, limit);
     let mut i: usize = 0;
     while fits && i < n {
         let other = engine.peers[i];
         fits = state_check::fits(other, area);
         i += 1;
     }
-    let answer = match checks::gate(fits, n, area, arena.len(), map.len(), peer) {
+    let answer = match engine::admit(fits, n, area, limit, arena.len(), map.len(), peer) {
         Gate::Shut(refusal) => Answer::Refused(refusal),
         Gate::Open => {
             let poster = engine.peers[peer];
@@ -52,14 +52,14 @@ pub fn packet(
     let n = engine.n;
     let area = engine.area;
     let limit = engine.limit;
-    let mut fits = checks::numbers_fit(n, area, limit);
+    let mut fits = engine::numbers_fit(n, area, limit);
     let mut i: usize = 0;
     while fits && i < n {
         let other = engine.peers[i];
         fits = state_check::fits(other, area);
         i += 1;
     }
-    let answer = match checks::gate(fits, n, area, arena.len(), map.len(), peer) {
+    let answer = match engine::admit(fits, n, area, limit, arena.len(), map.len(), peer) {
         Gate::Shut(refusal) => Answer::Refused(refusal),
         Gate::Open => {
             let sender = engine.peers[peer];
@@ -78,14 +78,15 @@ pub fn cancel(mut engine: Engine, peer: usize, slot: usize, arena: &[u8], map: &
 {
     let n = engine.n;
     let area = engine.area;
-    let mut fits = checks::numbers_fit(n, area, engine.limit);
+    let limit = engine.limit;
+    let mut fits = engine::numbers_fit(n, area, limit);
     let mut i: usize = 0;
     while fits && i < n {
         let other = engine.peers[i];
         fits = state_check::fits(other, area);
         i += 1;
     }
-    let answer = match checks::gate(fits, n, area, arena.len(), map.len(), peer) {
+    let answer = match engine::admit(fits, n, area, limit, arena.len(), map.len(), peer) {
         Gate::Shut(refusal) => Answer::Refused(refusal),
         Gate::Open => {
             let holder = engine.peers[peer];
@@ -104,14 +105,15 @@ pub fn report(engine: Engine, peer: usize, slot: usize, arena: &[u8], map: &[u64
 {
     let n = engine.n;
     let area = engine.area;
-    let mut fits = checks::numbers_fit(n, area, engine.limit);
+    let limit = engine.limit;
+    let mut fits = engine::numbers_fit(n, area, limit);
     let mut i: usize = 0;
     while fits && i < n {
         let other = engine.peers[i];
         fits = state_check::fits(other, area);
         i += 1;
     }
-    let answer = match checks::gate(fits, n, area, arena.len(), map.len(), peer) {
+    let answer = match engine::admit(fits, n, area, limit, arena.len(), map.len(), peer) {
         Gate::Shut(refusal) => Answer::Refused(refusal),
         Gate::Open => {
             let asked = engine.peers[peer];

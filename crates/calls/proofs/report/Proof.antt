@@ -1,4 +1,4 @@
--- `engine::calls::report` meets its contract. The loop's invariant: the state can be if it `fits` so far and the peers from i on can be.
+-- `calls::report` meets its contract. The loop's invariant: the state can be if it `fits` so far and the peers from i on can be.
 use Prim.Native.Nat.{_-_}
 use borrow.Author.Needs.{needs}
 use lib.ListN.{length}
@@ -6,23 +6,23 @@ use mathlib.Core.Logic.{⊎-map}
 use mathlib.Core.Path.{ap, sym, _∙_}
 use native.Mathlib.Omega.{arith}
 use Rattle.laws.proofs.Listing.{length-mapped}
 use Rattle.engine.specs.Leaves.{silent}
 use Rattle.engine.specs.declared.types.Engine.{Engine}
 use Rattle.peer.specs.Calls.{peerStep, report}
 use Rattle.engine.proofs.CheckLaws.{Gated, Walked, gated, opened, walk-below, walk-start, walk-turn}
 use Rattle.engine.proofs.PutBack.{quiet-call, same-peer, shut-turn}
-use Rattle.engine.proofs.calls.report.Statement.{statement}
-use Rattle.engine.proofs.calls.report.Tie as tie
+use Rattle.calls.proofs.report.Statement.{statement}
+use Rattle.calls.proofs.report.Tie as tie
 
 abbrev Inv-loop : tie.InvT-loop
-Inv-loop peer slot arena map engine n area fits₀ i₀ fits i = Walked engine fits i
+Inv-loop peer slot arena map engine n area limit fits₀ i₀ fits i = Walked engine fits i
 
 abbrev μ-loop : tie.MeasureT-loop
-μ-loop peer slot arena map engine n area fits₀ i₀ fits i = n - i
+μ-loop peer slot arena map engine n area limit fits₀ i₀ fits i = n - i
 
 -- behind the walk it is known what the gate says
-passed : (c : tie.After-gate Inv-loop μ-loop) → let a = c .before .before .before .before .before .before .args in Gated (a .t1) (length (a .arena .now)) (length (a .map .now)) (a .peer) (c .gate .result)
-passed c = gated (c .before .before .loop .inv) (⊎-map (λ w. (w .0 .taken, w .1 .left)) (λ w. w .left) (c .before .loop-test .came)) (c .gate .ensures)
+passed : (c : tie.After-admit Inv-loop μ-loop) → let a = c .before .before .before .before .before .before .args in Gated (a .t1) (length (a .arena .now)) (length (a .map .now)) (a .peer) (c .admit .result)
+passed c = gated (c .before .before .loop .inv) (⊎-map (λ w. (w .0 .taken, w .1 .left)) (λ w. w .left) (c .before .loop-test .came)) (c .admit .ensures)
 
 makes : tie.Need-returns-2 Inv-loop μ-loop
 unfolding peerStep
@@ -43,7 +43,7 @@ report-spec =
     (λ c. omega (arith, walk-below (c .before .before .before .before .loop .inv) (c .before .before .before .loop-test .taken) (c .before .before .if1 .taken) .1))
     (λ c. omega (arith, walk-below (c .before .before .before .before .loop .inv) (c .before .before .before .loop-test .taken) (c .before .before .if1 .taken) .0))
     (λ c. walk-turn (c .before .before .before .before .loop .inv) _ (c .before .before .before .loop-test .taken) (c .before .before .if1 .taken) (c .fits2 .ensures))
-    (λ c κs. c .before .loop .inv .small)
+    (λ c κs. search needs)
     (λ c. search needs)
     (λ c. search needs)
     (λ c. omega (arith, opened (passed (c .before .before)) (c .enum-told .given .1) .below))
