@@ -1,12 +1,12 @@
 // Writing a packet: its checks in their order, then its bytes.
-use crate::arrays;
-use crate::flags;
-use crate::layout;
-use crate::lengths;
 use crate::limits::VERSION;
-use crate::options;
-use crate::sections;
-use crate::table;
+use headers::arrays;
+use headers::flags;
+use headers::layout;
+use headers::lengths;
+use headers::options;
+use headers::sections;
+use headers::table;
 use protocol::ABOVE_LIMIT;
 use protocol::BAD_FLAGS;
 use protocol::BAD_LENGTH;

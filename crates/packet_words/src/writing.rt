@@ -220,7 +220,7 @@ pub fn write(
     if all_narrow(values) {
         return write_header(values, raw_address, data, out, size);
     }
-    match packet::find(kind as u8) {
+    match headers::table::find(kind as u8) {
         FoundRow::Unknown => BAD_TYPE,
         FoundRow::Row(row) => write_as(row, values, raw_address, data, out, size),
     }
