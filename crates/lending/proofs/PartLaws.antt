@@ -5,10 +5,12 @@ use lib.ListN.{length, take, drop}
 use mathlib.Core.Bool.{true}
 use mathlib.Core.List.{List}
 use mathlib.Core.Path.{_≡_, ap, _∙_}
+use native.Mathlib.Omega.{arith}
 use Rattle.laws.specs.Parts.{part}
 use Rattle.laws.proofs.Storing.{length-part, lent-part, put-part, put-store}
 use Rattle.peer.specs.Calls.{packet, packetEffect, peerStep}
 use Rattle.peer.specs.Effects.{Effect}
+use Rattle.receiving.specs.Preconditions.{Limited, Mapped}
 use Rattle.receiving.specs.Leaves.{PacketLeaves, packetLeaves}
 use Rattle.peer.specs.State.{peerFits, slotCount}
 use Rattle.peer.specs.declared.types.Peer.{Peer}
@@ -16,7 +18,16 @@ use Rattle.peer.proofs.Kept.{Kept, step-kept}
 use Rattle.peer.proofs.Valid.{fits-valid}
 use Rattle.lending.specs.Lending.{Lent, Owned, leavesAt}
 
--- ---- a packet's step, put into the whole
+-- ---- a packet's step, on a part of the whole
+
+-- a part of as many bytes and words as the peer's area has is what the step asks for
+pub own-part : {area limit p arena map bytes words : ℕ} {q : Peer} → Owned area limit p arena map q → bytes ≡ area → words ≡ area / 64
+    → Limited limit × Mapped bytes words q
+own-part {area} o e f =
+    let whole : 64 * (area / 64) ≡ area = omega (arith, o .mapped .whole) in
+    rw (e, f) (record { low = o .low; high = o .high }, record { whole = whole; small = o .mapped .short; fits = o .mapped .fits })
+
+-- ---- and put into the whole
 
 packet-kept : (area limit : ℕ) (q : Peer) (ws bs : List ℕ) (room : ℕ) → peerFits area q ≡ true → length (q .slots) ≡ slotCount
     → Kept area q ws (packetEffect limit q ws bs room)

@@ -3,10 +3,9 @@ use Prim.Native.Nat.{_*_, _/_}
 use borrow.Author.Needs.{needs}
 use lib.ListN.{length}
 use mathlib.Core.Path.{_≡_}
-use native.Mathlib.Omega.{arith}
 use Rattle.laws.proofs.Storing.{length-lent}
 use Rattle.laws.proofs.Listing.{length-mapped}
-use Rattle.lending.proofs.PartLaws.{packet-put}
+use Rattle.lending.proofs.PartLaws.{own-part, packet-put}
 use Rattle.lending.proofs.packet_at.Statement.{statement}
 use Rattle.lending.proofs.packet_at.Tie as tie
 
@@ -15,9 +14,7 @@ packet-requires c κs =
     let s = c .before .before .before .before .before .before .before in
     let a = s .args in
     let m = s .pre in
-    let w : 64 * (a .area / 64) ≡ a .area = omega (arith, m .mapped .whole) in
-    rw (length-lent (a .arena .now) (a .p * a .area) (a .area) (m .inArena), length-lent (a .map .now) (a .p * (a .area / 64)) (a .area / 64) (m .mapped .inMap))
-    (record { low = m .low; high = m .high }, record { whole = w; small = m .mapped .short; fits = m .mapped .fits })
+    own-part m (length-lent (a .arena .now) (a .p * a .area) (a .area) (m .inArena)) (length-lent (a .map .now) (a .p * (a .area / 64)) (a .area / 64) (m .mapped .inMap))
 
 returns : tie.Need-returns
 returns c =
