@@ -29,7 +29,7 @@ use Rattle.bitmap.proofs.BitLaws.{cleared-out, length-cleared, marked-out}
 use Rattle.laws.proofs.Choosing.{or-cases, or-left}
 use Rattle.peer.proofs.Agreement.{Agrees, Held, more-bits}
 use Rattle.peer.proofs.CoverageLaws.{Wrote, bits-cleared, bits-same, content-same, content-written, inside-end}
-use Rattle.peer.proofs.Kept.{Standing, begun-standing, continued-standing}
+use Rattle.peer.proofs.Kept.{FitsBesideOthers, begun-beside, continued-beside}
 use Rattle.peer.proofs.Roles.{role-at, role-lengths, roles-set}
 use Rattle.peer.proofs.Slots.{phase-other, phase-same}
 use Rattle.peer.proofs.Valid.{Valid, open-within}
@@ -125,7 +125,7 @@ apart-out r s x e a b = elim (decLt x (r .start)) as (λ d. (x < r .start) ⊎ (
 ]
 
 -- the bits of another open message lie outside the range of the message that stands in slot i
-module _ (area : ℕ) (p : Peer) (i : ℕ) (o : Inbound) (v : Valid area (p .slots)) (s : Standing area (p .slots) i o) where
+module _ (area : ℕ) (p : Peer) (i : ℕ) (o : Inbound) (v : Valid area (p .slots)) (s : FitsBesideOthers area (p .slots) i o) where
   outside : (k : ℕ) (q : Inbound) → (k ≡ i → ⊥) → phaseAt (p .slots) k ≡ Phase.Open q → (x : ℕ) → x < q .message .length
       → (q .receive .start + x < o .receive .start) ⊎ (o .receive .start + o .receive .capacity ≤ q .receive .start + x)
   outside k q n e x h =
@@ -183,7 +183,7 @@ agrees-kept area p ws mem mem′ l v e a =
 
 -- the message o stands in slot i, and entry e has its segments with the new one; the words ws′ have their bits
 pub record Taken (area : ℕ) (p : Peer) (ws′ : List ℕ) (mem′ : ℕ → ℕ) (l : Plain) (i : ℕ) (o : Inbound) (e : Entry) : Type 0 where
-  pub standing : Standing area (p .slots) i o
+  pub beside : FitsBesideOthers area (p .slots) i o
   pub role : e .role ≡ receiving o
   pub own : Held ws′ mem′ o (e .segments)
   pub others : (k : ℕ) (q : Inbound) → (k ≡ i → ⊥) → phaseAt (p .slots) k ≡ Phase.Open q → Held ws′ mem′ q (slotEntry (l .entries) k .segments)
@@ -193,7 +193,7 @@ still-open : (area : ℕ) (p : Peer) (ws′ : List ℕ) (mem′ : ℕ → ℕ) (
     → e′ .role ≡ receiving q → Held ws′ mem′ q (e′ .segments) → Change p ws′ mem′ l i (Phase.Open q) e′
 still-open area p ws′ mem′ l i o q e e′ t x h =
     record {
-      inSlots = t .standing .inSlots;
+      inSlots = t .beside .inSlots;
       role = sym x;
       unposted = λ r a z. let u : _≡_ {A = ℕ} 0 1 = cc in omega arith;
       own = λ m z. let is : q ≡ m = cc in subst (λ (n : Inbound). Held ws′ mem′ n (e′ .segments)) is h;
@@ -213,7 +213,7 @@ unfolding settledAs
 settled-agrees area limit p n ws ws′ mem mem′ l bs room i o t Progress.Whole a en ei k =
     rw ei
     (agrees-set p ws ws′ mem mem′ l i Phase.Free noEntry n (nextAfter l t) a
-    (freed p ws′ mem′ l i (k .standing .inSlots) (k .others))
+    (freed p ws′ mem′ l i (k .beside .inSlots) (k .others))
     en)
 settled-agrees area limit p n ws ws′ mem mem′ l bs room i o t Progress.Due a en ei k =
     let m : ℕ = grantOf limit (o .message) in
@@ -243,7 +243,7 @@ module _ (area limit : ℕ) (p : Peer) (ws : List ℕ) (mem mem′ : ℕ → ℕ
       → Taken area p (marked ws (o .receive .start + h .offset) (length bytes)) mem′ l i o (grown (slotEntry (l .entries) i) (segmentOf h bytes))
   more-taken i o c wrote =
       record {
-        standing = s;
+        beside = s;
         role = sym (role-at (p .slots) (l .entries) (agrees .same) i) ∙ ap roleOf (at .1);
         own = record {
           bits = more-bits ws h bytes o (slotEntry (l .entries) i .segments) (omega (arith, s .within .inArea, s .within .inRange)) (was .bits);
@@ -266,8 +266,8 @@ module _ (area limit : ℕ) (p : Peer) (ws : List ℕ) (mem mem′ : ℕ → ℕ
             };
       }
     where
-      s : Standing area (p .slots) i o
-      s = continued-standing area p ws h i o v c
+      s : FitsBesideOthers area (p .slots) i o
+      s = continued-beside area p ws h i o v c
 
       at : (i < length (p .slots)) × (phaseAt (p .slots) i ≡ Phase.Open o)
       at = continued-at p ws h i o c
@@ -280,7 +280,7 @@ module _ (area limit : ℕ) (p : Peer) (ws : List ℕ) (mem mem′ : ℕ → ℕ
       (begunEntry r (slotEntry (l .entries) i .serial) h (segmentOf h bytes))
   begun-taken i r b wrote =
       record {
-        standing = s;
+        beside = s;
         role = refl;
         own = record {
           bits = more-bits (cleared ws (r .start) (r .capacity)) h bytes (opened r h) []
@@ -306,8 +306,8 @@ module _ (area limit : ℕ) (p : Peer) (ws : List ℕ) (mem mem′ : ℕ → ℕ
             };
       }
     where
-      s : Standing area (p .slots) i (opened r h)
-      s = begun-standing area p h (length bytes) i r v form b
+      s : FitsBesideOthers area (p .slots) i (opened r h)
+      s = begun-beside area p h (length bytes) i r v form b
 
       no-cover : (k : ℕ) → covers [] k ≡ true → ⊥
       no-cover k e = false≢true (unfold covers in e)

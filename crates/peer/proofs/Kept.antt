@@ -8,12 +8,12 @@ use mathlib.Core.List.{List}
 use mathlib.Core.Path.{_≡_, refl, sym, ap, ap₂, _∙_, subst}
 use native.Mathlib.Omega.{arith}
 use Rattle.bitmap.specs.Map.{cleared, marked}
-use Rattle.peer.specs.Calls.{Call, countOlder, countPosted, missingIn, peerStep, placed, renumbered, renumberedPhase, someInTheWay}
+use Rattle.peer.specs.Calls.{Call, countOlder, countPosted, missingIn, peerStep, placed, renumbered, renumberedPhase, overlapsSome}
 use Rattle.peer.specs.Effects.{Effect, accept, advance, begun, extended, grantOf, inSlot, opened, progressOf, quiet, settledAs, truncatedAt, withPhase}
 use Rattle.peer.specs.Formed.{Formed}
 use Rattle.peer.specs.Incomings.{incomingOf}
 use Rattle.peer.specs.Matching.{vacancy}
-use Rattle.peer.specs.State.{clash, inTheWay, overlap, phaseAt, phaseFits, slotCount, slotWith}
+use Rattle.peer.specs.State.{clash, overlapsUse, overlap, phaseAt, phaseFits, slotCount, slotWith}
 use Rattle.peer.specs.declared.types.Answer.{Answer}
 use Rattle.peer.specs.declared.types.Answer.the-variants.{Cancelled, Refused, Truncated}
 use Rattle.peer.specs.declared.types.Inbound.{Inbound}
@@ -31,7 +31,7 @@ use Rattle.bitmap.proofs.BitLaws.{length-cleared, length-marked}
 use Rattle.laws.proofs.Choosing.{or-left, or-neither}
 use Rattle.peer.proofs.Ages.{length-renumbered, older-below, phase-renumbered, valid-renumbered}
 use Rattle.peer.proofs.PacketsRead.{read-formed}
-use Rattle.peer.proofs.Slots.{found-nothing, vacant, way-clear}
+use Rattle.peer.proofs.Slots.{found-nothing, vacant, overlaps-none}
 use Rattle.peer.proofs.StepCases.{StepCase, begins, cancelled, continues, dataOf, posted, refused, reported, step-case, truncated}
 use Rattle.peer.proofs.Valid.{Valid, Within, open-within, posted-within, valid-set, within-open}
 use Rattle.peer.proofs.Verdicts.{Begins, Continues, chosen-at, continued-at}
@@ -71,7 +71,7 @@ clash-same o q (Phase.Open m) e d c = ap₂ (λ (x : Receive) (y : ℕ). overlap
 -- ---- an accepted segment
 
 -- the message o may stand in slot i
-pub record Standing (area : ℕ) (ss : List Slot) (i : ℕ) (o : Inbound) : Type 0 where
+pub record FitsBesideOthers (area : ℕ) (ss : List Slot) (i : ℕ) (o : Inbound) : Type 0 where
   pub inSlots : i < length ss
   pub within : Within area o
   pub apart : (k : ℕ) → k < length ss → (k ≡ i → ⊥) → clash (Phase.Open o) (phaseAt ss k) ≡ false
@@ -80,7 +80,7 @@ pub grant-le : (limit : ℕ) (m : Message) → grantOf limit m ≤ m .length - m
 unfolding grantOf
 grant-le limit m = omega arith
 
-settled-kept : (area limit : ℕ) (p : Peer) (i : ℕ) (o : Inbound) (g : Progress) → Valid area (p .slots) → Standing area (p .slots) i o
+settled-kept : (area limit : ℕ) (p : Peer) (i : ℕ) (o : Inbound) (g : Progress) → Valid area (p .slots) → FitsBesideOthers area (p .slots) i o
     → Valid area (withPhase p i (settledAs limit i o g .phase) .slots)
 unfolding settledAs
 settled-kept area limit p i o Progress.Whole v s = valid-free area (p .slots) i (s .inSlots) v
@@ -92,7 +92,7 @@ settled-kept area limit p i o Progress.Due v s =
 settled-kept area limit p i o Progress.Partial v s = valid-set area (p .slots) i (Phase.Open o) (s .inSlots) v (within-open area o (s .within)) (s .apart)
 
 accept-kept : (area limit : ℕ) (p q : Peer) (ws ws′ : List ℕ) (i : ℕ) (o : Inbound) (offset : ℕ) (bytes : List ℕ) → Valid area (p .slots)
-    → Standing area (p .slots) i o → length (p .slots) ≡ length (q .slots) → length ws ≡ length ws′ → offset + length bytes ≤ o .message .length
+    → FitsBesideOthers area (p .slots) i o → length (p .slots) ≡ length (q .slots) → length ws ≡ length ws′ → offset + length bytes ≤ o .message .length
     → Kept area q ws′ (inSlot p i (accept limit ws i o offset bytes))
 unfolding accept
 accept-kept area limit p q ws ws′ i o offset bytes v s e d l =
@@ -105,9 +105,9 @@ accept-kept area limit p q ws ws′ i o offset bytes v s e d l =
 
 -- ---- a packet
 
-pub begun-standing : (area : ℕ) (p : Peer) (h : Incoming) (n i : ℕ) (r : Receive) → Valid area (p .slots) → Formed h n → Begins p h i r
-    → Standing area (p .slots) i (opened r h)
-begun-standing area p h n i r v form b =
+pub begun-beside : (area : ℕ) (p : Peer) (h : Incoming) (n i : ℕ) (r : Receive) → Valid area (p .slots) → Formed h n → Begins p h i r
+    → FitsBesideOthers area (p .slots) i (opened r h)
+begun-beside area p h n i r v form b =
     let at = chosen-at p h i r (b .matched) in
     record {
       inSlots = at .0;
@@ -122,9 +122,9 @@ begun-standing area p h n i r v form b =
           (λ q x y. found-nothing (h .id) (p .slots) (b .matched .unopened) k q x y);
     }
 
-pub continued-standing : (area : ℕ) (p : Peer) (ws : List ℕ) (h : Incoming) (i : ℕ) (o : Inbound) → Valid area (p .slots) → Continues p ws h i o
-    → Standing area (p .slots) i o
-continued-standing area p ws h i o v c =
+pub continued-beside : (area : ℕ) (p : Peer) (ws : List ℕ) (h : Incoming) (i : ℕ) (o : Inbound) → Valid area (p .slots) → Continues p ws h i o
+    → FitsBesideOthers area (p .slots) i o
+continued-beside area p ws h i o v c =
     let at = continued-at p ws h i o c in
     record {
       inSlots = at .0;
@@ -135,14 +135,14 @@ continued-standing area p ws h i o v c =
 -- ---- a post
 
 placed-kept : (area : ℕ) (p : Peer) (ws : List ℕ) (r : Receive) (i : ℕ) → vacancy 0 (p .slots) ≡ Vacancy.Slot i → Valid area (p .slots)
-    → r .start + r .capacity ≤ area → someInTheWay r (p .slots) ≡ false → Kept area p ws (quiet (placed p r i) ws (Answer.Posted i))
+    → r .start + r .capacity ≤ area → overlapsSome r (p .slots) ≡ false → Kept area p ws (quiet (placed p r i) ws (Answer.Posted i))
 unfolding placed
 placed-kept area p ws r i e v a c =
     quiet-kept area p (placed p r i) ws (Answer.Posted i)
     (valid-set area all i (Phase.Posted r young) (omega (arith, inside, length-renumbered (p .slots) (p .slots))) (valid-renumbered area (p .slots) v)
     (unfold phaseFits in le-leb (r .start + r .capacity) area a)
     (λ k l n. let l′ : k < length (p .slots) = rw (length-renumbered (p .slots) (p .slots)) at l in
-    ap (clash (Phase.Posted r young)) (phase-renumbered (p .slots) (p .slots) k) ∙ apart k l′ (phaseAt (p .slots) k) refl (way-clear r (p .slots) c k)))
+    ap (clash (Phase.Posted r young)) (phase-renumbered (p .slots) (p .slots) k) ∙ apart k l′ (phaseAt (p .slots) k) refl (overlaps-none r (p .slots) c k)))
     (length-set all i _ ∙ length-renumbered (p .slots) (p .slots))
   where
     all : List Slot
@@ -154,14 +154,14 @@ placed-kept area p ws r i e v a c =
     inside : i < length (p .slots)
     inside = vacant (p .slots) i e .0
 
-    apart : (k : ℕ) → k < length (p .slots) → (f : Phase) → phaseAt (p .slots) k ≡ f → inTheWay r f ≡ false
+    apart : (k : ℕ) → k < length (p .slots) → (f : Phase) → phaseAt (p .slots) k ≡ f → overlapsUse r f ≡ false
         → clash (Phase.Posted r young) (renumberedPhase (p .slots) f) ≡ false
     apart k l Phase.Free x w = unfold clash in refl
     apart k l (Phase.Posted s b) x w =
         unfold clash in
-        or-neither (overlap r s) (eqb young (countOlder b (p .slots))) (unfold inTheWay in w)
+        or-neither (overlap r s) (eqb young (countOlder b (p .slots))) (unfold overlapsUse in w)
         (ne-eqb young (countOlder b (p .slots)) (λ y. omega (arith, older-below (p .slots) k s b l x)))
-    apart k l (Phase.Open q) x w = unfold clash inTheWay in w
+    apart k l (Phase.Open q) x w = unfold clash overlapsUse in w
 
 -- ---- every call
 
@@ -186,9 +186,9 @@ step-kept area limit p ws c v e = go (step-case area limit p ws c)
         let h : Incoming = incomingOf q in
         let form = read-formed limit bs q (a .reads) in
         accept-kept area limit (advance p) p (cleared ws (r .start) (r .capacity)) ws i (opened r h) (h .offset) (dataOf bs q) v
-        (begun-standing area p h (length (dataOf bs q)) i r v form b) refl (length-cleared ws (r .start) (r .capacity))
+        (begun-beside area p h (length (dataOf bs q)) i r v form b) refl (length-cleared ws (r .start) (r .capacity))
         (omega (arith, form .size, form .inside (b .matched .rtm)))
     go (continues bs room q a i o k) =
-        let s = continued-standing area p ws (incomingOf q) i o v k in
+        let s = continued-beside area p ws (incomingOf q) i o v k in
         accept-kept area limit p p ws ws i o (incomingOf q .offset) (dataOf bs q) v s refl refl
         (omega (arith, read-formed limit bs q (a .reads) .size, k .inLength (s .within .inLength)))

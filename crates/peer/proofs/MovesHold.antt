@@ -45,7 +45,7 @@ use Rattle.peer.proofs.AnswersChecked.{rtm-of}
 use Rattle.peer.proofs.BitMoves.{Reached, count-listed, first-lowest, match-marked, more-marked, reached}
 use Rattle.peer.proofs.BytesHold.{Says, bytes-told, read-says}
 use Rattle.peer.proofs.EntrySearch.{Foremost, foremost}
-use Rattle.peer.proofs.Kept.{Standing, begun-standing, continued-standing}
+use Rattle.peer.proofs.Kept.{FitsBesideOthers, begun-beside, continued-beside}
 use Rattle.peer.proofs.OriginReplies.{grant-left, grant-some}
 use Rattle.peer.proofs.OriginsHold.{begun-by}
 use Rattle.peer.proofs.PacketChecked.{fits-words}
@@ -307,8 +307,8 @@ module _ (limit : ℕ) (p : Peer) (ws : List ℕ) (eight : length (p .slots) ≡
         (length-marked mid (r .start + h .offset) (length bytes) ∙ length-cleared ws (r .start) (r .capacity)) (ap (λ (x : ℕ). r .start + x) (says .offset))
         (bytes-told limit bs q e .rest) (progressOf now (opened r h)) (reached now (opened r h))
       where
-        s : Standing area (p .slots) i (opened r h)
-        s = begun-standing area p h (length bytes) i r v form b
+        s : FitsBesideOthers area (p .slots) i (opened r h)
+        s = begun-beside area p h (length bytes) i r v form b
 
         mid : List ℕ
         mid = cleared ws (r .start) (r .capacity)
@@ -332,8 +332,8 @@ module _ (limit : ℕ) (p : Peer) (ws : List ℕ) (eight : length (p .slots) ≡
         (length-marked ws (o .receive .start + h .offset) (length bytes)) (ap (λ (x : ℕ). o .receive .start + x) (says .offset))
         (bytes-told limit bs q e .rest) (progressOf now o) (reached now o)
       where
-        s : Standing area (p .slots) i o
-        s = continued-standing area p ws h i o v c
+        s : FitsBesideOthers area (p .slots) i o
+        s = continued-beside area p ws h i o v c
 
         now : List ℕ
         now = marked ws (o .receive .start + h .offset) (length bytes)

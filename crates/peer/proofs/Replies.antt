@@ -41,7 +41,7 @@ use Rattle.peer.proofs.Ages.{length-renumbered, phase-renumbered}
 use Rattle.peer.proofs.Agreement.{Agrees, Meets, begins, cancelled, continues, posted, refused, reported, taken-answer, truncated}
 use Rattle.peer.proofs.AnswerLaws.{claim-from}
 use Rattle.peer.proofs.CoverageLaws.{Wrote, all-at}
-use Rattle.peer.proofs.Kept.{continued-standing}
+use Rattle.peer.proofs.Kept.{continued-beside}
 use Rattle.peer.proofs.PacketsRead.{read-formed}
 use Rattle.peer.proofs.Slots.{phase-other, phase-same, vacant}
 use Rattle.peer.proofs.StepCases.{StepCase, begins, cancelled, continues, dataOf, posted, refused, reported, step-case, truncated}
@@ -182,12 +182,12 @@ module _ (area limit : ℕ) (p : Peer) (ws : List ℕ) (mem : ℕ → ℕ) (l : 
             (λ j id n cq e x.
             let (slot, len, all) = x in
             let from : getD starts j 0 ≡ o .receive .start = ap (λ (m : ℕ). getD starts m 0) slot ∙ s in (
-              omega (arith, k .standing .within .inArea, k .standing .within .inRange),
+              omega (arith, k .beside .within .inArea, k .beside .within .inRange),
               λ x h. ap (λ (m : ℕ). mem (m + x)) from
                   ∙ k .own .content x (omega arith) (ap (covers (t .entry .segments)) (omega arith) ∙ all-at (covers (t .entry .segments)) 0 (o .message .length) x all (omega arith)),
             ))
             (λ i id n e x. tt)
-            (subst (Complete (t .index) o (t .entry .segments)) (sym (taken-answer limit (t .index) o ws (t .entry .segments) (k .standing .within .inLength) (k .own .bits)))
+            (subst (Complete (t .index) o (t .entry .segments)) (sym (taken-answer limit (t .index) o ws (t .entry .segments) (k .beside .within .inLength) (k .own .bits)))
             (taken-done limit (t .index) o (t .entry .segments)));
         writes = accepted (progressOf ws o);
       }
@@ -203,8 +203,8 @@ module _ (area limit : ℕ) (p : Peer) (ws : List ℕ) (mem : ℕ → ℕ) (l : 
             place = refl;
             content = refl;
             inMessage = fit;
-            inBuffer = k .standing .within .inRange;
-            inArea = k .standing .within .inArea;
+            inBuffer = k .beside .within .inRange;
+            inArea = k .beside .within .inArea;
           }
 
       accepted : (d : Progress) → WriteClaim area t (settledAs limit (t .index) o d .answer) (o .receive .start + g .offset) (g .bytes)
@@ -237,7 +237,7 @@ module _ (area limit : ℕ) (p : Peer) (ws : List ℕ) (mem mem′ : ℕ → ℕ
       settled-yields area limit p (marked ws (o .receive .start + h .offset) (length (dataOf bs q))) mem′ l starts p o (segmentOf h (dataOf bs q))
       (slotEntry (l .entries) i .segments) _ (more-taken area limit p ws mem mem′ l h (dataOf bs q) v form big agrees i o k w) refl
       (s .at i (ap isFree (at .1)) ∙ ap startOf (at .1))
-      (omega (arith, form .size, k .inLength (continued-standing area p ws h i o v k .within .inLength)))
+      (omega (arith, form .size, k .inLength (continued-beside area p ws h i o v k .within .inLength)))
 
 -- ---- a grant's reply is a CTS of 24 bytes, for which there is room; no other answer comes with a reply
 

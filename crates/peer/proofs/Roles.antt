@@ -7,11 +7,11 @@ use mathlib.Core.List.{List, [], _∷_}
 use mathlib.Core.Path.{_≡_, refl, sym, ap, ap₂, _∙_, subst₂}
 use native.Mathlib.Omega.{arith}
 use Rattle.laws.specs.Choose.{pick}
-use Rattle.peer.specs.Calls.{renumbered, renumberedPhase, someInTheWay}
+use Rattle.peer.specs.Calls.{renumbered, renumberedPhase, overlapsSome}
 use Rattle.peer.specs.Expected.{anyOverlap, lowestIdle}
 use Rattle.peer.specs.Matching.{findOpen, fits, older, olderHere, oldest, openHere, orElse, vacancy}
 use Rattle.peer.specs.Plain.{Entry, Role, firstHere, firstPosted, idle, openIn, roles, slotEntry}
-use Rattle.peer.specs.State.{inTheWay, isFree, overlap, phaseAt, slotWith}
+use Rattle.peer.specs.State.{overlapsUse, isFree, overlap, phaseAt, slotWith}
 use Rattle.peer.specs.View.{roleOf, rolesOf}
 use Rattle.peer.specs.declared.types.Fit.{Fit}
 use Rattle.peer.specs.declared.types.Fit.the-variants.{To, Unfit}
@@ -96,12 +96,12 @@ vacancy-same k (s ∷ ss) = at (s .phase) (vacancy-same (suc k) ss)
     at (Phase.Posted r a) e = e
     at (Phase.Open o) e = e
 
-pub overlap-same : (r : Receive) (ss : List Slot) → someInTheWay r ss ≡ anyOverlap r (rolesOf ss)
-unfolding someInTheWay inTheWay anyOverlap
+pub overlap-same : (r : Receive) (ss : List Slot) → overlapsSome r ss ≡ anyOverlap r (rolesOf ss)
+unfolding overlapsSome overlapsUse anyOverlap
 overlap-same r [] = refl
 overlap-same r (s ∷ ss) = at (s .phase) (overlap-same r ss)
   where
-    at : (f : Phase) → someInTheWay r ss ≡ anyOverlap r (rolesOf ss) → (inTheWay r f || someInTheWay r ss) ≡ anyOverlap r (roleOf f ∷ rolesOf ss)
+    at : (f : Phase) → overlapsSome r ss ≡ anyOverlap r (rolesOf ss) → (overlapsUse r f || overlapsSome r ss) ≡ anyOverlap r (roleOf f ∷ rolesOf ss)
     at Phase.Free e = e
     at (Phase.Posted s a) e = ap (λ (t : Bool). overlap r s || t) e
     at (Phase.Open o) e = ap (λ (t : Bool). overlap r (o .receive) || t) e

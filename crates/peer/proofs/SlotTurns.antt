@@ -9,9 +9,9 @@ use mathlib.Core.Path.{_≡_, refl}
 use native.Mathlib.Numerals.{add-one}
 use native.Mathlib.Omega.{arith}
 use Rattle.laws.specs.Choose.{pick}
-use Rattle.peer.specs.Calls.{countOlder, countPosted, oneOlder, onePosted, someInTheWay}
+use Rattle.peer.specs.Calls.{countOlder, countPosted, oneOlder, onePosted, overlapsSome}
 use Rattle.peer.specs.Matching.{findOpen, olderHere, oldest, openHere, orElse, vacancy}
-use Rattle.peer.specs.State.{allFit, clash, freeSlot, inTheWay, isFree, noneClash, pairsApart, phaseAt, phaseFits}
+use Rattle.peer.specs.State.{allFit, clash, freeSlot, overlapsUse, isFree, noneClash, pairsApart, phaseAt, phaseFits}
 use Rattle.peer.specs.declared.types.Fit.{Fit}
 use Rattle.peer.specs.declared.types.FoundOpen.{FoundOpen}
 use Rattle.peer.specs.declared.types.Incoming.{Incoming}
@@ -46,9 +46,9 @@ module _ (ss : List Slot) (i : ℕ) (h : i < length ss) where
   unfolding pairsApart
   pairs-turn = rw (add-one, drop-cons ss i freeSlot h)
 
-  pub way-turn : (r : Receive) → someInTheWay r (drop i ss) ≡ (inTheWay r (phaseAt ss i) || someInTheWay r (drop (i + 1) ss))
-  unfolding someInTheWay
-  way-turn r = rw (add-one, drop-cons ss i freeSlot h)
+  pub overlaps-turn : (r : Receive) → overlapsSome r (drop i ss) ≡ (overlapsUse r (phaseAt ss i) || overlapsSome r (drop (i + 1) ss))
+  unfolding overlapsSome
+  overlaps-turn r = rw (add-one, drop-cons ss i freeSlot h)
 
   pub posted-turn : countPosted (drop i ss) ≡ onePosted (phaseAt ss i) + countPosted (drop (i + 1) ss)
   unfolding countPosted
@@ -83,9 +83,9 @@ module _ (ss : List Slot) (i : ℕ) (h : length ss ≤ i) where
   unfolding pairsApart
   pairs-end = rw (drop-of-length-le ss h)
 
-  pub way-end : (r : Receive) → someInTheWay r (drop i ss) ≡ false
-  unfolding someInTheWay
-  way-end r = rw (drop-of-length-le ss h)
+  pub overlaps-end : (r : Receive) → overlapsSome r (drop i ss) ≡ false
+  unfolding overlapsSome
+  overlaps-end r = rw (drop-of-length-le ss h)
 
   pub posted-end : countPosted (drop i ss) ≡ 0
   unfolding countPosted

@@ -8,12 +8,12 @@ use mathlib.Core.Bool.{true, false, true≢false}
 use mathlib.Core.List.{List, [], _∷_}
 use mathlib.Core.Path.{_≡_, refl, sym, ap, ap₂, _∙_, subst}
 use native.Mathlib.Omega.{arith}
-use Rattle.peer.specs.Calls.{someInTheWay}
+use Rattle.peer.specs.Calls.{overlapsSome}
 use Rattle.peer.specs.Coverage.{Segment}
 use Rattle.peer.specs.Sentences.{FoundIsTheLowestOpen, NothingFoundIsNoneOpen}
 use Rattle.peer.specs.Matching.{findOpen, olderHere, oldest, vacancy}
 use Rattle.peer.specs.Plain.{Entry, Role, firstHere, firstPosted, noEntry, receiving, roles, slotEntry, waiting}
-use Rattle.peer.specs.State.{freeSlot, inTheWay, isFree, phaseAt, slotWith}
+use Rattle.peer.specs.State.{freeSlot, overlapsUse, isFree, phaseAt, slotWith}
 use Rattle.peer.specs.View.{roleOf, rolesOf}
 use Rattle.peer.specs.declared.types.Fit.{Fit}
 use Rattle.peer.specs.declared.types.FoundOpen.{FoundOpen}
@@ -149,12 +149,12 @@ vacant ss i e =
     let same : j ≡ i = omega arith in
     (omega arith, free-phase (phaseAt ss i) (ap (λ (n : ℕ). isFree (phaseAt ss n)) (sym same) ∙ free), λ x h. used x (omega arith))
 
--- no used range is in the way
-pub way-clear : (r : Receive) (ss : List Slot) → someInTheWay r ss ≡ false → (j : ℕ) → inTheWay r (phaseAt ss j) ≡ false
-unfolding someInTheWay inTheWay
-way-clear r [] e j = refl
-way-clear r (s ∷ ss) e zero = or-left (inTheWay r (s .phase)) (someInTheWay r ss) e
-way-clear r (s ∷ ss) e (suc j) = way-clear r ss (or-right (inTheWay r (s .phase)) (someInTheWay r ss) e) j
+-- no used range is overlapped
+pub overlaps-none : (r : Receive) (ss : List Slot) → overlapsSome r ss ≡ false → (j : ℕ) → overlapsUse r (phaseAt ss j) ≡ false
+unfolding overlapsSome overlapsUse
+overlaps-none r [] e j = refl
+overlaps-none r (s ∷ ss) e zero = or-left (overlapsUse r (s .phase)) (overlapsSome r ss) e
+overlaps-none r (s ∷ ss) e (suc j) = overlaps-none r ss (or-right (overlapsUse r (s .phase)) (overlapsSome r ss) e) j
 
 -- ---- a slot replaced
 

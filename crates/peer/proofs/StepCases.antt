@@ -19,7 +19,7 @@ use Rattle.protocol.specs.declared.types.Packet.{Packet}
 use Rattle.protocol.specs.declared.types.Read.{Read}
 use Rattle.protocol.specs.declared.types.Refusal.{Refusal}
 use Rattle.wire.specs.LittleEndian.{leAt}
-use Rattle.peer.specs.Calls.{Call, cancel, cancelEffect, cancelSlot, missingIn, packet, packetEffect, peerStep, placed, placedIn, post, postEffect, readEffect, report, reportEffect, reportSlot, someInTheWay}
+use Rattle.peer.specs.Calls.{Call, cancel, cancelEffect, cancelSlot, missingIn, packet, packetEffect, peerStep, placed, placedIn, post, postEffect, readEffect, report, reportEffect, reportSlot, overlapsSome}
 use Rattle.peer.specs.Claims.{takes}
 use Rattle.peer.specs.Effects.{Effect, accept, advance, begun, carry, inSlot, opened, quiet, refuse, truncatedAt, withPhase}
 use Rattle.peer.specs.Incomings.{incomingOf}
@@ -49,7 +49,7 @@ dataOf bs q = bytesAt bs (q .«data»)
 
 pub data StepCase (area limit : ℕ) (p : Peer) (ws : List ℕ) : Call → Effect → Type 0 where
   refused : (c : Call) (k : Refusal) → among (refusalsOf c) (k .number) ≡ true → StepCase area limit p ws c (refuse p ws k)
-  posted : (r : Receive) (i : ℕ) → vacancy 0 (p .slots) ≡ Vacancy.Slot i → r .start + r .capacity ≤ area → someInTheWay r (p .slots) ≡ false
+  posted : (r : Receive) (i : ℕ) → vacancy 0 (p .slots) ≡ Vacancy.Slot i → r .start + r .capacity ≤ area → overlapsSome r (p .slots) ≡ false
       → StepCase area limit p ws (post r) (quiet (placed p r i) ws (Answer.Posted i))
   cancelled : (i : ℕ) → i < slotCount → isFree (phaseAt (p .slots) i) ≡ false
       → StepCase area limit p ws (cancel i) (quiet (withPhase p i Phase.Free) ws (Answer.Cancelled i))
@@ -102,7 +102,7 @@ module _ (area limit : ℕ) (p : Peer) (ws : List ℕ) where
       branch (StepCase area limit p ws (post r)) _ _ _ (λ x. refused (post r) badLength refl) (λ x.
       branch (StepCase area limit p ws (post r)) _ _ _ (λ y. refused (post r) overlaps refl) (λ y. place (vacancy 0 (p .slots)) refl (ltb-false area _ x) y))
     where
-      place : (v : Vacancy) → vacancy 0 (p .slots) ≡ v → r .start + r .capacity ≤ area → someInTheWay r (p .slots) ≡ false → StepCase area limit p ws (post r) (placedIn p ws r v)
+      place : (v : Vacancy) → vacancy 0 (p .slots) ≡ v → r .start + r .capacity ≤ area → overlapsSome r (p .slots) ≡ false → StepCase area limit p ws (post r) (placedIn p ws r v)
       place Vacancy.Full e x y = refused (post r) noSlot refl
       place (Vacancy.Slot i) e x y = posted r i e x y
   step-case (packet bs room) =

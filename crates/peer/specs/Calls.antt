@@ -22,7 +22,7 @@ use Rattle.peer.specs.Effects.{Effect, quiet, refuse, withPhase, carry}
 use Rattle.peer.specs.Incomings.{incomingOf}
 use Rattle.peer.specs.Judging.{judge}
 use Rattle.peer.specs.Matching.{vacancy}
-use Rattle.peer.specs.State.{slotCount, slotWith, phaseAt, inTheWay}
+use Rattle.peer.specs.State.{slotCount, slotWith, phaseAt, overlapsUse}
 
 -- ---- a call
 
@@ -63,9 +63,9 @@ onPacket other arriving (report i) = other
 
 -- ---- post
 
-unfoldable pub someInTheWay : Receive → List Slot → Bool
-someInTheWay r [] = false
-someInTheWay r (s ∷ ss) = inTheWay r (s .phase) || someInTheWay r ss
+unfoldable pub overlapsSome : Receive → List Slot → Bool
+overlapsSome r [] = false
+overlapsSome r (s ∷ ss) = overlapsUse r (s .phase) || overlapsSome r ss
 
 -- how many posted receives there are
 abbrev pub onePosted : Phase → ℕ
@@ -110,7 +110,7 @@ placedIn p ws r (Vacancy.Slot i) = quiet (placed p r i) ws (Answer.Posted i)
 unfoldable pub postEffect : ℕ → Peer → List ℕ → Receive → Effect
 postEffect area p ws r =
     pick (ltb area (r .start + r .capacity)) (refuse p ws badLength)
-    (pick (someInTheWay r (p .slots)) (refuse p ws overlaps)
+    (pick (overlapsSome r (p .slots)) (refuse p ws overlaps)
     (placedIn p ws r (vacancy 0 (p .slots))))
 
 -- ---- packet

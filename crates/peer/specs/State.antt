@@ -42,10 +42,10 @@ unfoldable pub overlap : Receive → Receive → Bool
 overlap r s = ltb (max (r .start) (s .start)) (min (r .start + r .capacity) (s .start + s .capacity))
 
 -- a used range, "of a posted or open slot", that the range of r overlaps
-unfoldable pub inTheWay : Receive → Phase → Bool
-inTheWay r Phase.Free = false
-inTheWay r (Phase.Posted s a) = overlap r s
-inTheWay r (Phase.Open o) = overlap r (o .receive)
+unfoldable pub overlapsUse : Receive → Phase → Bool
+overlapsUse r Phase.Free = false
+overlapsUse r (Phase.Posted s a) = overlap r s
+overlapsUse r (Phase.Open o) = overlap r (o .receive)
 
 -- ---- refusal 2, of one peer
 

@@ -25,7 +25,7 @@ pub fn post(peer: Peer, area: usize, receive: Receive) -> Step
     if !wire::ends_by(receive.start, receive.capacity, area) {
         return peer.refused(BAD_LENGTH);
     }
-    if places::has_in_the_way(peer, receive) {
+    if places::overlaps_some(peer, receive) {
         return peer.refused(OVERLAPS);
     }
     match places::find_vacancy(peer) {

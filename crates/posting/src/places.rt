@@ -1,17 +1,17 @@
-// Where a receive can be placed: no used range in its way, and the lowest free slot.
+// Where a receive can be placed: it overlaps no used range, and the lowest free slot.
 use peer::Peer;
 use peer::Phase;
 use peer::Receive;
 use peer::Slot;
 use peer::Vacancy;
 ghost use mathlib.Core.Path.{_≡_};
-ghost use Rattle.peer.specs.Calls.{someInTheWay};
-ghost use Rattle.peer.specs.State.{inTheWay};
+ghost use Rattle.peer.specs.Calls.{overlapsSome};
+ghost use Rattle.peer.specs.State.{overlapsUse};
 ghost use Rattle.peer.specs.Matching.{vacancy};
 
 // Whether the slot's range shares a byte with a receive's.
-fn is_in_the_way(slot: Slot, receive: Receive) -> bool
-    ensures { λ r. ⌜ r ≡ inTheWay receive (slot .phase) ⌝ }
+fn overlaps_use(slot: Slot, receive: Receive) -> bool
+    ensures { λ r. ⌜ r ≡ overlapsUse receive (slot .phase) ⌝ }
 {
     let phase = slot.phase;
     match phase {
@@ -25,13 +25,13 @@ fn is_in_the_way(slot: Slot, receive: Receive) -> bool
 }
 
 // Whether a used range shares a byte with a receive's.
-pub(crate) fn has_in_the_way(peer: Peer, receive: Receive) -> bool
-    ensures { λ r. ⌜ r ≡ someInTheWay receive (peer .slots) ⌝ }
+pub(crate) fn overlaps_some(peer: Peer, receive: Receive) -> bool
+    ensures { λ r. ⌜ r ≡ overlapsSome receive (peer .slots) ⌝ }
 {
     let mut i: usize = 0;
     while i < Peer::SLOTS {
         let slot = peer.slots[i];
-        if is_in_the_way(slot, receive) {
+        if overlaps_use(slot, receive) {
             return true;
         }
         i += 1;

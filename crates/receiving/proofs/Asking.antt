@@ -36,7 +36,7 @@ use Rattle.laws.proofs.Choosing.{pick-first, pick-second}
 use Rattle.laws.proofs.Storing.{store-nothing}
 use Rattle.protocol.proofs.Accepted.{ReadAs, as-read, packetOf}
 use Rattle.protocol.proofs.Served.{any-read}
-use Rattle.peer.proofs.Kept.{begun-standing, continued-standing}
+use Rattle.peer.proofs.Kept.{begun-beside, continued-beside}
 use Rattle.peer.proofs.Valid.{Valid, Within, fits-valid}
 use Rattle.peer.proofs.Verdicts.{Judged, again-inside, chosen-at, continued-at, found-within, judged}
 
@@ -114,7 +114,7 @@ module _ (limit : ℕ) (p : Peer) (h : Incoming) (n area words reply : ℕ) (c :
   pub begins : (i : ℕ) (r : Receive) → judge p ws h ≡ Verdict.Begin i r → MayBegin limit r h n area words reply
   begins i r e =
       let v = verdict (Verdict.Begin i r) e in
-      let s = begun-standing area p h n i r sound (c .form) v in
+      let s = begun-beside area p h n i r sound (c .form) v in
       record {
         limited = c .limited;
         inArea = s .within .inArea;
@@ -129,7 +129,7 @@ module _ (limit : ℕ) (p : Peer) (h : Incoming) (n area words reply : ℕ) (c :
   pub goes-on : (i : ℕ) (o : Inbound) → judge p ws h ≡ Verdict.More i o → MayStore limit o (h .offset) n area words reply
   goes-on i o e =
       let v = verdict (Verdict.More i o) e in
-      let s = continued-standing area p ws h i o sound v in
+      let s = continued-beside area p ws h i o sound v in
       record {
         accepting = record {
           limited = c .limited;

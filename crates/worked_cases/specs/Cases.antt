@@ -8,7 +8,7 @@ use lib.ListN.{length, replicate}
 use Rattle.wire.specs.LittleEndian.{leAt, leBytes, leOf}
 use Rattle.peer.specs.Says.{Saying, say, refused, posted, stored, granted, done, truncated}
 use Rattle.engine.specs.SetUp.{allPeersFit, engineFits, lentFits, numbersFit, peerAt, setUp}
-use Rattle.peer.specs.Calls.{LentCall, cancelEffect, cancelSlot, countOlder, countPosted, packet, packetEffect, peerStep, placed, placedIn, post, postEffect, readEffect, renumbered, reportEffect, reportSlot, someInTheWay}
+use Rattle.peer.specs.Calls.{LentCall, cancelEffect, cancelSlot, countOlder, countPosted, packet, packetEffect, peerStep, placed, placedIn, post, postEffect, readEffect, renumbered, reportEffect, reportSlot, overlapsSome}
 use Rattle.guarantees.specs.Runs.{callsOf, observe, worldAfter}
 use Rattle.guarantees.specs.Receiving.{LentRequest, Seen, freshWorld, noStarts, receiving, turnOf}
 use Rattle.laws.specs.Choose.{pick}
@@ -30,7 +30,7 @@ use Rattle.peer.specs.Effects.{progressOf, grantOf, settledAs, accept, begun, t
 use Rattle.peer.specs.Incomings.{incomingOf}
 use Rattle.peer.specs.Judging.{judgeMore, judgeAgain, judgeData, judgeFit, judgeNew, judgeFound, judge}
 use Rattle.peer.specs.Matching.{openHere, findOpen, sameOutside, fits, older, olderHere, oldest, vacancy, ahead, sameMedium, sameMessage}
-use Rattle.peer.specs.State.{freshPeer, overlap, inTheWay, phaseFits, clash, allFit, noneClash, pairsApart, peerFits}
+use Rattle.peer.specs.State.{freshPeer, overlap, overlapsUse, phaseFits, clash, allFit, noneClash, pairsApart, peerFits}
 use Rattle.engine.specs.Steps.{World, putBack, peerTurn, callTurn}
 
 -- ---- packets
@@ -157,10 +157,10 @@ unfoldable pub run : List LentCall → Case
 unfolding pick part storeAt leBytes leOf leAt ctsBytes hasFlag flagsFit flagged flagsOf sectionsOf layout fieldBytes fieldIn fieldsIn
     lengthsFit rawAddressBytes cqDataBytes connidBytes connidOrZero cqDataIn connidIn headerIn packetIn readLengths readSections readFlags
     readTyped readOf arrayLength arrayCount countIn numberThere arraySpan rawSpan beginOf connidAt dataAt sectionsIn extentOf rowIn rowOf admit
-    baseBytes mandatoryBytes packetBytes bit bitAt setBit clearBit marked cleared touched countSet firstClear someInTheWay countPosted
+    baseBytes mandatoryBytes packetBytes bit bitAt setBit clearBit marked cleared touched countSet firstClear overlapsSome countPosted
     countOlder renumbered placed placedIn postEffect readEffect packetEffect cancelSlot cancelEffect reportSlot reportEffect peerStep progressOf
     grantOf settledAs accept begun truncatedAt carry incomingOf judgeMore judgeAgain judgeData judgeFit judgeNew judgeFound judge openHere
-    findOpen sameOutside fits older olderHere oldest vacancy ahead sameMedium sameMessage freshPeer overlap inTheWay phaseFits clash allFit
+    findOpen sameOutside fits older olderHere oldest vacancy ahead sameMedium sameMessage freshPeer overlap overlapsUse phaseFits clash allFit
     noneClash pairsApart peerFits numbersFit lentFits allPeersFit engineFits putBack peerTurn callTurn setUp freshWorld turnOf worldAfter
     observe callsOf
 run calls =

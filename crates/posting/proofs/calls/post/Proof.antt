@@ -25,7 +25,7 @@ unfolding postEffect pick
 returns-2 c = λ ws.
     let a = c .before .before .before .before .before .args in
     let n = a .receive .start + a .receive .capacity in
-    rw (beyond n (a .area) (sym (c .before .before .before .before .ends-by .ensures) ∙ not-false _ (c .before .before .before .if1 .left)), ← c .before .before .has-in-the-way .ensures, c .before .if2 .taken, c .refused2 .ensures)
+    rw (beyond n (a .area) (sym (c .before .before .before .before .ends-by .ensures) ∙ not-false _ (c .before .before .before .if1 .left)), ← c .before .before .overlaps-some .ensures, c .before .if2 .taken, c .refused2 .ensures)
 
 placed-requires : tie.Need-placed-requires
 placed-requires c κs =
@@ -40,7 +40,7 @@ returns-3 c = λ ws.
     let n = a .receive .start + a .receive .capacity in
     rw (
       beyond n (a .area) (sym (c .before .before .before .before .before .before .before .ends-by .ensures) ∙ not-false _ (c .before .before .before .before .before .before .if1 .left)),
-      ← c .before .before .before .before .before .has-in-the-way .ensures,
+      ← c .before .before .before .before .before .overlaps-some .ensures,
       c .before .before .before .before .if2 .left,
       ← c .before .before .before .find-vacancy .ensures,
       c .before .enum-told .given .1,
@@ -54,7 +54,7 @@ returns-4 c = λ ws.
     let n = a .receive .start + a .receive .capacity in
     rw (
       beyond n (a .area) (sym (c .before .before .before .before .before .before .before .before .ends-by .ensures) ∙ not-false _ (c .before .before .before .before .before .before .before .if1 .left)),
-      ← c .before .before .before .before .before .before .has-in-the-way .ensures,
+      ← c .before .before .before .before .before .before .overlaps-some .ensures,
       c .before .before .before .before .before .if2 .left,
       ← c .before .before .before .before .find-vacancy .ensures,
       c .before .before .i .given .1,

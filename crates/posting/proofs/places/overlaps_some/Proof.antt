@@ -1,17 +1,17 @@
--- `posting::places::has_in_the_way` meets its contract. The loop's invariant: no slot passed is in the way.
+-- `posting::places::overlaps_some` meets its contract. The loop's invariant: no slot passed is overlapped.
 use Prim.Native.Nat.{_-_, _≤_}
 use borrow.Author.Needs.{needs}
 use lib.ListN.{length, drop}
 use mathlib.Core.Path.{_≡_, sym, _∙_}
 use native.Mathlib.Omega.{arith}
 use Rattle.laws.proofs.Listing.{length-mapped}
-use Rattle.peer.specs.Calls.{someInTheWay}
-use Rattle.peer.proofs.SlotTurns.{way-end, way-turn}
-use Rattle.posting.proofs.places.has_in_the_way.Statement.{statement}
-use Rattle.posting.proofs.places.has_in_the_way.Tie as tie
+use Rattle.peer.specs.Calls.{overlapsSome}
+use Rattle.peer.proofs.SlotTurns.{overlaps-end, overlaps-turn}
+use Rattle.posting.proofs.places.overlaps_some.Statement.{statement}
+use Rattle.posting.proofs.places.overlaps_some.Tie as tie
 
 abbrev Inv-loop : tie.InvT-loop
-Inv-loop receive self i₀ i = (i ≤ 8) × (someInTheWay receive (self .slots) ≡ someInTheWay receive (drop i (self .slots)))
+Inv-loop receive self i₀ i = (i ≤ 8) × (overlapsSome receive (self .slots) ≡ overlapsSome receive (drop i (self .slots)))
 
 abbrev μ-loop : tie.MeasureT-loop
 μ-loop receive self i₀ i = 8 - i
@@ -25,15 +25,15 @@ mul-slot c = search needs
 element-copy-out-slot : tie.Need-element-copy-out-slot Inv-loop μ-loop
 element-copy-out-slot c = search needs
 
-is-in-the-way-requires : tie.Need-is-in-the-way-requires Inv-loop μ-loop
-is-in-the-way-requires c κs = search needs
+overlaps-use-requires : tie.Need-overlaps-use-requires Inv-loop μ-loop
+overlaps-use-requires c κs = search needs
 
 returns : tie.Need-returns Inv-loop μ-loop
 returns c =
     let l = c .before .before .before .before in
     let ss = l .before .args .t1 .slots in
     let len : length ss ≡ 8 = search length-mapped in
-    rw (l .loop .inv .1, way-turn ss (l .loop .i) (omega (arith, len)) (l .before .args .receive), ← c .before .is-in-the-way .ensures, c .if1 .taken)
+    rw (l .loop .inv .1, overlaps-turn ss (l .loop .i) (omega (arith, len)) (l .before .args .receive), ← c .before .overlaps-use .ensures, c .if1 .taken)
 
 add-i : tie.Need-add-i Inv-loop μ-loop
 add-i c = search needs
@@ -46,17 +46,17 @@ loop-again c =
     let l = c .before .before .before .before in
     let ss = l .before .args .t1 .slots in
     let len : length ss ≡ 8 = search length-mapped in
-    (omega arith, rw (l .loop .inv .1, way-turn ss (l .loop .i) (omega (arith, len)) (l .before .args .receive), ← c .before .is-in-the-way .ensures, c .if1 .left))
+    (omega arith, rw (l .loop .inv .1, overlaps-turn ss (l .loop .i) (omega (arith, len)) (l .before .args .receive), ← c .before .overlaps-use .ensures, c .if1 .left))
 
 returns-2 : tie.Need-returns-2 Inv-loop μ-loop
 returns-2 c =
     let l = c .before in
     let ss = l .before .args .t1 .slots in
     let len : length ss ≡ 8 = search length-mapped in
-    sym (l .loop .inv .1 ∙ way-end ss (l .loop .i) (omega (arith, len)) (l .before .args .receive))
+    sym (l .loop .inv .1 ∙ overlaps-end ss (l .loop .i) (omega (arith, len)) (l .before .args .receive))
 
-pub has-in-the-way-spec : {M : Type 1} → statement M
-has-in-the-way-spec =
+pub overlaps-some-spec : {M : Type 1} → statement M
+overlaps-some-spec =
     tie.close
     (tie.spec
     Inv-loop
@@ -64,7 +64,7 @@ has-in-the-way-spec =
     loop-holds
     mul-slot
     element-copy-out-slot
-    is-in-the-way-requires
+    overlaps-use-requires
     returns
     add-i
     loop-less
