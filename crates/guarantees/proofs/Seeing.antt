@@ -8,8 +8,8 @@ use Rattle.engine.specs.SetUp.{engineOf, peerAt, setUp}
 use Rattle.engine.specs.Steps.{World, wordsOf}
 use Rattle.engine.specs.declared.types.Ready.{Ready}
 use Rattle.guarantees.specs.Delivery.{SeenByHistory, demanded}
-use Rattle.guarantees.specs.Receiving.{LentRequest, freshWorld, noStarts, receiving, seenAt, turnOf}
-use Rattle.peer.specs.Calls.{Call, LentCall, callOf}
+use Rattle.guarantees.specs.Receiving.{asked, freshWorld, noStarts, receiving, seenAt, turnOf}
+use Rattle.peer.specs.Calls.{Call, callOf}
 use Rattle.peer.specs.Expected.{plainStep}
 use Rattle.peer.specs.Plain.{Plain, freshPlain}
 use Rattle.peer.specs.Starts.{noteStart}
@@ -36,22 +36,19 @@ pub followed : (p area limit : ℕ)
 followed p area limit =
     record {
       shows = λ w starts l c f.
-          subst₂ (λ (m n : ℕ). seenAt w starts (asked c) ≡ demanded m n l (callOf c)) (f .sameArea) (f .sameLimit) (own-seen p w starts l (f .tracks) (asked c) refl);
+          subst₂ (λ (m n : ℕ). seenAt w starts (asked p c) ≡ demanded m n l (callOf c)) (f .sameArea) (f .sameLimit) (own-seen p w starts l (f .tracks) (asked p c) refl);
       own = λ w starts l c f.
-          let s = own-stays p w starts l (f .tracks) (asked c) refl in
+          let s = own-stays p w starts l (f .tracks) (asked p c) refl in
           record {
-            tracks = subst₂ (λ (m n : ℕ). Tracks p (turnOf w (asked c) .world) (noteStart starts (callOf c) (turnOf w (asked c) .answer)) (plainStep m n l (callOf c) .after))
+            tracks = subst₂ (λ (m n : ℕ). Tracks p (turnOf w (asked p c) .world) (noteStart starts (callOf c) (turnOf w (asked p c) .answer)) (plainStep m n l (callOf c) .after))
                 (f .sameArea) (f .sameLimit) (s .tracks);
             sameArea = s .area ∙ f .sameArea;
             sameLimit = s .limit ∙ f .sameLimit;
           };
       others = λ w starts l q c d f.
-          let s = other-stays p w starts l (f .tracks) (record { peer = q; call = c }) d in
+          let s = other-stays p w starts l (f .tracks) (asked q c) d in
           record { tracks = s .tracks; sameArea = s .area ∙ f .sameArea; sameLimit = s .limit ∙ f .sameLimit };
     }
-  where
-    asked : LentCall → LentRequest
-    asked c = record { peer = p; call = c }
 
 -- after a set-up that was not refused, every peer is tracked from a fresh history on
 pub fresh-tracks : (n area limit p : ℕ) (arena map : List ℕ) → setUp n area limit (length arena) map .started .answer ≡ Ready.Ready → p < n

@@ -11,7 +11,7 @@ use Rattle.engine.specs.Steps.{Turn, World, callTurn, putBack, wordsOf}
 use Rattle.guarantees.specs.Delivery.{Writes, demanded}
 use Rattle.peer.specs.Calls.{LentCall, callOf, cancel, packet, peerStep, post, report}
 use Rattle.peer.specs.LentCalls.{bufferOf}
-use Rattle.guarantees.specs.Receiving.{LentRequest, Seen, bytesSeen, replySeen, seenAt, turnOf}
+use Rattle.guarantees.specs.Receiving.{LentRequest, Seen, asked, bytesSeen, replySeen, seenAt, turnOf}
 use Rattle.laws.specs.Parts.{part, storeAt}
 use Rattle.peer.specs.Answers.{onDone}
 use Rattle.peer.specs.Claims.{WriteClaim}
@@ -101,7 +101,7 @@ module _ (p : ℕ) (w : World) (starts : List ℕ) (l : Plain) (t : Tracks p w s
   f = peerStep (w .engine .area) (w .engine .limit) (peerAt (w .engine) p) (wordsOf w p) (callOf a)
 
   abbrev own : LentRequest
-  own = record { peer = p; call = a }
+  own = asked p a
 
   turn : turnOf w own ≡ putBack w p f
   unfolding turnOf
@@ -204,8 +204,8 @@ module _ (p : ℕ) (w : World) (starts : List ℕ) (l : Plain) (t : Tracks p w s
           (subst (λ (x : Answer). WriteClaim (w .engine .area) t′ x (f .at) (f .bytes)) (step .answer) (yields .writes))
 
 module _ (p : ℕ) (w : World) (starts : List ℕ) (l : Plain) (t : Tracks p w starts l) (q : LentRequest) where
-  is : q .peer ≡ p → record { peer = p; call = q .call } ≡ q
-  is e = ap (λ (n : ℕ). record { peer = n; call = q .call }) (sym e)
+  is : q .peer ≡ p → asked p (q .call) ≡ q
+  is e = ap (λ (n : ℕ). asked n (q .call)) (sym e)
 
   pub own-seen : q .peer ≡ p → seenAt w starts q ≡ demanded (w .engine .area) (w .engine .limit) l (callOf (q .call))
   own-seen e = subst (λ (r : LentRequest). seenAt w starts r ≡ demanded (w .engine .area) (w .engine .limit) l (callOf (q .call))) (is e) (seen p w starts l t (q .call))

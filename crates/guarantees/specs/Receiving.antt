@@ -67,7 +67,8 @@ seenAt w starts q =
 abbrev pub noStarts : List ℕ
 noStarts = replicate slotCount 0
 
-abbrev asked : ℕ → LentCall → LentRequest
+-- a call as a request of its peer
+abbrev pub asked : ℕ → LentCall → LentRequest
 asked p c = record { peer = p; call = c }
 
 abbrev pub receiving : Calling
