@@ -1,4 +1,4 @@
-// The checks on numbers and lengths. Those that look at peers stand in the calls, where the engine is.
+// The checks on numbers and lengths. Those that look at peers stand where the engine is: in `fits`, and in each of the calls.
 use crate::types::Engine;
 use crate::types::Gate;
 use peer::Peer;

@@ -1,5 +1,6 @@
-// The receive engine: set-up, and the calls that lend it arena, map and reply buffer. No call asks
-// anything of its caller, and each states its whole result by a definition of specs/.
+// The receive engine: its state, its set-up, and the checks in front of a call; the calls themselves
+// are in `calls`. No published function asks anything of its caller, and each states its whole result
+// by a definition of specs/.
 mod checks;
 mod run_checks;
 mod setting_up;

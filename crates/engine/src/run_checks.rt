@@ -1,5 +1,5 @@
-// The checks of a call by themselves, for whoever makes many calls on one engine: the state is
-// checked once, and each call's gate by numbers alone.
+// The checks of a call by themselves: whoever makes many calls on one engine checks the state once,
+// and hands the result to the gate of each.
 use crate::checks;
 use crate::types::Engine;
 use crate::types::Gate;

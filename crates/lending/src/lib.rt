@@ -1,4 +1,4 @@
-// What is lent on to one peer: its own part of the arena and of the map. These serve `engine`,
+// What is lent on to one peer: its own part of the arena and of the map. These serve `calls`,
 // `replay` and `packed`, whose checks show what they require.
 mod dispatch;
 mod reporting;
