@@ -1,10 +1,13 @@
-// The four calls: the checks, then one peer's step, and the peer is put back. The state check walks
-// the peers here, where the engine already is: an engine is never handed on.
+// The four calls: the checks, then one peer's step by the dispatcher of `lending`, and the peer is put
+// back. The state check walks the peers here, where the engine already is: an engine is never handed on.
 use engine::Engine;
 use engine::Gate;
 use engine::Outcome;
 use peer::Answer;
+use peer::Call;
+use peer::LocalCall;
 use peer::Receive;
+use protocol::Span;
 ghost use mathlib.Core.Path.{_≡_};
 ghost use lib.ListN.{length};
 ghost use Rattle.peer.specs.Calls.{post, packet, cancel, report};
@@ -29,7 +32,8 @@ pub fn post(mut engine: Engine, peer: usize, receive: Receive, arena: &[u8], map
         Gate::Shut(refusal) => Answer::Refused(refusal),
         Gate::Open => {
             let poster = engine.peers[peer];
-            let step = posting::post(poster, area, receive);
+            let call = LocalCall::Post(receive);
+            let step = lending::local(poster, peer, area, call, map);
             let posted = step.peer;
             engine.peers[peer] = posted;
             step.answer
@@ -63,7 +67,16 @@ pub fn packet(
         Gate::Shut(refusal) => Answer::Refused(refusal),
         Gate::Open => {
             let sender = engine.peers[peer];
-            let step = lending::packet_at(sender, peer, area, limit, bytes, arena, map, reply);
+            let sent = Span {
+                at: 0,
+                size: bytes.len(),
+            };
+            let room = Span {
+                at: 0,
+                size: reply.len(),
+            };
+            let call = Call::Packet(sent, room);
+            let step = lending::step(sender, peer, area, limit, call, bytes, arena, map, reply);
             let received = step.peer;
             engine.peers[peer] = received;
             step.answer
@@ -90,7 +103,8 @@ pub fn cancel(mut engine: Engine, peer: usize, slot: usize, arena: &[u8], map: &
         Gate::Shut(refusal) => Answer::Refused(refusal),
         Gate::Open => {
             let holder = engine.peers[peer];
-            let step = posting::cancel(holder, slot);
+            let call = LocalCall::Cancel(slot);
+            let step = lending::local(holder, peer, area, call, map);
             let cancelled = step.peer;
             engine.peers[peer] = cancelled;
             step.answer
@@ -99,8 +113,8 @@ pub fn cancel(mut engine: Engine, peer: usize, slot: usize, arena: &[u8], map: &
     Outcome { engine, answer }
 }
 
-// The missing-byte report of a slot of a peer. The engine is handed back as it came.
-pub fn report(engine: Engine, peer: usize, slot: usize, arena: &[u8], map: &[u64]) -> Outcome
+// The missing-byte report of a slot of a peer.
+pub fn report(mut engine: Engine, peer: usize, slot: usize, arena: &[u8], map: &[u64]) -> Outcome
     ensures { λ r. ⌜ silent r (now (arena .entry)) (now (map .entry)) ≡ callTurn (world engine (now (arena .entry)) (now (map .entry))) peer (report slot) ⌝ }
 {
     let n = engine.n;
@@ -117,7 +131,11 @@ pub fn report(engine: Engine, peer: usize, slot: usize, arena: &[u8], map: &[u64
         Gate::Shut(refusal) => Answer::Refused(refusal),
         Gate::Open => {
             let asked = engine.peers[peer];
-            lending::report_at(asked, peer, slot, area, map)
+            let call = LocalCall::Report(slot);
+            let step = lending::local(asked, peer, area, call, map);
+            let reported = step.peer;
+            engine.peers[peer] = reported;
+            step.answer
         }
     };
     Outcome { engine, answer }

@@ -1,11 +1,12 @@
 -- One peer's step in its own part, put back into the whole.
 use Prim.Native.Nat.{ℕ, zero, suc, _+_, _-_, _*_, _/_, _^_, _≤_, _<_}
 use lib.ListN.{length, getD, take, drop, set, replicate, length-replicate, getD-replicate, drop-of-length-le}
-use lib.Seq.{length-take-le, take-all, getD-append-add, getD-drop, paste, paste-zero, paste-suc, set-getD}
+use lib.Seq.{length-take-le, take-all, getD-append-add, getD-drop, paste, paste-zero, paste-suc}
 use mathlib.Core.List.{List, [], append-nil}
 use mathlib.Core.Path.{_≡_, sym, ap, ap₂, _∙_}
 use native.Mathlib.Omega.{arith}
 use Rattle.bitmap.specs.Map.{cleared}
+use Rattle.laws.specs.Parts.{part}
 use Rattle.engine.specs.Gates.{throughGate}
 use Rattle.engine.specs.Leaves.{CallLeaves, callLeaves}
 use Rattle.engine.specs.SetUp.{peerAt}
@@ -14,7 +15,7 @@ use Rattle.lending.specs.Lending.{Lent, leavesAt}
 use Rattle.engine.specs.Steps.{World, callTurn, peerTurn, putBack, refusedTurn, withPeer, wordsOf}
 use Rattle.engine.specs.declared.types.Engine.{Engine}
 use Rattle.protocol.specs.declared.types.Refusal.{Refusal}
-use Rattle.peer.specs.Calls.{Call, packet, packetEffect, peerStep}
+use Rattle.peer.specs.Calls.{Call, packet, peerStep}
 use Rattle.peer.specs.Effects.{quiet}
 use Rattle.peer.specs.State.{freshPeer}
 use Rattle.peer.specs.declared.types.Answer.{Answer}
@@ -43,9 +44,10 @@ putIn e p l =
       reply = l .reply;
     }
 
--- a peer that is put back as it was
-pub same-peer : (e : Engine) (p : ℕ) (d : Peer) → withPeer e p (getD (e .peers) p d) ≡ e
-same-peer e p d = ap (λ (ps : List Peer). record { peers = ps; n = e .n; area = e .area; limit = e .limit }) (set-getD (e .peers) p d)
+-- the part that is the whole
+part-whole : (l : List ℕ) → part l 0 (length l) ≡ l
+unfolding part
+part-whole l = take-all (length l) l (omega arith)
 
 -- ---- a call that its gate lets through, and one that it does not
 
@@ -75,14 +77,17 @@ module _ (w : World) {p : ℕ} {g : Gate} (x : Gated (w .engine) (length (w .are
         ∙ ap (λ (y : Peer). putBack w p (peerStep (w .engine .area) (w .engine .limit) y (wordsOf w p) c)) (sym (step-of d))
         ∙ ap (putBack w p) (sym e) ∙ quiet-turn w p q a (opened x z .owns d .mapped .inMap))
 
-    -- a packet's
+    -- a packet's, which lies alone in what is lent, as its reply buffer does
     pub packet-call : (d : Peer) (bs reply : List ℕ) (l : Lent)
-        → l ≡ leavesAt 0 (w .engine .area) p (w .arena) (w .map) reply (packetEffect (w .engine .limit) (getD (w .engine .peers) p d) (wordsOf w p) bs (length reply))
+        → l ≡ leavesAt 0 (w .engine .area) p (w .arena) (w .map) reply
+        (peerStep (w .engine .area) (w .engine .limit) (getD (w .engine .peers) p d) (wordsOf w p)
+        (packet (part bs 0 (length bs)) (length (part reply 0 (length reply)))))
         → putIn (w .engine) p l ≡ callLeaves reply (callTurn w p (packet bs (length reply)))
-    unfolding peerTurn putBack peerStep throughGate
+    unfolding peerTurn putBack throughGate
     packet-call d bs reply l e =
+        let leaves : Peer → Call → Lent = λ y c. leavesAt 0 (w .engine .area) p (w .arena) (w .map) reply (peerStep (w .engine .area) (w .engine .limit) y (wordsOf w p) c) in
         ap (putIn (w .engine) p)
-        (e ∙ ap (λ (y : Peer). leavesAt 0 (w .engine .area) p (w .arena) (w .map) reply (packetEffect (w .engine .limit) y (wordsOf w p) bs (length reply))) (step-of d))
+        (e ∙ ap₂ leaves (step-of d) (ap₂ packet (part-whole bs) (ap length (part-whole reply))))
         ∙ ap (callLeaves reply) (sym (through w p (packet bs (length reply)) Gate.Open x z))
 
 -- ---- the map, cleared whole

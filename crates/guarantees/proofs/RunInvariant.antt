@@ -34,12 +34,10 @@ use Rattle.guarantees.proofs.CheckedOnce.{CheckedOnce, once-good, once-
 turn-lent : (w : World) (bytes a b : List ℕ) (peer : ℕ) (c : Call) → length a ≡ length b → LiesWithin (length bytes) (length a) c
     → turnOf w (requestOf bytes a (record { peer = peer; call = c })) ≡ turnOf w (requestOf bytes b (record { peer = peer; call = c }))
 unfolding turnOf
-turn-lent w bytes a b peer (Call.Post receive) h i = refl
+turn-lent w bytes a b peer (Call.Local c) h i = refl
 turn-lent w bytes a b peer (Call.Packet sent reply) h i =
     let f : reply .at + reply .size ≤ length b = omega (arith, i .1) in
     rw (length-part a (reply .at) (reply .size) (i .1), length-part b (reply .at) (reply .size) f)
-turn-lent w bytes a b peer (Call.Cancel slot) h i = refl
-turn-lent w bytes a b peer (Call.Report slot) h i = refl
 
 module _ (bytes buffers : List ℕ) (form : Answer → List ℕ) where
   -- a run that has made some calls, with the calls qs to come, whose reply buffers are as long as in `buffers`

@@ -3,16 +3,24 @@ use Prim.Native.Nat.{ℕ, _+_, _-_, _*_, _/_, _≤_}
 use borrow.Rule.Slice.PartMut.{putMid}
 use lib.ListN.{length, take, drop, length-append, length-drop}
 use mathlib.Core.List.{List}
-use mathlib.Core.Path.{_≡_, sym, ap, _∙_}
+use mathlib.Core.Path.{_≡_, refl, sym, ap, _∙_}
 use native.Mathlib.Nat.{add-zero}
 use native.Mathlib.Omega.{arith}
 use Rattle.laws.specs.Parts.{part, storeAt}
 use Rattle.laws.proofs.Storing.{length-lent, lent-part, put-store, store-nothing, store-own}
-use Rattle.peer.specs.Calls.{packetEffect}
+use Rattle.peer.specs.Calls.{callOf, packetEffect}
 use Rattle.peer.specs.Effects.{Effect, quiet}
+use Rattle.peer.specs.LentCalls.{localCallOf}
+use Rattle.peer.specs.declared.types.LocalCall.{LocalCall}
 use Rattle.peer.specs.declared.types.Peer.{Peer}
 use Rattle.peer.specs.declared.types.Step.{Step}
 use Rattle.lending.specs.Lending.{Lent, leavesAt}
+
+-- a call without a reply buffer is the same with a buffer's bytes and with its length
+pub local-call : (c : LocalCall) → localCallOf c ≡ callOf (localCallOf c)
+local-call (LocalCall.Post r) = refl
+local-call (LocalCall.Cancel i) = refl
+local-call (LocalCall.Report i) = refl
 
 -- a store that keeps the list's length has room there
 store-fits : (l s : List ℕ) → length (storeAt l 0 s) ≡ length l → length s ≤ length l

@@ -3,6 +3,7 @@
 mod dispatch;
 mod reporting;
 
+pub use dispatch::local;
 pub use dispatch::step;
 use peer::Answer;
 use peer::Peer;
@@ -16,7 +17,7 @@ ghost use Prim.Native.Nat.{_*_, _/_};
 ghost use Rattle.lending.specs.Lending.{Owned, WordsOwned, leavesAt};
 
 // A packet of peer p. Only bytes p×A to p×A+A−1 of the arena are lent on, and their words of the map.
-pub fn packet_at(
+pub(crate) fn packet_at(
     there: Peer,
     p: usize,
     area: usize,
@@ -45,7 +46,7 @@ pub fn packet_at(
 }
 
 // The missing-byte report of a slot of peer p.
-pub fn report_at(there: Peer, p: usize, slot: usize, area: usize, map: &[u64]) -> Answer
+pub(crate) fn report_at(there: Peer, p: usize, slot: usize, area: usize, map: &[u64]) -> Answer
     requires { ⌜ WordsOwned area p (length (now map)) there ⌝ }
     ensures { λ r. ⌜ quiet there (part (now (map .entry)) (p * (area / 64)) (area / 64)) r ≡ reportEffect there (part (now (map .entry)) (p * (area / 64)) (area / 64)) slot ⌝ }
 {

@@ -44,6 +44,7 @@ use Rattle.guarantees.specs.Receiving.{receiving, turnOf}
 use Rattle.engine.proofs.SentencesHold.{fresh-peer}
 use Rattle.state_words.specs.RoundTrip.{Held, MessageHeld, PeerHeld}
 use Rattle.peer.specs.declared.types.Call as code
+use Rattle.peer.specs.declared.types.LocalCall.{LocalCall}
 use Rattle.peer.specs.declared.types.Request.{Request}
 
 -- what is at a place of a list after a store
@@ -203,7 +204,7 @@ batch-held bytes replies b w g h (q ∷ qs) =
     call = callOf (lentCallOf bytes replies (q .call))
 
     within : (c : code.Call) → AreBytes (callOf (lentCallOf bytes replies c))
-    within (code.Call.Post receive) = tt
+    within (code.Call.Local (LocalCall.Post receive)) = tt
+    within (code.Call.Local (LocalCall.Cancel slot)) = tt
+    within (code.Call.Local (LocalCall.Report slot)) = tt
     within (code.Call.Packet sent reply) = part-all (λ x. x < 256) 0 bytes (sent .at) (sent .size) b
-    within (code.Call.Cancel slot) = tt
-    within (code.Call.Report slot) = tt

@@ -5,6 +5,7 @@ use lib.ListN.{getD}
 use lib.Dec.{leb, eqb}
 use Rattle.laws.specs.Choose.{pick}
 use Rattle.peer.specs.declared.types.Call.{Call}
+use Rattle.peer.specs.declared.types.LocalCall.{LocalCall}
 use Rattle.packed.specs.declared.types.FoundRequest.{FoundRequest}
 
 -- a call of the peer whose number is the second word
@@ -15,13 +16,13 @@ requestWith w at c = FoundRequest.Request (record { peer = getD w (at + 1) 0; ca
 unfoldable pub packedPost : List ℕ → ℕ → FoundRequest
 packedPost w at =
     pick (leb (getD w (at + 2) 0) 1)
-    (requestWith w at (Call.Post (record {
+    (requestWith w at (Call.Local (LocalCall.Post (record {
       tagged = eqb (getD w (at + 2) 0) 1;
       tag = getD w (at + 3) 0;
       ignore = getD w (at + 4) 0;
       start = getD w (at + 5) 0;
       capacity = getD w (at + 6) 0;
-    })))
+    }))))
     FoundRequest.Bad
 
 -- 2, peer, place and length of the packet, place and length of the reply buffer
@@ -39,5 +40,5 @@ unfoldable pub requestAt : List ℕ → ℕ → ℕ → ℕ → FoundRequest
 requestAt w bytes replies at =
     pick (eqb (getD w at 0) 1) (packedPost w at)
     (pick (eqb (getD w at 0) 2) (packedPacket w bytes replies at)
-    (pick (eqb (getD w at 0) 3) (requestWith w at (Call.Cancel (getD w (at + 2) 0)))
-    (pick (eqb (getD w at 0) 4) (requestWith w at (Call.Report (getD w (at + 2) 0))) FoundRequest.Bad)))
+    (pick (eqb (getD w at 0) 3) (requestWith w at (Call.Local (LocalCall.Cancel (getD w (at + 2) 0))))
+    (pick (eqb (getD w at 0) 4) (requestWith w at (Call.Local (LocalCall.Report (getD w (at + 2) 0)))) FoundRequest.Bad)))

@@ -1,6 +1,7 @@
 // A call, read from its eight words.
 use crate::types::FoundRequest;
 use peer::Call;
+use peer::LocalCall;
 use peer::Receive;
 use peer::Request;
 use protocol::Span;
@@ -29,7 +30,7 @@ fn post_at(calls: &[u64], at: usize) -> FoundRequest
         start,
         capacity,
     };
-    let call = Call::Post(receive);
+    let call = Call::Local(LocalCall::Post(receive));
     FoundRequest::Request(Request { peer, call })
 }
 
@@ -72,11 +73,11 @@ pub(crate) fn request_at(calls: &[u64], at: usize, bytes: usize, replies: usize)
     let peer = calls[at + 1] as usize;
     let slot = calls[at + 2] as usize;
     if number == 3 {
-        let call = Call::Cancel(slot);
+        let call = Call::Local(LocalCall::Cancel(slot));
         return FoundRequest::Request(Request { peer, call });
     }
     if number == 4 {
-        let call = Call::Report(slot);
+        let call = Call::Local(LocalCall::Report(slot));
         return FoundRequest::Request(Request { peer, call });
     }
     FoundRequest::Bad

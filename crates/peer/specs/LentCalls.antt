@@ -3,27 +3,30 @@ use Prim.Native.Nat.{ℕ, _+_, _≤_}
 use mathlib.Core.List.{List, []}
 use Rattle.laws.specs.Parts.{part}
 use Rattle.protocol.specs.declared.types.Span.{Span}
-use Rattle.peer.specs.Calls.{LentCall, onPacket, post, packet, cancel, report}
+use Rattle.peer.specs.Calls.{CallWith, LentCall, onPacket, post, packet, cancel, report}
 use Rattle.peer.specs.declared.types.Call.{Call}
+use Rattle.peer.specs.declared.types.LocalCall.{LocalCall}
 
 abbrev pub bufferOf : LentCall → List ℕ
 bufferOf c = onPacket [] (λ bs buffer. buffer) c
 
 -- ---- a call of the code
 
+-- it writes nothing of what is lent, and there is no packet and no reply buffer
+abbrev pub localCallOf : {Reply : Type 0} → LocalCall → CallWith Reply
+localCallOf (LocalCall.Post receive) = post receive
+localCallOf (LocalCall.Cancel slot) = cancel slot
+localCallOf (LocalCall.Report slot) = report slot
+
 -- its packet lies in `bytes`, and its reply buffer in `replies`
 abbrev pub lentCallOf : List ℕ → List ℕ → Call → LentCall
-lentCallOf bytes replies (Call.Post receive) = post receive
+lentCallOf bytes replies (Call.Local c) = localCallOf c
 lentCallOf bytes replies (Call.Packet sent reply) = packet (part bytes (sent .at) (sent .size)) (part replies (reply .at) (reply .size))
-lentCallOf bytes replies (Call.Cancel slot) = cancel slot
-lentCallOf bytes replies (Call.Report slot) = report slot
 
 -- what is made of a packet's place and its reply buffer's: `other` at each call else
 abbrev pub onPacketAt {ℓ} : {A : Type ℓ} → A → (Span → Span → A) → Call → A
-onPacketAt other arriving (Call.Post receive) = other
+onPacketAt other arriving (Call.Local c) = other
 onPacketAt other arriving (Call.Packet sent reply) = arriving sent reply
-onPacketAt other arriving (Call.Cancel slot) = other
-onPacketAt other arriving (Call.Report slot) = other
 
 -- where its reply buffer begins
 abbrev pub replyPlace : Call → ℕ

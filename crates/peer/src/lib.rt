@@ -9,6 +9,7 @@ pub use types::Fit;
 pub use types::FoundOpen;
 pub use types::Inbound;
 pub use types::Incoming;
+pub use types::LocalCall;
 pub use types::Message;
 pub use types::Peer;
 pub use types::Phase;

@@ -120,13 +120,18 @@ pub enum Answer {
     },
 }
 
-// A call of one peer. A packet and its reply buffer are told by where they lie in what is lent, since
-// an enum holds no slice.
-pub enum Call {
+// A call of one peer that writes nothing of what is lent.
+pub enum LocalCall {
     Post(Receive),
-    Packet(Span, Span),
     Cancel(usize),
     Report(usize),
+}
+
+// Any call of one peer. A packet and its reply buffer are told by where they lie in what is lent, since
+// an enum holds no slice.
+pub enum Call {
+    Local(LocalCall),
+    Packet(Span, Span),
 }
 
 // A call, with its peer's number.

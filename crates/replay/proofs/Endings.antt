@@ -9,6 +9,7 @@ use mathlib.Core.Path.{_≡_, refl, ap, _∙_}
 use native.Mathlib.Omega.{arith}
 use Rattle.laws.proofs.Choosing.{branch, pick-either, pick-true}
 use Rattle.peer.specs.declared.types.Call.{Call}
+use Rattle.peer.specs.declared.types.LocalCall.{LocalCall}
 use Rattle.peer.specs.declared.types.Request.{Request}
 use Rattle.engine.specs.declared.types.Ready.{Ready}
 use Rattle.trace.specs.Entries.{entryAt, setUpAt}
@@ -26,10 +27,10 @@ use Rattle.replay.specs.declared.types.Ending.{Ending}
 -- ---- entries
 
 entry-inside : (s : List ℕ) (at peer : ℕ) (c : Call) (next : ℕ) → CallStands s at peer c next → next ≤ length s
-entry-inside s at peer (Call.Post r) next h = h .5 .inside
+entry-inside s at peer (Call.Local (LocalCall.Post r)) next h = h .5 .inside
 entry-inside s at peer (Call.Packet sent reply) next h = h .4 .inside
-entry-inside s at peer (Call.Cancel slot) next h = h .2 .inside
-entry-inside s at peer (Call.Report slot) next h = absurd h
+entry-inside s at peer (Call.Local (LocalCall.Cancel slot)) next h = h .2 .inside
+entry-inside s at peer (Call.Local (LocalCall.Report slot)) next h = absurd h
 
 -- one entry more was taken, of one more
 ends-suc : (s : List ℕ) (k n place : ℕ) (e : Ending) → EndsAs s k n place e → EndsAs s (suc k) (suc n) place e

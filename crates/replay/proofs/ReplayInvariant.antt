@@ -45,10 +45,8 @@ replay-start s reply w text from at budget h =
 
 -- a packet of the trace and the whole reply buffer lie in what is lent
 inside : (n room : ℕ) (c : Call) → PacketInside n c → LiesWithin n room (withBuffer room c)
-inside n room (Call.Post receive) h = tt
+inside n room (Call.Local c) h = tt
 inside n room (Call.Packet sent reply) h = (h, omega arith)
-inside n room (Call.Cancel slot) h = tt
-inside n room (Call.Report slot) h = tt
 
 module _ {s buffer : List ℕ} {budget : ℕ} {all : RunLeaves} {last : Ending} {w : World} {reply text : List ℕ} {place written taken : ℕ}
     (g : ReplayInvariant s buffer budget all last w reply text place written taken) where

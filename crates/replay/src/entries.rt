@@ -81,13 +81,11 @@ fn with_buffer(recorded: Call, room: usize) -> Call
     ensures { λ r. ⌜ r ≡ withBuffer room recorded ⌝ }
 {
     match recorded {
-        Call::Post(receive) => Call::Post(receive),
+        Call::Local(local) => Call::Local(local),
         Call::Packet(sent, _) => {
             let whole = Span { at: 0, size: room };
             Call::Packet(sent, whole)
         }
-        Call::Cancel(slot) => Call::Cancel(slot),
-        Call::Report(slot) => Call::Report(slot),
     }
 }
 

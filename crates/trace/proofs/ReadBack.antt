@@ -22,6 +22,7 @@ use Rattle.trace.specs.declared.types.Number.the-variants.{Is}
 use Rattle.trace.specs.declared.types.Pair.{Pair}
 use Rattle.trace.specs.declared.types.SetUp.{SetUp}
 use Rattle.peer.specs.declared.types.Call.{Call}
+use Rattle.peer.specs.declared.types.LocalCall.{LocalCall}
 use Rattle.trace.proofs.GroupsRead.{number-read}
 use Rattle.trace.proofs.StandsLaws.{stands-drop}
 
@@ -71,14 +72,14 @@ set-up-read-back s at n area limit next (hn, ha, hl, h) =
 
 call-read-back : (s : List ℕ) (at peer : ℕ) (c : Call) (next : ℕ) → CallStands s at peer c next → entryAt s at ≡ entryOf peer c next
 unfolding entryAt postAt receiveAt packetAt cancelAt pick
-call-read-back s at peer (Call.Post r) next (hp, ht, hi, hs, hc, h) =
+call-read-back s at peer (Call.Local (LocalCall.Post r)) next (hp, ht, hi, hs, hc, h) =
     let k = kind (r .tagged) in
     let (w, b) = start s at next (1 ∷ peer ∷ kindOf r ∷ r .tag ∷ r .ignore ∷ r .start ∷ r .capacity ∷ []) h in
     let (x, w) = number (omega arith) w in
     let (y, w) = pair hp (omega arith) w in
     let (z, w) = pair ht hi w in
     let (v, w) = pair hs hc w in
-    rw (x, y, le-leb (kindOf r) 1 (k .0), z, v, k .1) (ap (entryOf peer (Call.Post r)) b)
+    rw (x, y, le-leb (kindOf r) 1 (k .0), z, v, k .1) (ap (entryOf peer (Call.Local (LocalCall.Post r))) b)
 call-read-back s at peer (Call.Packet sent reply) next (hp, hc, e, none, h) =
     let place = sent .at in
     let count = sent .size in
@@ -91,11 +92,11 @@ call-read-back s at peer (Call.Packet sent reply) next (hp, hc, e, none, h) =
     let (y, w) = pair hp hc w in
     let b : behind at ns ≡ place = omega (arith, behind-is ns at, length-append (numbersBytes ns) bytes, h .place) in
     rw (x, y, b, le-leb (place + count) (length s) (omega (arith, h .inside)), e, none)
-call-read-back s at peer (Call.Cancel slot) next (hp, hs, h) =
+call-read-back s at peer (Call.Local (LocalCall.Cancel slot)) next (hp, hs, h) =
     let (w, b) = start s at next (3 ∷ peer ∷ slot ∷ []) h in
     let (x, w) = number (omega arith) w in
     let (y, w) = pair hp hs w in
-    rw (x, y) (ap (entryOf peer (Call.Cancel slot)) b)
+    rw (x, y) (ap (entryOf peer (Call.Local (LocalCall.Cancel slot))) b)
 
 pub entry-read-back : EntryReadBack
 entry-read-back s at q next h = call-read-back s at (q .peer) (q .call) next h

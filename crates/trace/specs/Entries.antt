@@ -7,6 +7,7 @@ use lib.Dec.{leb, eqb}
 use Rattle.laws.specs.Choose.{pick}
 use Rattle.protocol.specs.declared.types.Span.{Span}
 use Rattle.peer.specs.declared.types.Call.{Call}
+use Rattle.peer.specs.declared.types.LocalCall.{LocalCall}
 use Rattle.trace.specs.declared.types.Number.{Number}
 use Rattle.trace.specs.declared.types.Number.the-variants.{Is, Bad}
 use Rattle.trace.specs.declared.types.Pair.{Pair}
@@ -45,7 +46,7 @@ entryOf peer call next = FoundEntry.Entry (record { peer = peer; call = call }) 
 
 abbrev pub postOf : ℕ → Asked → FoundEntry
 postOf peer Asked.Bad = FoundEntry.Bad
-postOf peer (Asked.For receive next) = entryOf peer (Call.Post receive) next
+postOf peer (Asked.For receive next) = entryOf peer (Call.Local (LocalCall.Post receive)) next
 
 -- "1 post (peer, kind 0 plain or 1 tagged, ..)"
 unfoldable pub postAt : List ℕ → ℕ → FoundEntry
@@ -63,7 +64,7 @@ packetAt s at =
 
 -- "3 cancel (peer, slot)"
 unfoldable pub cancelAt : List ℕ → ℕ → FoundEntry
-cancelAt s at = onPair (pairAt s at) FoundEntry.Bad (λ peer slot next. entryOf peer (Call.Cancel slot) next)
+cancelAt s at = onPair (pairAt s at) FoundEntry.Bad (λ peer slot next. entryOf peer (Call.Local (LocalCall.Cancel slot)) next)
 
 -- the entry at a place and the place behind it, or bad: "a first number not 1 to 3, a kind not 0 or 1, a malformed number, bytes that
 -- end early"

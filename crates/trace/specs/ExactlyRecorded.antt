@@ -6,6 +6,7 @@ use mathlib.Core.Path.{_≡_}
 use lib.ListN.{length, getD}
 use Rattle.laws.specs.Parts.{part}
 use Rattle.peer.specs.declared.types.Call.{Call}
+use Rattle.peer.specs.declared.types.LocalCall.{LocalCall}
 use Rattle.peer.specs.declared.types.Request.{Request}
 use Rattle.trace.specs.declared.types.SetUp.{SetUp}
 use Rattle.trace.specs.declared.types.FoundEntry.{FoundEntry}
@@ -26,13 +27,13 @@ SetUpStands s at n area limit next = IsWord n × IsWord area × IsWord limit × 
 
 -- a packet's bytes end where it does, and no reply buffer is recorded with it; a report is not recorded
 abbrev pub CallStands : List ℕ → ℕ → ℕ → Call → ℕ → Type 0
-CallStands s at peer (Call.Post r) next =
+CallStands s at peer (Call.Local (LocalCall.Post r)) next =
     IsWord peer × IsWord (r .tag) × IsWord (r .ignore) × IsWord (r .start) × IsWord (r .capacity) × Stands s at (postEntry peer r) next
 CallStands s at peer (Call.Packet sent reply) next =
     IsWord peer × IsWord (sent .size) × (sent .at + sent .size ≡ next) × (reply ≡ noBuffer)
     × Stands s at (packetEntry peer (part s (sent .at) (sent .size))) next
-CallStands s at peer (Call.Cancel slot) next = IsWord peer × IsWord slot × Stands s at (cancelEntry peer slot) next
-CallStands s at peer (Call.Report slot) next = ⊥
+CallStands s at peer (Call.Local (LocalCall.Cancel slot)) next = IsWord peer × IsWord slot × Stands s at (cancelEntry peer slot) next
+CallStands s at peer (Call.Local (LocalCall.Report slot)) next = ⊥
 
 abbrev pub EntryStands : List ℕ → ℕ → Request → ℕ → Type 0
 EntryStands s at q next = CallStands s at (q .peer) (q .call) next

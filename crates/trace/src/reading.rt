@@ -6,6 +6,7 @@ use crate::types::Number;
 use crate::types::Pair;
 use crate::types::SetUp;
 use peer::Call;
+use peer::LocalCall;
 use peer::Receive;
 use peer::Request;
 use protocol::Span;
@@ -71,7 +72,7 @@ fn post_at(s: &[u8], at: usize) -> FoundEntry
             match receive_at(s, next, kind) {
                 Asked::Bad => FoundEntry::Bad,
                 Asked::For(receive, end) => {
-                    let call = Call::Post(receive);
+                    let call = Call::Local(LocalCall::Post(receive));
                     let request = Request {
                         peer: peer as usize,
                         call,
@@ -115,7 +116,7 @@ fn cancel_at(s: &[u8], at: usize) -> FoundEntry
     match pair_at(s, at) {
         Pair::Bad => FoundEntry::Bad,
         Pair::Are(peer, slot, next) => {
-            let call = Call::Cancel(slot as usize);
+            let call = Call::Local(LocalCall::Cancel(slot as usize));
             let request = Request {
                 peer: peer as usize,
                 call,

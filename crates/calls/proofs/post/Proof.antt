@@ -5,7 +5,7 @@ use lib.ListN.{length}
 use mathlib.Core.Logic.{⊎-map}
 use native.Mathlib.Omega.{arith}
 use Rattle.laws.proofs.Listing.{length-mapped}
-use Rattle.peer.specs.Calls.{peerStep, post}
+use Rattle.peer.specs.Calls.{post}
 use Rattle.engine.proofs.CheckLaws.{Gated, Walked, gated, opened, walk-below, walk-start, walk-turn}
 use Rattle.engine.proofs.PutBack.{quiet-call, shut-turn}
 use Rattle.calls.proofs.post.Statement.{statement}
@@ -22,8 +22,7 @@ passed : (c : tie.After-admit Inv-loop μ-loop) → let a = c .before .before .b
 passed c = gated (c .before .before .loop .inv) (⊎-map (λ w. (w .0 .taken, w .1 .left)) (λ w. w .left) (c .before .loop-test .came)) (c .admit .ensures)
 
 makes : tie.Need-returns-2 Inv-loop μ-loop
-unfolding peerStep
-makes c = quiet-call _ (passed (c .before .before .before .before .before)) (c .before .before .before .enum-told .given .1) (post _) _ (c .before .post .ensures _)
+makes c = quiet-call _ (passed (c .before .before .before .before .before)) (c .before .before .before .enum-told .given .1) (post _) _ (c .before .local .ensures _)
 
 pub post-spec : {M : Type 1} → statement M
 post-spec =
@@ -42,7 +41,7 @@ post-spec =
     (λ c. search needs)
     (λ c. omega (arith, opened (passed (c .before .before)) (c .enum-told .given .1) .below))
     (λ c. omega (arith, opened (passed (c .before .before)) (c .enum-told .given .1) .below))
-    (λ c κs. search needs)
+    (λ c κs. opened (passed (c .before .before .before)) (c .before .enum-told .given .1) .owns _ .mapped)
     (λ c. omega (arith, opened (passed (c .before .before .before .before .before)) (c .before .before .before .enum-told .given .1) .below))
     (λ c. omega (arith, opened (passed (c .before .before .before .before .before)) (c .before .before .before .enum-told .given .1) .below))
     (λ c. shut-turn _ (passed (c .before .before .before)) (post _) (c .before .refusal .given .1))

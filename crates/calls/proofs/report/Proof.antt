@@ -3,14 +3,11 @@ use Prim.Native.Nat.{_-_}
 use borrow.Author.Needs.{needs}
 use lib.ListN.{length}
 use mathlib.Core.Logic.{⊎-map}
-use mathlib.Core.Path.{ap, sym, _∙_}
 use native.Mathlib.Omega.{arith}
 use Rattle.laws.proofs.Listing.{length-mapped}
-use Rattle.engine.specs.Leaves.{silent}
-use Rattle.engine.specs.declared.types.Engine.{Engine}
-use Rattle.peer.specs.Calls.{peerStep, report}
+use Rattle.peer.specs.Calls.{report}
 use Rattle.engine.proofs.CheckLaws.{Gated, Walked, gated, opened, walk-below, walk-start, walk-turn}
-use Rattle.engine.proofs.PutBack.{quiet-call, same-peer, shut-turn}
+use Rattle.engine.proofs.PutBack.{quiet-call, shut-turn}
 use Rattle.calls.proofs.report.Statement.{statement}
 use Rattle.calls.proofs.report.Tie as tie
 
@@ -25,11 +22,7 @@ passed : (c : tie.After-admit Inv-loop μ-loop) → let a = c .before .before .b
 passed c = gated (c .before .before .loop .inv) (⊎-map (λ w. (w .0 .taken, w .1 .left)) (λ w. w .left) (c .before .loop-test .came)) (c .admit .ensures)
 
 makes : tie.Need-returns-2 Inv-loop μ-loop
-unfolding peerStep
-makes c =
-    let a = c .before .before .before .before .before .before .before .before .before .before .args in
-    ap (λ (e : Engine). silent (record { engine = e; answer = c .report-at .result }) (a .arena .now) (a .map .now)) (sym (same-peer (a .t1) (a .peer) _))
-    ∙ quiet-call _ (passed (c .before .before .before .before)) (c .before .before .enum-told .given .1) (report _) _ (c .report-at .ensures)
+makes c = quiet-call _ (passed (c .before .before .before .before .before)) (c .before .before .before .enum-told .given .1) (report _) _ (c .before .local .ensures _)
 
 pub report-spec : {M : Type 1} → statement M
 report-spec =
@@ -49,5 +42,7 @@ report-spec =
     (λ c. omega (arith, opened (passed (c .before .before)) (c .enum-told .given .1) .below))
     (λ c. omega (arith, opened (passed (c .before .before)) (c .enum-told .given .1) .below))
     (λ c κs. opened (passed (c .before .before .before)) (c .before .enum-told .given .1) .owns _ .mapped)
+    (λ c. omega (arith, opened (passed (c .before .before .before .before .before)) (c .before .before .before .enum-told .given .1) .below))
+    (λ c. omega (arith, opened (passed (c .before .before .before .before .before)) (c .before .before .before .enum-told .given .1) .below))
     (λ c. shut-turn _ (passed (c .before .before .before)) (report _) (c .before .refusal .given .1))
     makes)

@@ -2,10 +2,11 @@
 use borrow.Author.Needs.{needs}
 use Rattle.lending.proofs.dispatch.step.Statement.{statement}
 use Rattle.lending.proofs.dispatch.step.Tie as tie
+use mathlib.Core.Path.{ap, _∙_}
 use native.Mathlib.Omega.{arith}
 use Rattle.peer.specs.Calls.{peerStep}
 use Rattle.laws.proofs.Storing.{lent-part}
-use Rattle.lending.proofs.StepLaws.{packet-leaves, quiet-leaves}
+use Rattle.lending.proofs.StepLaws.{local-call, packet-leaves, quiet-leaves}
 
 add-to : tie.Need-add-to
 add-to c = let i = rw (c .before .before .call2 .given .1) at (c .before .before .before .before .before .before .before .before .pre .1) in omega arith
@@ -20,8 +21,12 @@ part-packet-at-end-2 : tie.Need-part-packet-at-end-2
 part-packet-at-end-2 c = let i = rw (c .before .before .before .before .before .before .call2 .given .1) at (c .before .before .before .before .before .before .before .before .before .before .before .before .pre .1) in omega arith
 
 returns : tie.Need-returns
-unfolding peerStep
-returns c = rw (c .before .before .call .given .1) (quiet-leaves _ _ _ _ _ _ _ _ (c .before .before .before .before .before .before .before .before .pre .0 .mapped .inMap) (c .post .ensures _))
+returns c =
+    let s = c .before .before .before .before .before .before .before .before .before in
+    let k = c .before .before .before .call .given in
+    let a = s .args in
+    let q = ap (peerStep (a .area) (a .limit) (a .there) _) (local-call (k .0 .0)) in
+    rw (k .1) (quiet-leaves _ _ _ _ _ _ _ _ (s .pre .0 .mapped .inMap) (c .local .ensures (a .limit) ∙ q))
 
 returns-2 : tie.Need-returns-2
 unfolding peerStep
@@ -33,14 +38,6 @@ returns-2 c =
     let i = rw (k .call2 .given .1) at (s .pre .1) in
     rw (k .call2 .given .1)
     (packet-leaves _ _ _ _ _ _ _ _ _ _ _ _ (i .1) (q .kept .1 .1 .1 .1 .1 .1 .1 .0) (rw (lent-part (s .args .bytes .now) (sent .at) (sent .size)) at (q .ensures)))
-
-returns-3 : tie.Need-returns-3
-unfolding peerStep
-returns-3 c = rw (c .before .before .call3 .given .1) (quiet-leaves _ _ _ _ _ _ _ _ (c .before .before .before .before .before .before .before .before .pre .0 .mapped .inMap) (c .cancel .ensures _))
-
-returns-4 : tie.Need-returns-4
-unfolding peerStep
-returns-4 c = rw (c .before .before .before .call4 .given .1) (quiet-leaves _ _ _ _ _ _ _ _ (c .before .before .before .before .before .before .before .before .before .pre .0 .mapped .inMap) (c .report-at .ensures))
 
 pub step-spec : {M : Type 1} → statement M
 step-spec =
@@ -59,14 +56,8 @@ step-spec =
     part-packet-at-end-2
     (λ c κs. search needs)
     (λ c. search needs)
-    (λ c κs. search needs)
-    (λ c. search needs)
-    (λ c κs. search needs)
     returns
     (λ c. search needs)
     (λ c. search needs)
     (λ c. search needs)
-    returns-2
-    returns-3
-    (λ c. search needs)
-    returns-4)
+    returns-2)

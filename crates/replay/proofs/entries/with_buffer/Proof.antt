@@ -9,21 +9,11 @@ returns c = rw (c .before .recorded .given .1)
 returns-2 : tie.Need-returns-2
 returns-2 c = rw (c .before .recorded2 .given .1)
 
-returns-3 : tie.Need-returns-3
-returns-3 c = rw (c .before .recorded3 .given .1)
-
-returns-4 : tie.Need-returns-4
-returns-4 c = rw (c .before .recorded4 .given .1)
-
 pub with-buffer-spec : {M : Type 1} → statement M
 with-buffer-spec =
     tie.close
     (tie.spec
     (λ c. search needs)
     (λ c. search needs)
-    (λ c. search needs)
-    (λ c. search needs)
     returns
-    returns-2
-    returns-3
-    returns-4)
+    returns-2)
