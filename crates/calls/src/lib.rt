@@ -29,7 +29,7 @@ pub fn post(mut engine: Engine, peer: usize, receive: Receive, arena: &[u8], map
         i += 1;
     }
     let answer = match engine::admit(fits, n, area, limit, arena.len(), map.len(), peer) {
-        Gate::Shut(refusal) => Answer::Refused(refusal),
+        Gate::Refused(refusal) => Answer::Refused(refusal),
         Gate::Open => {
             let poster = engine.peers[peer];
             let call = LocalCall::Post(receive);
@@ -64,7 +64,7 @@ pub fn packet(
         i += 1;
     }
     let answer = match engine::admit(fits, n, area, limit, arena.len(), map.len(), peer) {
-        Gate::Shut(refusal) => Answer::Refused(refusal),
+        Gate::Refused(refusal) => Answer::Refused(refusal),
         Gate::Open => {
             let sender = engine.peers[peer];
             let sent = Span {
@@ -100,7 +100,7 @@ pub fn cancel(mut engine: Engine, peer: usize, slot: usize, arena: &[u8], map: &
         i += 1;
     }
     let answer = match engine::admit(fits, n, area, limit, arena.len(), map.len(), peer) {
-        Gate::Shut(refusal) => Answer::Refused(refusal),
+        Gate::Refused(refusal) => Answer::Refused(refusal),
         Gate::Open => {
             let holder = engine.peers[peer];
             let call = LocalCall::Cancel(slot);
@@ -128,7 +128,7 @@ pub fn report(mut engine: Engine, peer: usize, slot: usize, arena: &[u8], map: &
         i += 1;
     }
     let answer = match engine::admit(fits, n, area, limit, arena.len(), map.len(), peer) {
-        Gate::Shut(refusal) => Answer::Refused(refusal),
+        Gate::Refused(refusal) => Answer::Refused(refusal),
         Gate::Open => {
             let asked = engine.peers[peer];
             let call = LocalCall::Report(slot);

@@ -121,7 +121,7 @@ gate-turn w p c =
   where
     go : (a b d : Bool)
         → pick a (pick b (pick d (peerTurn w p c) (refusedTurn w badPeer)) (refusedTurn w badLent)) (refusedTurn w badState)
-        ≡ throughGate w p c (pick a (pick b (pick d Gate.Open (Gate.Shut badPeer)) (Gate.Shut badLent)) (Gate.Shut badState))
+        ≡ throughGate w p c (pick a (pick b (pick d Gate.Open (Gate.Refused badPeer)) (Gate.Refused badLent)) (Gate.Refused badState))
     go false b d = unfold pick throughGate in refl
     go true false d = unfold pick throughGate in refl
     go true true false = unfold pick throughGate in refl
@@ -140,7 +140,7 @@ gate-open fits n area arena map p e =
     let (peer, e) = pick-first _ _ _ _ shut e in
     record { state = state; lent = lent; peer = ltb-true p n peer }
   where
-    shut : {k : Refusal} → Gate.Shut k ≡ Gate.Open → ⊥
+    shut : {k : Refusal} → Gate.Refused k ≡ Gate.Open → ⊥
     shut x = let z : _≡_ {A = ℕ} 0 1 = cc in omega arith
 
 -- behind an open gate there is a peer of this number, and it owns its part of arena and map

@@ -52,12 +52,12 @@ part-whole l = take-all (length l) l (omega arith)
 -- ---- a call that its gate lets through, and one that it does not
 
 module _ (w : World) {p : ℕ} {g : Gate} (x : Gated (w .engine) (length (w .arena)) (length (w .map)) p g) where
-  pub shut-turn : {k : Refusal} (c : Call) → g ≡ Gate.Shut k → refusedTurn w k ≡ callTurn w p c
+  pub shut-turn : {k : Refusal} (c : Call) → g ≡ Gate.Refused k → refusedTurn w k ≡ callTurn w p c
   unfolding throughGate
-  shut-turn {k} c z = sym (through w p c (Gate.Shut k) x z)
+  shut-turn {k} c z = sym (through w p c (Gate.Refused k) x z)
 
   -- a refused call leaves what it is lent
-  pub shut-leaves : {k : Refusal} (c : Call) (reply : List ℕ) → g ≡ Gate.Shut k
+  pub shut-leaves : {k : Refusal} (c : Call) (reply : List ℕ) → g ≡ Gate.Refused k
       → _≡_ {A = CallLeaves} (record { outcome = record { engine = w .engine; answer = Answer.Refused k }; arena = w .arena; map = w .map; reply = reply })
       (callLeaves reply (callTurn w p c))
   shut-leaves c reply z = rw (← shut-turn c z) (rw (store-nothing reply 0))

@@ -19,9 +19,9 @@ pub record SmallArena (n area : ℕ) : Type 0 where
 unfoldable pub gateOf : Bool → ℕ → ℕ → ℕ → ℕ → ℕ → Gate
 gateOf fits n area arena map p =
     pick fits
-    (pick (lentFits n area arena map) (pick (ltb p n) Gate.Open (Gate.Shut badPeer)) (Gate.Shut badLent))
-    (Gate.Shut badState)
+    (pick (lentFits n area arena map) (pick (ltb p n) Gate.Open (Gate.Refused badPeer)) (Gate.Refused badLent))
+    (Gate.Refused badState)
 
 unfoldable pub throughGate : World → ℕ → Call → Gate → Turn
 throughGate w p c Gate.Open = peerTurn w p c
-throughGate w p c (Gate.Shut k) = refusedTurn w k
+throughGate w p c (Gate.Refused k) = refusedTurn w k

@@ -53,13 +53,13 @@ pub(crate) fn gate(fits: bool, n: usize, area: usize, arena: usize, map: usize, 
     ensures { λ r. ⌜ r ≡ gateOf fits n area arena map peer ⌝ }
 {
     if !fits {
-        return Gate::Shut(BAD_STATE);
+        return Gate::Refused(BAD_STATE);
     }
     if !lent_fits(n, area, arena, map) {
-        return Gate::Shut(BAD_LENT);
+        return Gate::Refused(BAD_LENT);
     }
     if n <= peer {
-        return Gate::Shut(BAD_PEER);
+        return Gate::Refused(BAD_PEER);
     }
     Gate::Open
 }

@@ -39,7 +39,7 @@ pub fn admit(
     ensures { λ r. ⌜ r ≡ gateOf (good && numbersFit n area limit) n area arena map peer ⌝ }
 {
     if !good {
-        return Gate::Shut(BAD_STATE);
+        return Gate::Refused(BAD_STATE);
     }
     let numbers = checks::numbers_fit(n, area, limit);
     checks::gate(numbers, n, area, arena, map, peer)

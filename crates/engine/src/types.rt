@@ -32,7 +32,7 @@ pub struct Outcome {
 // Whether a call goes through to its peer.
 pub enum Gate {
     Open,
-    Shut(Refusal),
+    Refused(Refusal),
 }
 
 impl Engine {

@@ -140,7 +140,7 @@ module _ {bytes buffers : List ℕ} {form : Answer → List ℕ} {size most : �
     module _ {good : Bool} (s : CheckedOnce good (w .engine)) (o : Gate)
         (y : o ≡ gateOf (good && numbersFit (w .engine .n) (w .engine .area) (w .engine .limit)) (w .engine .n) (w .engine .area) (length (w .arena)) (length (w .map)) (q .peer)) where
       -- it is refused before it comes to its peer
-      pub run-shut : (k : Refusal) → o ≡ Gate.Shut k → CallMade bytes buffers form size most all qs good output at taken w replies (Answer.Refused k)
+      pub run-shut : (k : Refusal) → o ≡ Gate.Refused k → CallMade bytes buffers form size most all qs good output at taken w replies (Answer.Refused k)
       run-shut k z =
           let e : refusedTurn w k ≡ turnOf w (requestOf bytes replies q) =
           unfold turnOf in sym (once-shut w (q .peer) s o y k (callOf (lentCallOf bytes replies (q .call))) z) in

@@ -50,7 +50,7 @@ fn run_calls(
         let area = engine.area;
         let limit = engine.limit;
         let answer = match engine::admit(good, n, area, limit, arena.len(), map.len(), p) {
-            Gate::Shut(refusal) => Answer::Refused(refusal),
+            Gate::Refused(refusal) => Answer::Refused(refusal),
             Gate::Open => {
                 let there = engine.peers[p];
                 let step = lending::step(there, p, area, limit, call, bytes, arena, map, replies);

@@ -56,7 +56,7 @@ pub(crate) fn run(
         let area = engine.area;
         let limit = engine.limit;
         let answer = match engine::admit(true, engine.n, area, limit, arena.len(), map.len(), p) {
-            Gate::Shut(refusal) => Answer::Refused(refusal),
+            Gate::Refused(refusal) => Answer::Refused(refusal),
             Gate::Open => {
                 let there = engine.peers[p];
                 let step = lending::step(there, p, area, limit, call, trace, arena, map, reply);

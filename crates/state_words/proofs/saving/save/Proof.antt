@@ -81,7 +81,7 @@ loop-again c =
       c .before .before .put-peer .kept .0 ∙ l .loop .inv .1,
       c .before .before .put-peer .ensures
           ∙ rw (l .loop .inv .2)
-          (flat-turn peerWords peerSize (a .t2 .peers) noPeer (λ i h. length-peer (getD (a .t2 .peers) i noPeer) (slots s i h)) w 3 (l .loop .p) (3 + 129 * l .loop .p) (omega (arith, len)) refl fits),
+          (flat-turn peerWords peerSize (a .t2 .peers) noPeer (λ i h. length-peer (getD (a .t2 .peers) i noPeer) (slots s i h)) w 3 (l .loop .p) (3 + peerSize * l .loop .p) (omega (arith, len)) refl fits),
     )
 
 same-length : tie.Need-same-length Inv-loop μ-loop
