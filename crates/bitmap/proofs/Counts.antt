@@ -1,38 +1,40 @@
 -- A range counted word by word, and tested by the count.
-use Prim.Native.Nat.{ℕ, zero, suc, _+_, _-_, _/_, _%_, _^_, _≤_, _<_}
+use Prim.Native.Nat.{ℕ, zero, suc, _+_, _-_, _*_, _/_, _%_, _^_, _≤_, _<_}
 use borrow.Author.Tests.{ne-eqb}
 use lib.Arith.{bin-ind}
-use lib.Bits.{and-high}
+use lib.Bits.{bitOr, and-high, and-le-l, and-le-r, or-add-and}
 use lib.Count.{ones, onesIn, ones-cat, ones-step}
 use lib.Dec.{eqb, lit<}
-use lib.ListN.{getD}
+use lib.ListN.{length, getD, take, drop}
 use lib.Pow.{pow-pos, shr-shr, mod-pow-add}
-use mathlib.Core.Bool.{true, not, _||_}
-use mathlib.Core.List.{List}
+use lib.Seq.{drop-cons}
+use mathlib.Core.Bool.{not, _||_}
+use mathlib.Core.List.{List, [], _∷_}
 use mathlib.Core.Logic.{⊎-elim}
 use mathlib.Core.Path.{_≡_, refl, sym, ap, _∙_}
-use native.Mathlib.Nat.{add-assoc, add-zero, add-suc, add-comm, mod-lt, mod-one}
+use native.Mathlib.Nat.{add-assoc, add-zero, zero-add, add-suc, add-comm, mod-lt, mod-one}
 use native.Mathlib.Numerals.{one-add}
 use native.Mathlib.Omega.{arith}
+use Rattle.laws.specs.Parts.{part}
 use Rattle.laws.proofs.Comparing.{eq-or-ne}
+use Rattle.laws.proofs.Storing.{lent-part}
 use Rattle.bitmap.specs.Map.{bit, bitAt, countSet, touched}
 use Rattle.bitmap.specs.Mask.{partOf}
+use Rattle.bitmap.specs.Ranges.{splitOf}
+use Rattle.bitmap.specs.WholeWords.{onesOf, orOf}
+use Rattle.bitmap.specs.declared.ranges.ThreeParts.{ThreeParts}
 use Rattle.bitmap.proofs.BitLaws.{bitAt-small}
-use Rattle.bitmap.proofs.Stores.{part-whole}
+use Rattle.bitmap.proofs.SplitLaws.{in-parts, placed}
+use Rattle.bitmap.proofs.Stores.{AreWords, part-whole}
 
 -- ---- counting
 
-count-add : (m : List ℕ) (at k n : ℕ) → countSet m at (k + n) ≡ countSet m at k + countSet m (at + k) n
+pub count-add : (m : List ℕ) (at k n : ℕ) → countSet m at (k + n) ≡ countSet m at k + countSet m (at + k) n
 unfolding countSet
 count-add m at k zero = rw (add-zero k, add-zero (countSet m at k))
 count-add m at k (suc n) = rw (add-suc, count-add m at k n, add-assoc (countSet m at k), add-assoc at)
 
-pub count-split : (m : List ℕ) (at k n : ℕ) → k ≤ n → countSet m at n ≡ countSet m at k + countSet m (at + k) (n - k)
-count-split m at k n h =
-    let e : n ≡ k + (n - k) = omega arith in
-    ap (countSet m at) e ∙ count-add m at k (n - k)
-
-count-le : (m : List ℕ) (at n : ℕ) → countSet m at n ≤ n
+pub count-le : (m : List ℕ) (at n : ℕ) → countSet m at n ≤ n
 unfolding countSet
 count-le m at zero = omega arith
 count-le m at (suc n) = omega (arith, count-le m at n, bitAt-small m (at + n))
@@ -69,9 +71,37 @@ part-count m i n r h e =
     let t = ap ones e ∙ count-word m i n h in
     (t, rw t (count-le m i n))
 
-pub whole-count : (m : List ℕ) (i : ℕ) → i % 64 ≡ 0 → getD m (i / 64) 0 < 2 ^ 64
-    → (ones (getD m (i / 64) 0) ≡ countSet m i 64) × (ones (getD m (i / 64) 0) ≤ 64)
-whole-count m i z fits = part-count m i 64 (getD m (i / 64) 0) (omega arith) (sym (part-whole m i z fits))
+-- a whole word, and the words from k on
+whole-count : (m : List ℕ) (k : ℕ) → AreWords m → ones (getD m k 0) ≡ countSet m (64 * k) 64
+whole-count m k ok =
+    let at : 64 * k / 64 ≡ k = omega arith in
+    ap (λ (j : ℕ). ones (getD m j 0)) (sym at)
+    ∙ part-count m (64 * k) 64 _ (omega arith) (sym (part-whole m (64 * k) (omega arith) (ok (64 * k / 64)))) .0
+
+count-words : (n : ℕ) (m : List ℕ) (k : ℕ) → AreWords m → k + n ≤ length m → onesOf (part m k n) ≡ countSet m (64 * k) (64 * n)
+unfolding onesOf countSet part
+count-words zero m k ok h = refl
+count-words (suc n) m k ok h =
+    let more : 64 * suc n ≡ 64 + 64 * n = omega arith in
+    let next : 64 * k + 64 ≡ 64 * suc k = omega arith in
+    rw (drop-cons m k 0 (omega arith), more, count-add m (64 * k) 64 (64 * n), next, ← whole-count m k ok)
+    (ap (λ (x : ℕ). ones (getD m k 0) + x) (count-words n m (suc k) ok (omega arith)))
+
+-- a range by its parts, as the code has them
+pub range-count : (m : List ℕ) (at n p t : ℕ) (s : ThreeParts) → s ≡ splitOf at n → at + n ≤ 64 * length m → AreWords m
+    → p ≡ partOf m at (s .head) → t ≡ partOf m (64 * s .last) (s .tail)
+    → countSet m at n ≡ ones p + onesOf (take (s .last - s .first) (drop (s .first) m)) + ones t
+range-count m at n p t s e h ok head tail =
+    let x = splitOf at n in
+    let w = (n - x .head) / 64 in
+    let l = placed refl h in
+    let a = part-count m at (x .head) p (l .headFits) (head ∙ rw e) .0 in
+    let b = count-words w m (x .first) ok (omega (arith, l .lastIn)) in
+    let c = part-count m (64 * x .last) (x .tail) t (l .tailFits) (tail ∙ rw e) .0 in
+    sym (zero-add (countSet m at n))
+    ∙ in-parts (λ (y i k : ℕ). y + countSet m i k) (λ y i. unfold countSet in add-zero y)
+    (λ y i k j. rw count-add (sym (add-assoc y (countSet m i k) (countSet m (i + k) j)))) 0 at n
+    ∙ rw (zero-add, e, lent-part m (x .first) w, a, b, c)
 
 -- ---- testing
 
@@ -87,21 +117,41 @@ unfolding touched countSet
 touched-count m at zero = refl
 touched-count m at (suc n) = rw (touched-count m at n) (test-or (countSet m at n) (bitAt m (at + n)) (bitAt-small m (at + n)))
 
--- a word has no ones if it is 0, and only then
-pub ones-none : (w : ℕ) → w ≡ 0 → ones w ≡ 0
-ones-none w e = rw e (ones-small 0 (lit< tt))
+-- a word has no ones if it is 0, and only then; so have words, if an or of them is 0
+NoneIf0 : ℕ → ℕ → Type 0
+NoneIf0 count w = (w ≡ 0 → count ≡ 0) × (count ≡ 0 → w ≡ 0)
 
-no-ones : (w : ℕ) → ones w ≡ 0 → w ≡ 0
-no-ones = bin-ind (λ (w : ℕ). ones w ≡ 0 → w ≡ 0) (λ e. refl) (λ w ih e. omega (arith, ones-step w, ih (omega (arith, ones-step w))))
+ones-none : (w : ℕ) → NoneIf0 (ones w) w
+unfolding NoneIf0
+ones-none w = (
+  λ e. rw e (ones-small 0 (lit< tt)),
+  bin-ind (λ (w : ℕ). ones w ≡ 0 → w ≡ 0) (λ e. refl) (λ w ih e. omega (arith, ones-step w, ih (omega (arith, ones-step w)))) w,
+)
 
--- a range with the bits of a word that is not 0 is touched
-pub touched-some : (m : List ℕ) (at n w rest : ℕ) → (w ≡ 0 → ⊥) → countSet m at n ≡ ones w + rest → touched m at n ≡ true
-touched-some m at n w rest ne e = touched-count m at n ∙ rw (ne-eqb (countSet m at n) 0 (λ z. ne (no-ones w (omega arith))))
+or-none : (c a d b : ℕ) → NoneIf0 c a → NoneIf0 d b → NoneIf0 (c + d) (bitOr a b)
+unfolding NoneIf0
+or-none c a d b f g =
+    let both = or-add-and a b in
+    let left = and-le-l a b in
+    let right = and-le-r a b in (
+      λ e. omega (arith, f .0 (omega arith), g .0 (omega arith)),
+      λ e. let x : a ≡ 0 = f .1 (omega arith) in let y : b ≡ 0 = g .1 (omega arith) in rw (x, y),
+    )
 
--- a range with the bits of a word and no others is touched if the word is not 0
-pub touched-last : (m : List ℕ) (at n w : ℕ) → countSet m at n ≡ ones w → touched m at n ≡ not (eqb w 0)
-touched-last m at n w e =
-    ⊎-elim
-    (λ z. touched-count m at n ∙ rw (e, ones-none w z, z))
-    (λ ne. touched-some m at n w 0 ne (omega arith) ∙ rw (ne-eqb w 0 ne))
-    (eq-or-ne w 0)
+words-none : (ws : List ℕ) → NoneIf0 (onesOf ws) (orOf ws)
+unfolding onesOf orOf NoneIf0
+words-none [] = (λ e. refl, λ e. refl)
+words-none (w ∷ ws) = or-none (ones w) w (onesOf ws) (orOf ws) (ones-none w) (words-none ws)
+
+-- a range whose bits are those of two words and of words between them is touched if an or of all of them is not 0
+pub touched-by : (m : List ℕ) (at n p t : ℕ) (ws : List ℕ) → countSet m at n ≡ ones p + onesOf ws + ones t
+    → touched m at n ≡ not (eqb (bitOr (bitOr p (orOf ws)) t) 0)
+unfolding NoneIf0
+touched-by m at n p t ws e =
+    let all = bitOr (bitOr p (orOf ws)) t in
+    let x = or-none _ _ _ t (or-none _ p _ _ (ones-none p) (words-none ws)) (ones-none t) in
+    touched-count m at n
+    ∙ ⊎-elim
+    (λ (z : all ≡ 0). let none : countSet m at n ≡ 0 = e ∙ x .0 z in rw (none, z))
+    (λ ne. rw (ne-eqb (countSet m at n) 0 (λ z. ne (x .1 (sym e ∙ z))), ne-eqb all 0 ne))
+    (eq-or-ne all 0)

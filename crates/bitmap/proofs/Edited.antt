@@ -1,11 +1,11 @@
 -- A range of the map edited bit by bit, each by a function of its word and of the bit's weight: what marking and clearing share.
-use Prim.Native.Nat.{ℕ, zero, suc, _+_, _-_, _*_, _/_, _%_, _^_, _≤_, _<_}
+use Prim.Native.Nat.{ℕ, zero, suc, _+_, _*_, _/_, _%_, _^_, _≤_, _<_}
 use lib.Bits.{bitOr}
 use lib.ListN.{length, getD, set, length-set}
 use lib.Seq.{set-out, getD-set-same, getD-set-other, set-getD, set-set}
 use mathlib.Core.List.{List}
 use mathlib.Core.Logic.{_⊎_, inl, inr, ⊎-elim}
-use mathlib.Core.Path.{_≡_, refl, ap, _∙_}
+use mathlib.Core.Path.{_≡_, refl, _∙_}
 use native.Mathlib.Nat.{add-assoc, add-zero, add-suc}
 use native.Mathlib.Omega.{arith}
 use Rattle.laws.proofs.Comparing.{eq-or-ne, le-or-lt}
@@ -29,15 +29,10 @@ module _ (f : ℕ → ℕ → ℕ) where
   length-edited m at (suc n) = rw (editBit, length-set, length-edited m at n)
 
   -- a range in two parts
-  edited-add : (m : List ℕ) (at k n : ℕ) → edited f m at (k + n) ≡ edited f (edited f m at k) (at + k) n
+  pub edited-add : (m : List ℕ) (at k n : ℕ) → edited f m at (k + n) ≡ edited f (edited f m at k) (at + k) n
   unfolding edited
   edited-add m at k zero = rw add-zero
   edited-add m at k (suc n) = rw (add-suc, edited-add m at k n, add-assoc)
-
-  pub edited-split : (m : List ℕ) (at k n : ℕ) → k ≤ n → edited f m at n ≡ edited f (edited f m at k) (at + k) (n - k)
-  edited-split m at k n h =
-      let e : n ≡ k + (n - k) = omega arith in
-      ap (edited f m at) e ∙ edited-add m at k (n - k)
 
   -- a word's part of a range is edited at once
   pub edited-word : ((w : ℕ) → f w 0 ≡ w) → ((w a b : ℕ) → f (f w a) b ≡ f w (bitOr a b))

@@ -2,7 +2,8 @@ pub mod BitLaws
 pub mod Counts
 pub mod CoverLaws
 pub mod Edited
-pub mod Filling
 pub mod Runs
+pub mod SplitLaws
 pub mod Stores
 pub mod Word
+pub mod WordFolds

@@ -3,8 +3,9 @@ use Prim.Native.Nat.{ℕ, zero, suc, _+_, _-_, _*_, _/_, _%_, _^_, _≤_, _<_, m
 use borrow.Author.Tests.{eq-eqb, ne-eqb}
 use lib.Count.{trailingZeros, under, trailing-of-zero}
 use lib.Dec.{eqb, lit<}
-use lib.ListN.{getD}
+use lib.ListN.{length, getD, take, drop, length-drop, length-take}
 use lib.Pow.{shr-shr}
+use lib.Seq.{getD-drop, getD-take}
 use mathlib.Core.List.{List}
 use mathlib.Core.Logic.{⊎-elim}
 use mathlib.Core.Path.{_≡_, sym, ap, _∙_}
@@ -13,10 +14,13 @@ use native.Mathlib.Omega.{arith}
 use Rattle.bitmap.specs.Map.{bit, bitAt, firstClear}
 use Rattle.bitmap.specs.Mask.{setIn}
 use Rattle.bitmap.specs.Offsets.{firstNot}
+use Rattle.bitmap.specs.WholeWords.{fullRun}
 use Rattle.laws.specs.Choose.{pick}
+use Rattle.laws.proofs.Comparing.{eq-or-ne}
 use Rattle.bitmap.proofs.BitLaws.{bit-cases, first-passes, first-stops}
 use Rattle.bitmap.proofs.CoverLaws.{first-cover}
 use Rattle.bitmap.proofs.Word.{bit-small, bit-suc, bit-zero}
+use Rattle.bitmap.proofs.WordFolds.{run-full, run-le}
 
 -- ---- the run of set digits of a word from a place on: the trailing zeros of the complement
 
@@ -48,8 +52,8 @@ pub run-word : (w lo n : ℕ) → w < 2 ^ 64 → lo + n ≤ 64 → min (trailing
 unfolding bit
 run-word w lo n b h = run 64 n ((18446744073709551615 - w) / 2 ^ lo) w lo (omega arith) (λ j l. rw shr-shr (not-bit 64 (lo + j) w (omega arith) b))
 
-run-full : (lo n : ℕ) → lo + n ≤ 64 → firstNot (setIn 18446744073709551615) lo n ≡ n
-run-full lo n h =
+word-full : (lo n : ℕ) → lo + n ≤ 64 → firstNot (setIn 18446744073709551615) lo n ≡ n
+word-full lo n h =
     let r = run-word 18446744073709551615 lo n (lit< tt) h in
     sym (rw (zero-div, trailing-of-zero) at r) ∙ omega arith
 
@@ -114,9 +118,41 @@ first-run m j i k end r p q e f =
     of-min i s r all h e = (omega arith, omega arith, λ z. omega arith)
 
 -- the bits of a full word are passed
-pub first-full : (m : List ℕ) (i k n : ℕ) → getD m (i / 64) 0 ≡ 18446744073709551615 → i % 64 + k ≤ 64 → k ≤ n → k ≤ firstClear m i n
+first-full : (m : List ℕ) (i k n : ℕ) → getD m (i / 64) 0 ≡ 18446744073709551615 → i % 64 + k ≤ 64 → k ≤ n → k ≤ firstClear m i n
 first-full m i k n w h l =
-    omega (arith, word-run m i k n h l, ap (λ (x : ℕ). firstNot (setIn x) (i % 64) k) w, run-full (i % 64) k h)
+    omega (arith, word-run m i k n h l, ap (λ (x : ℕ). firstNot (setIn x) (i % 64) k) w, word-full (i % 64) k h)
+
+-- so are those of full words, one after the other
+full-words : (r : ℕ) (m : List ℕ) (q n : ℕ) → ((j : ℕ) → j < r → getD m (q + j) 0 ≡ 18446744073709551615) → 64 * r ≤ n → 64 * r ≤ firstClear m (64 * q) n
+full-words zero m q n f h = omega arith
+full-words (suc r) m q n f h =
+    let at : 64 * q / 64 ≡ q + 0 = omega arith in
+    let one = first-full m (64 * q) 64 n (ap (λ (j : ℕ). getD m j 0) at ∙ f 0 (omega arith)) (omega arith) (omega arith) in
+    let next : 64 * q + 64 ≡ 64 * suc q = omega arith in
+    let skip = rw next at (first-skip m (64 * q) 64 n one) in
+    let rest = full-words r m (suc q) (n - 64) (λ j l. rw (suc-add, ← add-suc) (f (suc j) (omega arith))) (omega arith) in
+    omega arith
+
+-- a full word, of which the range has k bits, and the run of full words behind it, of those that the range has whole
+pub full-run : (m : List ℕ) (i k end r : ℕ) → getD m (i / 64) 0 ≡ 18446744073709551615 → i < end → k ≡ min (64 - i % 64) (end - i) → end ≤ 64 * length m
+    → r ≡ fullRun (take (end / 64 - (i + k) / 64) (drop ((i + k) / 64) m))
+    → (i + k + 64 * r ≤ end) × (k + 64 * r ≤ firstClear m i (end - i))
+full-run m i k end r w more e h f =
+    let q = (i + k) / 64 in
+    let n = end / 64 - q in
+    let ws = take n (drop q m) in
+    let size : length ws ≡ n = simp (length-take, length-drop) (omega arith) in
+    let few : r ≤ n = omega (arith, f, run-le ws) in
+    let head = first-full m i k (end - i) w (omega arith) (omega arith) in
+    ⊎-elim
+    (λ (z : n ≡ 0). (omega arith, omega arith))
+    (λ (ne : n ≡ 0 → ⊥).
+    let from : 64 * q ≡ i + k = omega arith in
+    let full : (j : ℕ) → j < r → getD m (q + j) 0 ≡ 18446744073709551615 = λ j l.
+    sym (getD-take n (drop q m) j 0 (omega arith) ∙ getD-drop q m j 0) ∙ run-full ws j (omega arith) in
+    let rest = rw from at (full-words r m q (end - i - k) full (omega arith)) in
+    (omega arith, omega (arith, first-skip m i k (end - i) head)))
+    (eq-or-ne n 0)
 
 -- a search goes on past k set bits
 pub first-pass : (m : List ℕ) (at i k end all : ℕ) → at ≤ i → k ≤ firstClear m i (end - i) → all ≡ (i - at) + firstClear m i (end - i)

@@ -1,3 +1,5 @@
 pub mod Map
 pub mod Mask
 pub mod Offsets
+pub mod Ranges
+pub mod WholeWords

@@ -1,11 +1,10 @@
 -- One peer's step in its own part, put back into the whole.
-use Prim.Native.Nat.{ℕ, zero, suc, _+_, _-_, _*_, _/_, _^_, _≤_, _<_}
-use lib.ListN.{length, getD, take, drop, set, replicate, length-replicate, getD-replicate, drop-of-length-le}
-use lib.Seq.{length-take-le, take-all, getD-append-add, getD-drop, paste, paste-zero, paste-suc}
-use mathlib.Core.List.{List, [], append-nil}
+use Prim.Native.Nat.{ℕ, _+_, _*_, _/_, _≤_}
+use lib.ListN.{length, getD}
+use lib.Seq.{take-all}
+use mathlib.Core.List.{List, []}
 use mathlib.Core.Path.{_≡_, sym, ap, ap₂, _∙_}
 use native.Mathlib.Omega.{arith}
-use Rattle.bitmap.specs.Map.{cleared}
 use Rattle.laws.specs.Parts.{part}
 use Rattle.engine.specs.Gates.{throughGate}
 use Rattle.engine.specs.Leaves.{CallLeaves, callLeaves}
@@ -20,8 +19,6 @@ use Rattle.peer.specs.Effects.{quiet}
 use Rattle.peer.specs.State.{freshPeer}
 use Rattle.peer.specs.declared.types.Answer.{Answer}
 use Rattle.peer.specs.declared.types.Peer.{Peer}
-use Rattle.bitmap.proofs.BitLaws.{length-cleared}
-use Rattle.bitmap.proofs.Stores.{clear-split, clear-whole}
 use Rattle.laws.proofs.Storing.{store-nothing, store-own}
 use Rattle.laws.proofs.Listing.{getD-any}
 use Rattle.engine.proofs.CheckLaws.{Gated, opened, through}
@@ -89,45 +86,3 @@ module _ (w : World) {p : ℕ} {g : Gate} (x : Gated (w .engine) (length (w .are
         ap (putIn (w .engine) p)
         (e ∙ ap₂ leaves (step-of d) (ap₂ packet (part-whole bs) (ap length (part-whole reply))))
         ∙ ap (callLeaves reply) (sym (through w p (packet bs (length reply)) Gate.Open x z))
-
--- ---- the map, cleared whole
-
--- one word
-cleared-word : (m : List ℕ) (k : ℕ) → getD m k 0 < 2 ^ 64 → k < length m → cleared m (64 * k) 64 ≡ set m k 0
-cleared-word m k f h =
-    let at : 64 * k / 64 ≡ k = omega arith in
-    sym (clear-whole m (64 * k) (omega arith) (rw at f) (rw at h)) ∙ ap (λ (j : ℕ). set m j 0) at
-
-module _ (m : List ℕ) (f : (i : ℕ) → getD m i 0 < 2 ^ 64) where
-  abbrev zeros : List ℕ
-  zeros = replicate (length m) 0
-
-  -- as far as k words are cleared, the next is as it was
-  next-word : (k : ℕ) → k < length m → getD (paste m 0 zeros k) k 0 ≡ getD m k 0
-  next-word k h =
-      let n : length (take k zeros) ≡ k = length-take-le k zeros (omega (arith, length-replicate {A = ℕ} (length m) 0)) in
-      ap (λ (j : ℕ). getD (paste m 0 zeros k) j 0) (omega (arith, n))
-      ∙ getD-append-add (take k zeros) (drop (0 + k) m) 0 0 ∙ getD-drop (0 + k) m 0 0 ∙ ap (λ (j : ℕ). getD m j 0) (omega arith)
-
-  cleared-words : (k : ℕ) → k ≤ length m → cleared m 0 (64 * k) ≡ paste m 0 zeros k
-  unfolding cleared
-  cleared-words zero h = paste-zero m 0 zeros
-  cleared-words (suc k) h =
-      let so = cleared-words k (omega arith) in
-      let next : getD (cleared m 0 (64 * k)) k 0 ≡ getD m k 0 = ap (λ (l : List ℕ). getD l k 0) so ∙ next-word k (omega arith) in
-      let from : 0 + 64 * k ≡ 64 * k = omega arith in
-      let size : 64 * suc k - 64 * k ≡ 64 = omega arith in
-      let at : k ≡ 0 + k = omega arith in
-      clear-split m 0 (64 * k) (64 * suc k) (omega arith)
-      ∙ ap₂ (cleared (cleared m 0 (64 * k))) from size
-      ∙ cleared-word (cleared m 0 (64 * k)) k (rw next (f k)) (omega (arith, length-cleared m 0 (64 * k)))
-      ∙ ap (λ (l : List ℕ). set l k 0) so
-      ∙ ap₂ (set (paste m 0 zeros k)) at (sym (getD-replicate (length m) k 0 0 (omega arith)))
-      ∙ paste-suc m 0 zeros k 0 (omega arith) (omega (arith, length-replicate {A = ℕ} (length m) 0))
-
-  pub cleared-all : cleared m 0 (64 * length m) ≡ zeros
-  cleared-all =
-      let n : length zeros ≡ length m = length-replicate {A = ℕ} (length m) 0 in
-      let end : length m ≤ 0 + length m = omega arith in
-      cleared-words (length m) (omega arith)
-      ∙ rw (take-all (length m) zeros (omega arith), drop-of-length-le m end) (append-nil zeros)

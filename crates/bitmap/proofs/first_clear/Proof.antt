@@ -1,13 +1,14 @@
 -- `bitmap::first_clear` meets its contract. The invariant of both loops: the bits before i are set, so that
 -- the search from i on gives what is left of the result. The inner loop stays in the word of the outer loop's i.
-use Prim.Native.Nat.{ℕ, _+_, _-_, _≤_, _<_}
+use Prim.Native.Nat.{ℕ, _+_, _-_, _*_, _≤_, _<_}
+use borrow.Author.Needs.{needs}
 use mathlib.Core.Logic.{⊎-elim}
 use mathlib.Core.Path.{_≡_, sym, _∙_}
-use native.Mathlib.Nat.{add-zero}
+use native.Mathlib.Nat.{add-assoc, add-zero}
 use native.Mathlib.Omega.{arith}
 use Rattle.bitmap.specs.Map.{firstClear}
 use Rattle.bitmap.proofs.BitLaws.{first-clear-le}
-use Rattle.bitmap.proofs.Runs.{first-full, first-pass, first-run}
+use Rattle.bitmap.proofs.Runs.{first-pass, first-run, full-run}
 use Rattle.bitmap.proofs.first_clear.Statement.{statement}
 use Rattle.bitmap.proofs.first_clear.Tie as tie
 
@@ -70,18 +71,31 @@ in-word-requires c κs = omega arith
 add-stop : tie.Need-add-stop Inv-loop μ-loop Inv-words μ-words
 add-stop c = omega arith
 
+-- the bits of a full word, and of the run of full words behind it
+passed : (c : tie.After-full-run Inv-loop μ-loop Inv-words μ-words)
+    → let s = c .before .before .before .before .before .before in let a = s .before .before .args in
+    let k = c .before .before .before .in-word .result in let r = c .full-run .result in
+    (s .words .i + k + 64 * r ≤ a .at + a .n) × (k + 64 * r ≤ firstClear (a .map .now) (s .words .i) (a .at + a .n - s .words .i))
+passed c =
+    let s = c .before .before .before .before .before .before in
+    let a = s .before .before .args in
+    let k = c .before .before .before .in-word in
+    full-run (a .map .now) (s .words .i) (k .result) (a .at + a .n) (c .full-run .result)
+    (c .before .before .if1 .taken) (omega arith) (k .ensures) (omega arith) (c .full-run .ensures)
+
 words-less : tie.Need-words-less Inv-loop μ-loop Inv-words μ-words
-words-less c = omega arith
+words-less c = omega (arith, passed c .0)
 
 words-again : tie.Need-words-again Inv-loop μ-loop Inv-words μ-words
 words-again c =
-    let s = c .before .before .before .before in
+    let s = c .before .before .before .before .before .before in
     let a = s .before .before .args in
-    let k = c .before .in-word .result in (
-      omega arith,
-      omega arith,
-      first-pass (a .map .now) (a .at) (s .words .i) k (a .at + a .n) _ (omega arith)
-          (first-full (a .map .now) (s .words .i) k (a .at + a .n - s .words .i) (c .if1 .taken) (omega arith) (omega arith)) (s .words .inv .2),
+    let k = c .before .before .before .in-word .result in
+    let r = 64 * c .full-run .result in
+    let p = passed c in (
+      omega (arith, p .0),
+      p .0,
+      rw add-assoc (first-pass (a .map .now) (a .at) (s .words .i) (k + r) (a .at + a .n) _ (omega arith) (p .1) (s .words .inv .2)),
     )
 
 loop-holds : tie.Need-loop-holds Inv-loop μ-loop Inv-words μ-words
@@ -99,8 +113,8 @@ sub-ones-from c = omega arith
 ones-from-requires : tie.Need-ones-from-requires Inv-loop μ-loop Inv-words μ-words
 ones-from-requires c κs = omega arith
 
-add-i : tie.Need-add-i Inv-loop μ-loop Inv-words μ-words
-add-i c = omega (arith, run (c .before) .0)
+add-i-2 : tie.Need-add-i-2 Inv-loop μ-loop Inv-words μ-words
+add-i-2 c = omega (arith, run (c .before) .0)
 
 loop-less : tie.Need-loop-less Inv-loop μ-loop Inv-words μ-words
 loop-less c = falls-by _ (c .before .before .before .loop .i) (c .before .ones-from .result) (run (c .before) .0) (c .if2 .left)
@@ -153,6 +167,13 @@ first-clear-spec =
     sub-in-word
     in-word-requires
     add-stop
+    (λ c. omega arith)
+    (λ c. omega arith)
+    (λ c. omega arith)
+    (λ c. omega arith)
+    (λ c κs. search needs)
+    (λ c. omega (arith, passed c .0))
+    (λ c. omega (arith, passed c .0))
     words-less
     words-again
     loop-holds
@@ -160,7 +181,7 @@ first-clear-spec =
     words-again-2
     sub-ones-from
     ones-from-requires
-    add-i
+    add-i-2
     loop-less
     loop-again
     sub-result

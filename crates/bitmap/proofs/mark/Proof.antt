@@ -1,91 +1,40 @@
--- `bitmap::mark` meets its contract. The loop over the whole words keeps `Filling`.
-use Prim.Native.Nat.{_+_, _-_, _/_}
-use mathlib.Core.Path.{refl, _∙_}
+-- `bitmap::mark` meets its contract: the parts of a range are marked one after the other.
+use borrow.Author.Needs.{needs}
+use lib.Dec.{lit<}
+use lib.ListN.{length}
 use native.Mathlib.Omega.{arith}
 use Rattle.bitmap.specs.Map.{marked}
-use Rattle.bitmap.proofs.Filling.{Filling, filling-end, filling-turn}
-use Rattle.bitmap.proofs.Stores.{mark-split, mark-whole}
+use Rattle.bitmap.proofs.SplitLaws.{Placed, placed}
+use Rattle.bitmap.proofs.Stores.{mark-add, mark-none, mark-whole, fill-range}
 use Rattle.bitmap.proofs.mark.Statement.{statement}
 use Rattle.bitmap.proofs.mark.Tie as tie
 
-abbrev Inv-loop : tie.InvT-loop
-Inv-loop map₀ at n end head i₀ map i = Filling marked map₀ i₀ end map i
+-- where the parts of the range lie
+lies : (c : tie.After-split) → let a = c .before .before .args in Placed (a .at) (a .n) (length (a .map .now)) (c .split .result)
+lies c = placed (c .split .ensures) (omega arith)
 
-abbrev μ-loop : tie.MeasureT-loop
-μ-loop map₀ at n end head i₀ map i = end - i
-
-add-end : tie.Need-add-end Inv-loop μ-loop
-add-end c = omega arith
-
-in-word-requires : tie.Need-in-word-requires Inv-loop μ-loop
-in-word-requires c κs = omega arith
-
-mark-part-requires : tie.Need-mark-part-requires Inv-loop μ-loop
-mark-part-requires c κs = omega arith
-
-add-i : tie.Need-add-i Inv-loop μ-loop
-add-i c = omega arith
-
-loop-holds : tie.Need-loop-holds Inv-loop μ-loop
-loop-holds c = (omega arith, omega arith, refl, λ k h. refl, refl)
-
-sub-loop : tie.Need-sub-loop Inv-loop μ-loop
-sub-loop c = omega arith
-
-mul-map : tie.Need-mul-map Inv-loop μ-loop
-mul-map c = omega arith
-
-slice-write-map : tie.Need-slice-write-map Inv-loop μ-loop
-slice-write-map c = omega arith
-
-add-i-2 : tie.Need-add-i-2 Inv-loop μ-loop
-add-i-2 c = omega arith
-
-loop-less : tie.Need-loop-less Inv-loop μ-loop
-loop-less c = omega arith
-
-loop-again : tie.Need-loop-again Inv-loop μ-loop
-loop-again c =
-    let l = c .before .loop in
-    let a = c .before .before .before .before .before .before .before .before .args in
-    filling-turn marked 18446744073709551615 mark-split mark-whole _ (l .map) _ (a .at + a .n) (l .i) (omega arith) (omega arith)
-    (c .before .before .slice-known2 .given (l .i / 64) .fits) (l .inv)
-
-sub-mark-part : tie.Need-sub-mark-part Inv-loop μ-loop
-sub-mark-part c = omega arith
-
-mark-part-requires-2 : tie.Need-mark-part-requires-2 Inv-loop μ-loop
-mark-part-requires-2 c κs = omega arith
-
-same-length : tie.Need-same-length Inv-loop μ-loop
-same-length c = omega arith
-
-returns : tie.Need-returns Inv-loop μ-loop
+returns : tie.Need-returns
 returns c =
-    let a = c .before .before .before .before .before .before .before .before .before .before .before .before .args in
-    let s = c .before .before .before .before .before .before .before .before in
-    let l = c .before .before .before .before .before .loop in
-    c .before .before .mark-part2 .ensures
-    ∙ filling-end marked 18446744073709551615 mark-split mark-whole (a .map .now) _ (l .map) (a .at) (s .before .before .in-word .result) (a .n) (l .i) (omega arith) (s .mark-part .ensures) (l .inv)
+    let s = c .before .before .before .before .before .before .before .before .before .before .before .before in
+    let a = s .before .before .args in
+    fill-range marked 18446744073709551615 (lit< tt) mark-none mark-add mark-whole (a .map .now) _ _ _ (a .at) (a .n) (s .split .result)
+    (s .split .ensures) (omega arith) (omega arith) (λ j. c .before .before .before .before .before .before .before .before .slice-known2 .given j .fits)
+    (c .before .before .before .before .before .before .before .before .before .before .mark-part .ensures)
+    (c .before .before .before .before .before .before .fill .ensures)
+    (c .before .before .mark-part2 .ensures)
 
 pub mark-spec : {M : Type 1} → statement M
 mark-spec =
     tie.close
     (tie.spec
-    Inv-loop
-    μ-loop
-    add-end
-    in-word-requires
-    mark-part-requires
-    add-i
-    loop-holds
-    sub-loop
-    mul-map
-    slice-write-map
-    add-i-2
-    loop-less
-    loop-again
-    sub-mark-part
-    mark-part-requires-2
-    same-length
+    (λ c κs. omega arith)
+    (λ c κs. omega (arith, lies (c .before)))
+    (λ c. omega (arith, lies (c .before .before .before .before)))
+    (λ c. omega (arith, lies (c .before .before .before .before)))
+    (λ c. omega (arith, lies (c .before .before .before .before)))
+    (λ c. omega (arith, lies (c .before .before .before .before)))
+    (λ c κs. search needs)
+    (λ c. omega (arith, lies (c .before .before .before .before .before .before .before .before .before)))
+    (λ c κs. omega (arith, lies (c .before .before .before .before .before .before .before .before .before)))
+    (λ c. omega arith)
     returns)

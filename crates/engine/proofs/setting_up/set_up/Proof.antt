@@ -9,7 +9,7 @@ use native.Mathlib.Omega.{arith}
 use Rattle.bitmap.specs.Map.{cleared}
 use Rattle.engine.specs.SetUp.{setUp}
 use Rattle.laws.specs.Choose.{pick}
-use Rattle.engine.proofs.PutBack.{cleared-all}
+use Rattle.bitmap.proofs.Stores.{cleared-all}
 use Rattle.engine.proofs.CheckLaws.{map-small, small}
 use Rattle.engine.proofs.Worlds.{lent-lengths}
 use Rattle.engine.proofs.setting_up.set_up.Statement.{statement}

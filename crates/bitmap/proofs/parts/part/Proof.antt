@@ -1,12 +1,12 @@
--- `bitmap::part` meets its contract. No bits are the part under an empty mask.
+-- `bitmap::parts::part` meets its contract. No bits are the part under an empty mask.
 use Prim.Native.Nat.{_/_, _%_}
 use borrow.Author.Needs.{needs}
 use lib.Bits.{and-zero-r}
 use lib.ListN.{getD}
 use mathlib.Core.Path.{sym}
 use Rattle.bitmap.proofs.Word.{mask-zero}
-use Rattle.bitmap.proofs.part.Statement.{statement}
-use Rattle.bitmap.proofs.part.Tie as tie
+use Rattle.bitmap.proofs.parts.part.Statement.{statement}
+use Rattle.bitmap.proofs.parts.part.Tie as tie
 
 returns : tie.Need-returns
 returns c =

@@ -1,4 +1,4 @@
--- `bitmap::ones_from` meets its contract: the law of the trailing zeros of a complement, at the smaller of the run and n.
+-- `bitmap::parts::ones_from` meets its contract: the law of the trailing zeros of a complement, at the smaller of the run and n.
 use Prim.Native.Nat.{_-_, _/_, _^_, min}
 use borrow.Author.Needs.{needs}
 use lib.Count.{trailingZeros, trailing-le}
@@ -7,8 +7,8 @@ use native.Mathlib.Omega.{arith}
 use Rattle.bitmap.specs.Mask.{setIn}
 use Rattle.bitmap.specs.Offsets.{firstNot}
 use Rattle.bitmap.proofs.Runs.{run-word}
-use Rattle.bitmap.proofs.ones_from.Statement.{statement}
-use Rattle.bitmap.proofs.ones_from.Tie as tie
+use Rattle.bitmap.proofs.parts.ones_from.Statement.{statement}
+use Rattle.bitmap.proofs.parts.ones_from.Tie as tie
 
 found : (c : tie.Start) → let a = c .args in
     min (trailingZeros 64 ((18446744073709551615 - a .w) / 2 ^ a .lo)) (a .n) ≡ firstNot (setIn (a .w)) (a .lo) (a .n)

@@ -1,10 +1,10 @@
--- `bitmap::mark_part` meets its contract: a word or a mask is the word's part of the range marked.
+-- `bitmap::parts::mark_part` meets its contract: a word or a mask is the word's part of the range marked.
 use borrow.Author.Needs.{needs}
 use native.Mathlib.Omega.{arith}
 use Rattle.bitmap.specs.Map.{marked}
 use Rattle.bitmap.proofs.Stores.{mark-word}
-use Rattle.bitmap.proofs.mark_part.Statement.{statement}
-use Rattle.bitmap.proofs.mark_part.Tie as tie
+use Rattle.bitmap.proofs.parts.mark_part.Statement.{statement}
+use Rattle.bitmap.proofs.parts.mark_part.Tie as tie
 
 returns : tie.Need-returns
 unfolding marked

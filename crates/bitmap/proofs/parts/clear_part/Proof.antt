@@ -1,4 +1,4 @@
--- `bitmap::clear_part` meets its contract: a word and the complement of a mask is the word without the mask's bits, which is its part of the range cleared.
+-- `bitmap::parts::clear_part` meets its contract: a word and the complement of a mask is the word without the mask's bits, which is its part of the range cleared.
 use Prim.Native.Nat.{_/_}
 use borrow.Author.Needs.{needs}
 use lib.ListN.{getD}
@@ -6,8 +6,8 @@ use native.Mathlib.Omega.{arith}
 use Rattle.bitmap.specs.Map.{cleared}
 use Rattle.bitmap.proofs.Stores.{clear-word}
 use Rattle.bitmap.proofs.Word.{and-not}
-use Rattle.bitmap.proofs.clear_part.Statement.{statement}
-use Rattle.bitmap.proofs.clear_part.Tie as tie
+use Rattle.bitmap.proofs.parts.clear_part.Statement.{statement}
+use Rattle.bitmap.proofs.parts.clear_part.Tie as tie
 
 returns : tie.Need-returns
 unfolding cleared

@@ -1,11 +1,11 @@
--- `bitmap::mask` meets its contract: of the full word, the upper 64 - n bits are shifted out, and the n that are left are shifted to `lo`.
+-- `bitmap::parts::mask` meets its contract: of the full word, the upper 64 - n bits are shifted out, and the n that are left are shifted to `lo`.
 use Prim.Native.Nat.{_+_, _-_, _^_}
 use borrow.Author.Needs.{needs}
 use lib.Pow.{shl-exact, high, ones-lt, ones-split, high-ones}
 use mathlib.Core.Path.{_≡_}
 use native.Mathlib.Omega.{arith}
-use Rattle.bitmap.proofs.mask.Statement.{statement}
-use Rattle.bitmap.proofs.mask.Tie as tie
+use Rattle.bitmap.proofs.parts.mask.Statement.{statement}
+use Rattle.bitmap.proofs.parts.mask.Tie as tie
 
 returns : tie.Need-returns
 returns c =
