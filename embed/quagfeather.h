@@ -114,7 +114,17 @@ size_t quagfeather_write(const uint64_t *values, size_t values_length,
                          uint8_t *out, size_t out_length,
                          size_t *length);
 
-/* Sets `count` bits from `at` on, unless one is set (16) or the range or the map is too long (3). */
+/* For measurements, on a map of one's own: the `count` bits from `at` on. A range or a map that is
+ * too long is refused with 3.
+ */
+
+/* Answers 16 if one of them is set, and 0 if none is. */
+size_t quagfeather_overlap_test(const uint64_t *map, size_t map_length, size_t at, size_t count);
+
+/* Sets them, set already or not, and answers 0. */
+size_t quagfeather_mark_untested(uint64_t *map, size_t map_length, size_t at, size_t count);
+
+/* Sets them and answers 0, unless one is set (16). */
 size_t quagfeather_mark(uint64_t *map, size_t map_length, size_t at, size_t count);
 
 /* Replays a trace of at most `budget` entries into a text. Answers the text's length. */

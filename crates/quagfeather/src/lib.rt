@@ -8,7 +8,7 @@ ghost use Rattle.packet_words.specs.Writing.{writeFrom};
 ghost use Rattle.packed.specs.Running.{runOf};
 ghost use Rattle.packed.specs.Starting.{startOf};
 ghost use Rattle.replay.specs.Replaying.{replayOf};
-ghost use Rattle.quagfeather.specs.Exported.{texts, markOf};
+ghost use Rattle.quagfeather.specs.Exported.{inMap, markOf, markUntestedOf, overlapTestOf, texts};
 
 // The most words of a map, those of eight areas of 8,192 bytes.
 const MAP: usize = 1024;
@@ -70,23 +70,52 @@ pub extern "C" fn quagfeather_write(
     packet_words::write(values, raw_address, data, out, size)
 }
 
-// Marks a range of a map's bits, unless one of them is set.
-#[no_mangle]
-pub extern "C" fn quagfeather_mark(map: &mut [u64], at: usize, count: usize) -> usize
-    ensures { λ r. ⌜ record { refusal = r; map = now (map .exit) } ≡ markOf (now (map .entry)) at count ⌝ }
+// Whether a range of bits lies in a map of so many words, no longer than a set-up's.
+fn in_map(words: usize, at: usize, count: usize) -> bool
+    ensures { λ r. ⌜ r ≡ inMap words at count ⌝ }
 {
-    let words = map.len();
     if MAP < words {
-        return BAD_MAP;
+        return false;
     }
-    if !wire::ends_by(at, count, 64 * words) {
+    wire::ends_by(at, count, 64 * words)
+}
+
+// Whether one of a range of a map's bits is set: the overlap test by itself.
+#[no_mangle]
+pub extern "C" fn quagfeather_overlap_test(map: &[u64], at: usize, count: usize) -> usize
+    ensures { λ r. ⌜ r ≡ overlapTestOf (now (map .entry)) at count ⌝ }
+{
+    if !in_map(map.len(), at, count) {
         return BAD_MAP;
     }
     if bitmap::is_touched(map, at, count) {
         return TOUCHED;
     }
+    0
+}
+
+// Marks a range of a map's bits, set or not: marking by itself.
+#[no_mangle]
+pub extern "C" fn quagfeather_mark_untested(map: &mut [u64], at: usize, count: usize) -> usize
+    ensures { λ r. ⌜ record { refusal = r; map = now (map .exit) } ≡ markUntestedOf (now (map .entry)) at count ⌝ }
+{
+    if !in_map(map.len(), at, count) {
+        return BAD_MAP;
+    }
     bitmap::mark(map, at, count);
     0
+}
+
+// Marks a range of a map's bits, unless one of them is set: the test, and then the marks.
+#[no_mangle]
+pub extern "C" fn quagfeather_mark(map: &mut [u64], at: usize, count: usize) -> usize
+    ensures { λ r. ⌜ record { refusal = r; map = now (map .exit) } ≡ markOf (now (map .entry)) at count ⌝ }
+{
+    let tested = quagfeather_overlap_test(map, at, count);
+    if tested != 0 {
+        return tested;
+    }
+    quagfeather_mark_untested(map, at, count)
 }
 
 // Replays at most `budget` entries of a trace, and answers how many bytes of text it wrote. A text

@@ -103,6 +103,8 @@ fn wanted() -> Vec<Key> {
         .chain(result("write", &[6, 9, 10, 11, 21]))
         .chain(result("write of a wide field", &[6, 9, 10, 11, 21]))
         .chain(result("write of a wide connid", &[9, 10, 11, 21]))
+        .chain(result("overlap test", &[3, 16]))
+        .chain(result("mark untested", &[3]))
         .chain(result("mark", &[3, 16]))
         .chain(replay)
         .chain(refused(

@@ -100,7 +100,7 @@ fn cases(seed: u64, coverage: &mut Coverage) -> bool {
         18 => (0..20).all(|_| agrees(seed, "the writer", &single::write(random), coverage)),
         _ => (0..5).all(|_| {
             agrees(seed, "set-up", &single::set_up(random), coverage)
-                && agrees(seed, "mark", &single::mark(random), coverage)
+                && agrees(seed, "a range of a map", &single::mark(random), coverage)
         }),
     }
 }

@@ -1,4 +1,4 @@
-//! Functions that take no list of calls: set-up, reader, writer and mark.
+//! Functions that take no list of calls: set-up, reader, writer, overlap test and marks.
 
 use reference::packed::{self, STATE_WORDS, VALUE_WORDS};
 
@@ -231,8 +231,27 @@ impl Case for Write {
     }
 }
 
+/// What is done with a range of a map.
+#[derive(Clone, Copy)]
+enum Marking {
+    Test,
+    Mark,
+    Both,
+}
+
+impl Marking {
+    fn name(self) -> &'static str {
+        match self {
+            Marking::Test => "overlap test",
+            Marking::Mark => "mark untested",
+            Marking::Both => "mark",
+        }
+    }
+}
+
 #[derive(Clone)]
 pub struct Mark {
+    marking: Marking,
     map: Vec<u64>,
     at: usize,
     count: usize,
@@ -252,6 +271,7 @@ pub fn mark(random: &mut Random) -> Mark {
     };
     let at = if random.chance(3) { random.wild() } else { at };
     Mark {
+        marking: random.pick(&[Marking::Test, Marking::Mark, Marking::Both]),
         map,
         at: at as usize,
         count: count as usize,
@@ -263,22 +283,32 @@ impl Case for Mark {
 
     fn reference(&self) -> Self::Outcome {
         let mut map = self.map.clone();
-        (number(packed::mark(&mut map, self.at, self.count)), map)
+        let result = match self.marking {
+            Marking::Test => packed::overlap_test(&map, self.at, self.count),
+            Marking::Mark => packed::mark_untested(&mut map, self.at, self.count),
+            Marking::Both => packed::mark(&mut map, self.at, self.count),
+        };
+        (number(result), map)
     }
 
     fn verified(&self) -> Self::Outcome {
         let mut map = self.map.clone();
-        let result = quagfeather::mark(&mut map, self.at, self.count);
+        let result = match self.marking {
+            Marking::Test => quagfeather::overlap_test(&map, self.at, self.count),
+            Marking::Mark => quagfeather::mark_untested(&mut map, self.at, self.count),
+            Marking::Both => quagfeather::mark(&mut map, self.at, self.count),
+        };
         (verified_number(result), map)
     }
 
     fn count(&self, outcome: &Self::Outcome, coverage: &mut Coverage) {
-        coverage.result("mark", outcome.0 as u64);
+        coverage.result(self.marking.name(), outcome.0 as u64);
     }
 
     fn describe(&self, reference: &Self::Outcome, verified: &Self::Outcome) -> String {
         format!(
-            "map of {} words, {} bits from {} on\nreference {}, verified {}\n",
+            "{}: map of {} words, {} bits from {} on\nreference {}, verified {}\n",
+            self.marking.name(),
             self.map.len(),
             self.count,
             self.at,

@@ -70,6 +70,20 @@ mod library {
             length: *mut usize,
         ) -> usize;
 
+        pub fn quagfeather_overlap_test(
+            map: *const u64,
+            map_length: usize,
+            at: usize,
+            count: usize,
+        ) -> usize;
+
+        pub fn quagfeather_mark_untested(
+            map: *mut u64,
+            map_length: usize,
+            at: usize,
+            count: usize,
+        ) -> usize;
+
         pub fn quagfeather_mark(map: *mut u64, map_length: usize, at: usize, count: usize)
             -> usize;
 
@@ -188,6 +202,20 @@ pub fn write(
             out.len(),
             length,
         )
+    })
+}
+
+/// Refuses a range of `count` bits of a map from `at` on of which one is set: the overlap test by itself.
+pub fn overlap_test(map: &[u64], at: usize, count: usize) -> Result<(), Refusal> {
+    // SAFETY: pointer and length are those of the reference.
+    taken_unless(unsafe { library::quagfeather_overlap_test(map.as_ptr(), map.len(), at, count) })
+}
+
+/// Sets `count` bits of a map from `at` on, set already or not: marking by itself.
+pub fn mark_untested(map: &mut [u64], at: usize, count: usize) -> Result<(), Refusal> {
+    // SAFETY: pointer and length are those of the reference.
+    taken_unless(unsafe {
+        library::quagfeather_mark_untested(map.as_mut_ptr(), map.len(), at, count)
     })
 }
 

@@ -413,15 +413,31 @@ pub fn write(values: &[u64], address: &[u8], data: &[u8], out: &mut [u8]) -> Res
     packet::write(&packet, out)
 }
 
-/// Sets a range of bits, unless one of them is set already.
-pub fn mark(map: &mut [u64], at: usize, count: usize) -> Result<(), u8> {
-    let end = at
-        .checked_add(count)
+/// Where a range of a map's bits ends, if it lies in a map that a set-up can have.
+fn end_in(map: &[u64], at: usize, count: usize) -> Result<usize, u8> {
+    at.checked_add(count)
         .filter(|end| map.len() <= MAX_MAP_WORDS && *end <= 64 * map.len())
-        .ok_or(refusal::LENT_LENGTH)?;
+        .ok_or(refusal::LENT_LENGTH)
+}
+
+/// Refuses a range of bits of which one is set already.
+pub fn overlap_test(map: &[u64], at: usize, count: usize) -> Result<(), u8> {
+    let end = end_in(map, at, count)?;
     if bits::any(map, at, end) {
         return Err(refusal::SEGMENT_OVERLAP);
     }
+    Ok(())
+}
+
+/// Sets a range of bits, whether they are set already or not.
+pub fn mark_untested(map: &mut [u64], at: usize, count: usize) -> Result<(), u8> {
+    let end = end_in(map, at, count)?;
     bits::mark(map, at, end);
     Ok(())
+}
+
+/// Sets a range of bits, unless one of them is set already.
+pub fn mark(map: &mut [u64], at: usize, count: usize) -> Result<(), u8> {
+    overlap_test(map, at, count)?;
+    mark_untested(map, at, count)
 }

@@ -459,3 +459,16 @@ fn marks() {
     assert_eq!(packed::mark(&mut [0; 1_024], 0, 65_536), Ok(()));
     assert_eq!(packed::mark(&mut [0; 1_025], 0, 1), Err(3));
 }
+
+#[test]
+fn tests_without_marks_and_marks_without_a_test() {
+    let mut map = [0, 1 << 5, 0];
+    assert_eq!(packed::overlap_test(&map, 60, 9), Ok(()));
+    assert_eq!(packed::overlap_test(&map, 60, 10), Err(16));
+    assert_eq!(packed::overlap_test(&map, 70, 122), Ok(()));
+    assert_eq!(packed::overlap_test(&map, 70, 123), Err(3));
+    assert_eq!(packed::mark_untested(&mut map, 60, 10), Ok(()));
+    assert_eq!(map, [0xF << 60, 0x3F, 0]);
+    assert_eq!(packed::mark_untested(&mut map, 192, 1), Err(3));
+    assert_eq!(map, [0xF << 60, 0x3F, 0]);
+}
