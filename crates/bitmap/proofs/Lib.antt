@@ -3,6 +3,7 @@ pub mod Counts
 pub mod CoverLaws
 pub mod Edited
 pub mod Runs
+pub mod SentencesHold
 pub mod SplitLaws
 pub mod Stores
 pub mod Word

@@ -2,4 +2,5 @@ pub mod Map
 pub mod Mask
 pub mod Offsets
 pub mod Ranges
+pub mod Sentences
 pub mod WholeWords
