@@ -1,4 +1,4 @@
--- The statements of specs/Sentences.antt hold: what marking, clearing and the overlap test are, bit by bit.
+-- The statements of specs/Sentences.antt hold: what marking, clearing and the overlap test are, over the numbers in the map.
 use Prim.Native.Nat.{ℕ, zero, suc, _+_}
 use borrow.Author.Tests.{eq-eqb, eqb-true}
 use lib.Dec.{eqb}
@@ -8,15 +8,17 @@ use mathlib.Core.Logic.{_⊎_, inl, inr, ⊎-elim}
 use mathlib.Core.Path.{_≡_, refl, sym, ap, _∙_}
 use native.Mathlib.Omega.{arith}
 use Rattle.laws.proofs.Comparing.{eq-or-ne}
-use Rattle.bitmap.specs.Map.{bitAt, touched}
+use Rattle.bitmap.specs.Map.{bit, bitAt, touched}
 use Rattle.bitmap.specs.Sentences.{ClearClearsTheRange, InRange, MarkSetsTheRange, OverlapIsASetBit}
 use Rattle.bitmap.proofs.BitLaws.{cleared-in, cleared-out, length-cleared, length-marked, marked-in, marked-out}
 
 pub mark-sets-the-range : MarkSetsTheRange
+unfolding bitAt bit
 mark-sets-the-range m at n h =
     (λ i r. marked-in m at n i (r .0) (r .1) (omega (arith, r .1)), λ i r. marked-out m at n i r, length-marked m at n)
 
 pub clear-clears-the-range : ClearClearsTheRange
+unfolding bitAt bit
 clear-clears-the-range m at n = (λ i r. cleared-in m at n i (r .0) (r .1), λ i r. cleared-out m at n i r, length-cleared m at n)
 
 or-either : (a b : Bool) → (a || b) ≡ true → (a ≡ true) ⊎ (b ≡ true)
@@ -46,4 +48,5 @@ set-found m at (suc n) i r b =
     (eq-or-ne i (at + n))
 
 pub overlap-is-a-set-bit : OverlapIsASetBit
+unfolding bitAt bit
 overlap-is-a-set-bit m at n = (found m at n, λ x. set-found m at n (x .0) (x .1) (x .2))
