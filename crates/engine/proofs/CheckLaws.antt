@@ -135,13 +135,13 @@ pub record Passed (fits : Bool) (n area arena map p : ℕ) : Type 0 where
 pub gate-open : (fits : Bool) (n area arena map p : ℕ) → gateOf fits n area arena map p ≡ Gate.Open → Passed fits n area arena map p
 unfolding gateOf
 gate-open fits n area arena map p e =
-    let (state, e) = pick-first _ _ _ _ shut e in
-    let (lent, e) = pick-first _ _ _ _ shut e in
-    let (peer, e) = pick-first _ _ _ _ shut e in
+    let (state, e) = pick-first _ _ _ _ not-open e in
+    let (lent, e) = pick-first _ _ _ _ not-open e in
+    let (peer, e) = pick-first _ _ _ _ not-open e in
     record { state = state; lent = lent; peer = ltb-true p n peer }
   where
-    shut : {k : Refusal} → Gate.Refused k ≡ Gate.Open → ⊥
-    shut x = let z : _≡_ {A = ℕ} 0 1 = cc in omega arith
+    not-open : {k : Refusal} → Gate.Refused k ≡ Gate.Open → ⊥
+    not-open x = let z : _≡_ {A = ℕ} 0 1 = cc in omega arith
 
 -- behind an open gate there is a peer of this number, and it owns its part of arena and map
 pub record Opened (e : Engine) (arena map p : ℕ) : Type 0 where

@@ -1,9 +1,9 @@
 -- One peer's step in its own part, put back into the whole.
 use Prim.Native.Nat.{ℕ, _+_, _*_, _/_, _≤_}
 use lib.ListN.{length, getD}
-use lib.Seq.{take-all}
 use mathlib.Core.List.{List, []}
 use mathlib.Core.Path.{_≡_, sym, ap, ap₂, _∙_}
+use native.Mathlib.Nat.{sub-zero}
 use native.Mathlib.Omega.{arith}
 use Rattle.laws.specs.Parts.{part}
 use Rattle.engine.specs.Gates.{throughGate}
@@ -19,7 +19,7 @@ use Rattle.peer.specs.Effects.{quiet}
 use Rattle.peer.specs.State.{freshPeer}
 use Rattle.peer.specs.declared.types.Answer.{Answer}
 use Rattle.peer.specs.declared.types.Peer.{Peer}
-use Rattle.laws.proofs.Storing.{store-nothing, store-own}
+use Rattle.laws.proofs.Storing.{part-rest, store-nothing, store-own}
 use Rattle.laws.proofs.Listing.{getD-any}
 use Rattle.engine.proofs.CheckLaws.{Gated, opened, through}
 
@@ -41,23 +41,22 @@ putIn e p l =
       reply = l .reply;
     }
 
--- the part that is the whole
-part-whole : (l : List ℕ) → part l 0 (length l) ≡ l
-unfolding part
-part-whole l = take-all (length l) l (omega arith)
+-- a part that is all of the list
+all-of : (l : List ℕ) → part l 0 (length l) ≡ l
+all-of l = rw sub-zero at (part-rest l 0)
 
 -- ---- a call that its gate lets through, and one that it does not
 
 module _ (w : World) {p : ℕ} {g : Gate} (x : Gated (w .engine) (length (w .arena)) (length (w .map)) p g) where
-  pub shut-turn : {k : Refusal} (c : Call) → g ≡ Gate.Refused k → refusedTurn w k ≡ callTurn w p c
+  pub refused-call : {k : Refusal} (c : Call) → g ≡ Gate.Refused k → refusedTurn w k ≡ callTurn w p c
   unfolding throughGate
-  shut-turn {k} c z = sym (through w p c (Gate.Refused k) x z)
+  refused-call {k} c z = sym (through w p c (Gate.Refused k) x z)
 
   -- a refused call leaves what it is lent
-  pub shut-leaves : {k : Refusal} (c : Call) (reply : List ℕ) → g ≡ Gate.Refused k
+  pub refused-call-leaves : {k : Refusal} (c : Call) (reply : List ℕ) → g ≡ Gate.Refused k
       → _≡_ {A = CallLeaves} (record { outcome = record { engine = w .engine; answer = Answer.Refused k }; arena = w .arena; map = w .map; reply = reply })
       (callLeaves reply (callTurn w p c))
-  shut-leaves c reply z = rw (← shut-turn c z) (rw (store-nothing reply 0))
+  refused-call-leaves c reply z = rw (← refused-call c z) (rw (store-nothing reply 0))
 
   module _ (z : g ≡ Gate.Open) where
     step-of : (d : Peer) → getD (w .engine .peers) p d ≡ peerAt (w .engine) p
@@ -84,5 +83,5 @@ module _ (w : World) {p : ℕ} {g : Gate} (x : Gated (w .engine) (length (w .are
     packet-call d bs reply l e =
         let leaves : Peer → Call → Lent = λ y c. leavesAt 0 (w .engine .area) p (w .arena) (w .map) reply (peerStep (w .engine .area) (w .engine .limit) y (wordsOf w p) c) in
         ap (putIn (w .engine) p)
-        (e ∙ ap₂ leaves (step-of d) (ap₂ packet (part-whole bs) (ap length (part-whole reply))))
+        (e ∙ ap₂ leaves (step-of d) (ap₂ packet (all-of bs) (ap length (all-of reply))))
         ∙ ap (callLeaves reply) (sym (through w p (packet bs (length reply)) Gate.Open x z))

@@ -34,9 +34,9 @@ module _ {good : Bool} (w : World) (p : ℕ) (s : CheckedOnce good (w .engine)) 
   gate = record { eight = s .eights .peers; says = rw (s .state) (rw (good-numbers (w .engine) good (s .state)) at y) }
 
   -- a call that is not let through
-  pub once-shut : (k : Refusal) (c : Call) → g ≡ Gate.Refused k → callTurn w p c ≡ refusedTurn w k
+  pub once-refused : (k : Refusal) (c : Call) → g ≡ Gate.Refused k → callTurn w p c ≡ refusedTurn w k
   unfolding throughGate
-  once-shut k c z = through w p c (Gate.Refused k) gate z
+  once-refused k c z = through w p c (Gate.Refused k) gate z
 
   module _ (z : g ≡ Gate.Open) where
     pub once-passed : Passed good (w .engine .n) (w .engine .area) (length (w .arena)) (length (w .map)) p

@@ -28,7 +28,7 @@ use Rattle.engine.proofs.WorldTurns.{turn-own}
 use Rattle.guarantees.specs.Outputs.{RunLeaves, outputOf, repliesAfter, requestsOf}
 use Rattle.guarantees.specs.Runs.{worldAfter}
 use Rattle.guarantees.specs.Receiving.{receiving, requestOf, turnOf}
-use Rattle.guarantees.proofs.CheckedOnce.{CheckedOnce, once-good, once-in-peers, once-passed, once-shut, once-turn}
+use Rattle.guarantees.proofs.CheckedOnce.{CheckedOnce, once-good, once-in-peers, once-passed, once-refused, once-turn}
 
 -- of a reply buffer only the length counts
 turn-lent : (w : World) (bytes a b : List ℕ) (peer : ℕ) (c : Call) → length a ≡ length b → LiesWithin (length bytes) (length a) c
@@ -140,10 +140,10 @@ module _ {bytes buffers : List ℕ} {form : Answer → List ℕ} {size most : �
     module _ {good : Bool} (s : CheckedOnce good (w .engine)) (o : Gate)
         (y : o ≡ gateOf (good && numbersFit (w .engine .n) (w .engine .area) (w .engine .limit)) (w .engine .n) (w .engine .area) (length (w .arena)) (length (w .map)) (q .peer)) where
       -- it is refused before it comes to its peer
-      pub run-shut : (k : Refusal) → o ≡ Gate.Refused k → CallMade bytes buffers form size most all qs good output at taken w replies (Answer.Refused k)
-      run-shut k z =
+      pub run-refused : (k : Refusal) → o ≡ Gate.Refused k → CallMade bytes buffers form size most all qs good output at taken w replies (Answer.Refused k)
+      run-refused k z =
           let e : refusedTurn w k ≡ turnOf w (requestOf bytes replies q) =
-          unfold turnOf in sym (once-shut w (q .peer) s o y k (callOf (lentCallOf bytes replies (q .call))) z) in
+          unfold turnOf in sym (once-refused w (q .peer) s o y k (callOf (lentCallOf bytes replies (q .call))) z) in
           let n = store-nothing replies (replyPlace (q .call)) in
           record { once = s; next = λ at′ output′ a b. rw (a, b) (rw n at (run-next (refusedTurn w k) e (ap length n))) }
 

@@ -1,4 +1,4 @@
-// Post and cancel of one peer. They serve `calls` and `lending`; nothing that is lent changes.
+// Post and cancel of one peer. They serve `lending`; nothing that is lent changes.
 mod ages;
 mod calls;
 mod places;

@@ -4,9 +4,9 @@
 //! loop over bits does the same here. Both are held against each other before they are timed.
 
 use std::hint::black_box;
-use std::time::{Duration, Instant};
+use std::time::Instant;
 
-use crate::measure::{in_turn, Times};
+use crate::measure::{in_turn, on_clear_maps, Times};
 use crate::workload::AREA;
 
 /// The bytes of the segment.
@@ -145,23 +145,15 @@ fn compare() {
 fn measured(marking: Marking, at: usize) -> (Times, Times) {
     let mut sides = [vec![[0; WORDS]; MAPS], vec![[0; WORDS]; MAPS]];
     let times = in_turn(|words| {
-        let maps = &mut sides[usize::from(words)];
-        let mut total = Duration::ZERO;
-        for _ in 0..ROUNDS {
-            maps.iter_mut().for_each(|map| map.fill(0));
-            let since = Instant::now();
-            for map in maps.iter_mut() {
-                let (map, at) = black_box((map, at));
-                let taken = if words {
-                    by_words(marking, map, at, COUNT)
-                } else {
-                    by_bits(marking, map, at, COUNT)
-                };
-                assert!(taken);
-            }
-            total += since.elapsed();
-        }
-        total
+        on_clear_maps(&mut sides[usize::from(words)], ROUNDS, |map| {
+            let (map, at) = black_box((map, at));
+            let taken = if words {
+                by_words(marking, map, at, COUNT)
+            } else {
+                by_bits(marking, map, at, COUNT)
+            };
+            assert!(taken);
+        })
     });
     assert!(sides[0] == sides[1], "by words and bit by bit differ");
     times

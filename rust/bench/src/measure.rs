@@ -1,6 +1,6 @@
 //! Times of two that take turns.
 
-use std::time::Duration;
+use std::time::{Duration, Instant};
 
 pub const REPETITIONS: usize = 31;
 
@@ -51,6 +51,22 @@ pub fn in_turn(mut run: impl FnMut(bool) -> Duration) -> (Times, Times) {
     verified.sort();
     reference.sort();
     (Times(verified), Times(reference))
+}
+
+/// The time of `each` over the maps, in so many rounds; every map is cleared before, unmeasured.
+pub fn on_clear_maps<const WORDS: usize>(
+    maps: &mut [[u64; WORDS]],
+    rounds: usize,
+    mut each: impl FnMut(&mut [u64; WORDS]),
+) -> Duration {
+    let mut total = Duration::ZERO;
+    for _ in 0..rounds {
+        maps.iter_mut().for_each(|map| map.fill(0));
+        let since = Instant::now();
+        maps.iter_mut().for_each(&mut each);
+        total += since.elapsed();
+    }
+    total
 }
 
 /// The verified one's median time over the other's.

@@ -1,12 +1,12 @@
 //! Parts of a receiver on their own: marking, reading and writing a packet, a run of one call.
 
 use std::hint::black_box;
-use std::time::{Duration, Instant};
+use std::time::Instant;
 
 use reference::packed::{self, VALUE_WORDS};
 use reference::packet::{self, Packet};
 
-use crate::measure::{in_turn, ratio, Times};
+use crate::measure::{in_turn, on_clear_maps, ratio, Times};
 use crate::runs::Lent;
 use crate::workload::{content, written, AREA};
 
@@ -71,22 +71,14 @@ fn marks() -> Measured {
         vec![[0; AREA as usize / 64]; maps],
     ];
     let (verified, reference) = in_turn(|verified| {
-        let maps = &mut sides[usize::from(verified)];
-        let mut total = Duration::ZERO;
-        for _ in 0..rounds {
-            maps.iter_mut().for_each(|map| map.fill(0));
-            let since = Instant::now();
-            for map in maps.iter_mut() {
-                let taken = if verified {
-                    quagfeather::mark(map, at, count).is_ok()
-                } else {
-                    packed::mark(black_box(map), at, count).is_ok()
-                };
-                assert!(taken);
-            }
-            total += since.elapsed();
-        }
-        total
+        on_clear_maps(&mut sides[usize::from(verified)], rounds, |map| {
+            let taken = if verified {
+                quagfeather::mark(map, at, count).is_ok()
+            } else {
+                packed::mark(black_box(map), at, count).is_ok()
+            };
+            assert!(taken);
+        })
     });
     assert!(sides[0] == sides[1], "the receivers differ");
     Measured {

@@ -7,7 +7,7 @@ use native.Mathlib.Omega.{arith}
 use Rattle.laws.proofs.Listing.{length-mapped}
 use Rattle.peer.specs.Calls.{cancel}
 use Rattle.engine.proofs.CheckLaws.{Gated, Walked, gated, opened, walk-below, walk-start, walk-turn}
-use Rattle.engine.proofs.PutBack.{quiet-call, shut-turn}
+use Rattle.engine.proofs.PutBack.{quiet-call, refused-call}
 use Rattle.calls.proofs.cancel.Statement.{statement}
 use Rattle.calls.proofs.cancel.Tie as tie
 
@@ -44,5 +44,5 @@ cancel-spec =
     (λ c κs. opened (passed (c .before .before .before)) (c .before .enum-told .given .1) .owns _ .mapped)
     (λ c. omega (arith, opened (passed (c .before .before .before .before .before)) (c .before .before .before .enum-told .given .1) .below))
     (λ c. omega (arith, opened (passed (c .before .before .before .before .before)) (c .before .before .before .enum-told .given .1) .below))
-    (λ c. shut-turn _ (passed (c .before .before .before)) (cancel _) (c .before .refusal .given .1))
+    (λ c. refused-call _ (passed (c .before .before .before)) (cancel _) (c .before .refusal .given .1))
     makes)

@@ -7,7 +7,7 @@ use native.Mathlib.Omega.{arith}
 use Rattle.laws.proofs.Listing.{length-mapped}
 use Rattle.peer.specs.Calls.{packet}
 use Rattle.engine.proofs.CheckLaws.{Gated, Walked, gated, opened, walk-below, walk-start, walk-turn}
-use Rattle.engine.proofs.PutBack.{packet-call, shut-leaves}
+use Rattle.engine.proofs.PutBack.{packet-call, refused-call-leaves}
 use Rattle.calls.proofs.packet.Statement.{statement}
 use Rattle.calls.proofs.packet.Tie as tie
 
@@ -41,7 +41,7 @@ packet-spec =
     (λ c κs. (opened (passed (c .before .before .before .before .before .before)) (c .before .before .before .before .enum-told .given .1) .owns _, (omega arith, omega arith)))
     (λ c. omega (arith, opened (passed (c .before .before .before .before .before .before .before .before .before .before .before .before .before .before)) (c .before .before .before .before .before .before .before .before .before .before .before .before .enum-told .given .1) .below))
     (λ c. omega (arith, opened (passed (c .before .before .before .before .before .before .before .before .before .before .before .before .before .before)) (c .before .before .before .before .before .before .before .before .before .before .before .before .enum-told .given .1) .below))
-    (λ c. shut-leaves _ (passed (c .before .before .before)) (packet _ _) _ (c .before .refusal .given .1))
+    (λ c. refused-call-leaves _ (passed (c .before .before .before)) (packet _ _) _ (c .before .refusal .given .1))
     (λ c. search needs)
     (λ c. search needs)
     (λ c. search needs)

@@ -8,7 +8,7 @@ use mathlib.Core.Path.{_≡_, refl, sym, _∙_}
 use native.Mathlib.Omega.{arith}
 use Rattle.engine.specs.Leaves.{world}
 use Rattle.guarantees.proofs.CheckedOnce.{CheckedOnce, once-in-peers, once-owned}
-use Rattle.guarantees.proofs.RunInvariant.{run-open, run-room, run-shut}
+use Rattle.guarantees.proofs.RunInvariant.{run-open, run-refused, run-room}
 use Rattle.packed.specs.Calls.{requestAt}
 use Rattle.packed.specs.Running.{ranFrom}
 use Rattle.packed.specs.declared.types.FoundRequest.{FoundRequest}
@@ -133,7 +133,7 @@ loop-again c =
     let p = c .before .before .put-answer in
     ⊎-elim
     (λ x.
-    let m = run-shut r i (l .inv .4) _ (k .admit .ensures) _ (x .1 .given .1) in
+    let m = run-refused r i (l .inv .4) _ (k .admit .ensures) _ (x .1 .given .1) in
     rw (x .3, x .4, x .5, x .6) (
       l .inv .0,
       l .inv .1,

@@ -12,7 +12,7 @@ use Rattle.trace.specs.Entries.{entryAt}
 use Rattle.trace.specs.declared.types.FoundEntry.{FoundEntry}
 use Rattle.guarantees.specs.Outputs.{runLeaves}
 use Rattle.guarantees.proofs.CheckedOnce.{CheckedOnce, once-in-peers, once-owned}
-use Rattle.guarantees.proofs.RunInvariant.{run-open, run-room, run-shut}
+use Rattle.guarantees.proofs.RunInvariant.{run-open, run-refused, run-room}
 use Rattle.replay.specs.Decoding.{decode}
 use Rattle.replay.specs.Lines.{answerLine}
 use Rattle.replay.proofs.ReplayInvariant.{ReplayInvariant, replay-again, replay-bad, replay-end, replay-inside, replay-next, replay-start}
@@ -132,7 +132,7 @@ loop-again c =
     let p = c .before .before .put-answer in
     ⊎-elim
     (λ x.
-    let m = run-shut r i (l .inv .4) _ (k .admit .ensures) _ (x .1 .given .1) in
+    let m = run-refused r i (l .inv .4) _ (k .admit .ensures) _ (x .1 .given .1) in
     rw (x .3, x .4, x .5, x .6) (
       l .inv .0,
       l .inv .1,
