@@ -21,10 +21,11 @@ use Rattle.engine.specs.declared.types.Gate.{Gate}
 use Rattle.laws.specs.Choose.{pick}
 use Rattle.protocol.specs.declared.types.Refusal.{Refusal}
 use Rattle.peer.specs.Calls.{Call}
-use Rattle.peer.specs.State.{peerFits}
+use Rattle.peer.specs.State.{peerFits, areaLimit}
 use Rattle.peer.specs.declared.types.Peer.{Peer}
 use Rattle.engine.proofs.Worlds.{lent-lengths, part-inside, sized}
 use Rattle.laws.proofs.Choosing.{and-left, and-right, pick-first}
+use Rattle.protocol.specs.Limits.{packetLimit}
 
 -- ---- the numbers
 
@@ -35,8 +36,8 @@ small n area limit e =
     let b = and-right (leb n peerCount) _ a in
     let d = and-right (leb 64 area) _ b in
     record {
-      few = leb-true n peerCount (and-left _ (leb 64 area && (leb area 8192 && (eqb (area % 64) 0 && (leb 64 limit && leb limit 8192)))) a);
-      short = leb-true area 8192 (and-left _ (eqb (area % 64) 0 && (leb 64 limit && leb limit 8192)) d);
+      few = leb-true n peerCount (and-left _ (leb 64 area && (leb area areaLimit && (eqb (area % 64) 0 && (leb 64 limit && leb limit packetLimit)))) a);
+      short = leb-true area areaLimit (and-left _ (eqb (area % 64) 0 && (leb 64 limit && leb limit packetLimit)) d);
     }
 
 pub arena-small : (n area : ℕ) → SmallArena n area → n * area ≤ 65536

@@ -16,29 +16,30 @@ use Rattle.protocol.specs.Checks.{Result, gives, refused}
 use Rattle.peer.specs.Checks.{checksOf}
 use Rattle.peer.specs.Claims.{AreBytes}
 use Rattle.peer.specs.Says.{Saying, said, say}
-use Rattle.peer.specs.State.{freshPeer, peerFits}
+use Rattle.peer.specs.State.{freshPeer, peerFits, areaLimit}
 use Rattle.peer.specs.declared.types.Peer.{Peer}
 use Rattle.engine.specs.Checks.{TurnFails, WithIds, Outside, SetUpFails, SetUpIsChecked, TurnsAreChecked, WrongLengths, cannotBe, checksAt, highLimit, longArea, lowLimit, manyPeers, noPeer, turnRefusedAs, own, readySays, shortArea, unevenArea}
-use Rattle.engine.specs.SetUp.{Prepared, allPeersFit, engineFits, lentFits, numbersFit, peerAt, setUp}
+use Rattle.engine.specs.SetUp.{Prepared, allPeersFit, engineFits, lentFits, numbersFit, peerAt, peerCount, setUp}
 use Rattle.engine.specs.Steps.{World, callTurn, peerTurn, putBack, wordsOf}
 use Rattle.engine.proofs.AreaBits.{word-of}
 use Rattle.laws.proofs.Choosing.{and-left, and-right, branch, tested}
 use Rattle.laws.proofs.Comparing.{both-tests, eq-words, le-words}
-use Rattle.peer.proofs.AcceptOrRefuse.{step-checked}
-use Rattle.peer.proofs.CannotBeLaws.{and-fails, cannot-be-if-a-clause-is-broken}
-use Rattle.peer.proofs.FirstLaws.{Gone, gone-as, gone-refused}
+use Rattle.peer.proofs.refusals.AcceptOrRefuse.{step-checked}
+use Rattle.peer.proofs.slots.CannotBeLaws.{and-fails, cannot-be-if-a-clause-is-broken}
+use Rattle.peer.proofs.refusals.FirstLaws.{Gone, gone-as, gone-refused}
+use Rattle.protocol.specs.Limits.{packetLimit}
 
 -- ---- the numbers
 
 module _ (n area limit : ℕ) where
   numbers-words : (numbersFit n area limit ≡ true)
-      ↔ ((1 ≤ n) × ((n ≤ 8) × ((64 ≤ area) × ((area ≤ 8192) × ((area % 64 ≡ 0) × ((64 ≤ limit) × (limit ≤ 8192)))))))
+      ↔ ((1 ≤ n) × ((n ≤ peerCount) × ((64 ≤ area) × ((area ≤ areaLimit) × ((area % 64 ≡ 0) × ((64 ≤ limit) × (limit ≤ packetLimit)))))))
   unfolding numbersFit
   numbers-words =
-      both-tests (le-words 1 n) (both-tests (le-words n 8) (both-tests (le-words 64 area) (both-tests (le-words area 8192) (both-tests (eq-words (area % 64) 0)
-      (both-tests (le-words 64 limit) (le-words limit 8192))))))
+      both-tests (le-words 1 n) (both-tests (le-words n peerCount) (both-tests (le-words 64 area) (both-tests (le-words area areaLimit) (both-tests (eq-words (area % 64) 0)
+      (both-tests (le-words 64 limit) (le-words limit packetLimit))))))
 
-  few : numbersFit n area limit ≡ true → n ≤ 8
+  few : numbersFit n area limit ≡ true → n ≤ peerCount
   few e = numbers-words .0 e .1 .0
 
   whole : numbersFit n area limit ≡ true → area % 64 ≡ 0
@@ -57,17 +58,17 @@ module _ (n area limit : ℕ) where
   unfolding numbersFit
   outside e =
       ⊎-elim (λ x. noPeer (leb-false 1 n x)) (λ e.
-      ⊎-elim (λ x. manyPeers (leb-false n 8 x)) (λ e.
+      ⊎-elim (λ x. manyPeers (leb-false n peerCount x)) (λ e.
       ⊎-elim (λ x. shortArea (leb-false 64 area x)) (λ e.
-      ⊎-elim (λ x. longArea (leb-false area 8192 x)) (λ e.
+      ⊎-elim (λ x. longArea (leb-false area areaLimit x)) (λ e.
       ⊎-elim (λ x. unevenArea (eqb-false (area % 64) 0 x)) (λ e.
-      ⊎-elim (λ x. lowLimit (leb-false 64 limit x)) (λ x. highLimit (leb-false limit 8192 x))
-      (and-fails (leb 64 limit) (leb limit 8192) e))
-      (and-fails (eqb (area % 64) 0) (leb 64 limit && leb limit 8192) e))
-      (and-fails (leb area 8192) (eqb (area % 64) 0 && (leb 64 limit && leb limit 8192)) e))
-      (and-fails (leb 64 area) (leb area 8192 && (eqb (area % 64) 0 && (leb 64 limit && leb limit 8192))) e))
-      (and-fails (leb n 8) (leb 64 area && (leb area 8192 && (eqb (area % 64) 0 && (leb 64 limit && leb limit 8192)))) e))
-      (and-fails (leb 1 n) (leb n 8 && (leb 64 area && (leb area 8192 && (eqb (area % 64) 0 && (leb 64 limit && leb limit 8192))))) e)
+      ⊎-elim (λ x. lowLimit (leb-false 64 limit x)) (λ x. highLimit (leb-false limit packetLimit x))
+      (and-fails (leb 64 limit) (leb limit packetLimit) e))
+      (and-fails (eqb (area % 64) 0) (leb 64 limit && leb limit packetLimit) e))
+      (and-fails (leb area areaLimit) (eqb (area % 64) 0 && (leb 64 limit && leb limit packetLimit)) e))
+      (and-fails (leb 64 area) (leb area areaLimit && (eqb (area % 64) 0 && (leb 64 limit && leb limit packetLimit))) e))
+      (and-fails (leb n peerCount) (leb 64 area && (leb area areaLimit && (eqb (area % 64) 0 && (leb 64 limit && leb limit packetLimit)))) e))
+      (and-fails (leb 1 n) (leb n peerCount && (leb 64 area && (leb area areaLimit && (eqb (area % 64) 0 && (leb 64 limit && leb limit packetLimit))))) e)
 
   -- ---- the lengths
 

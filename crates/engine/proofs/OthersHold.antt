@@ -22,8 +22,8 @@ use Rattle.engine.proofs.CheckLaws.{fit-numbers, fit-peer, small}
 use Rattle.engine.proofs.Worlds.{Good, kept, lengths, part-inside, parts-apart, sized, words}
 use Rattle.laws.proofs.Choosing.{branch}
 use Rattle.laws.proofs.Reading.{getD-store-out}
-use Rattle.peer.proofs.Kept.{Kept}
-use Rattle.peer.proofs.Valid.{fits-valid}
+use Rattle.peer.proofs.step.Kept.{Kept}
+use Rattle.peer.proofs.slots.Valid.{fits-valid}
 
 -- ---- what another peer has
 

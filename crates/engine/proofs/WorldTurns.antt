@@ -22,9 +22,9 @@ use Rattle.engine.proofs.Worlds.{Good, byteIn, good-fits, in-peers, kep
 use Rattle.laws.proofs.Choosing.{pick-false, pick-true}
 use Rattle.laws.proofs.Reading.{getD-store-in, getD-store-out, part-apart}
 use Rattle.laws.proofs.Storing.{length-store, part-store}
-use Rattle.peer.proofs.CoverageLaws.{Wrote}
-use Rattle.peer.proofs.Kept.{Kept}
-use Rattle.peer.proofs.Valid.{Valid}
+use Rattle.peer.proofs.plain.CoverageLaws.{Wrote}
+use Rattle.peer.proofs.step.Kept.{Kept}
+use Rattle.peer.proofs.slots.Valid.{Valid}
 
 abbrev peer-of : ℕ → List Slot → Peer
 peer-of next slots = record { next = next; slots = slots }

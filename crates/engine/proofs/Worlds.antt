@@ -14,12 +14,13 @@ use native.Mathlib.Omega.{arith}
 use Rattle.engine.specs.SetUp.{allPeersFit, engineFits, lentFits, numbersFit, peerAt, peerCount}
 use Rattle.engine.specs.Steps.{World, wordsOf}
 use Rattle.peer.specs.Calls.{Call, peerStep}
-use Rattle.peer.specs.State.{freshPeer, peerFits, slotCount}
+use Rattle.peer.specs.State.{freshPeer, peerFits, slotCount, areaLimit}
 use Rattle.peer.specs.declared.types.Peer.{Peer}
 use Rattle.laws.proofs.Choosing.{and-intro, and-left, and-right}
 use Rattle.laws.proofs.Storing.{length-part}
-use Rattle.peer.proofs.Kept.{Kept, step-kept}
-use Rattle.peer.proofs.Valid.{Valid, valid-fits}
+use Rattle.peer.proofs.step.Kept.{Kept, step-kept}
+use Rattle.peer.proofs.slots.Valid.{Valid, valid-fits}
+use Rattle.protocol.specs.Limits.{packetLimit}
 
 pub record Good (w : World) : Type 0 where
   pub numbers : numbersFit (w .engine .n) (w .engine .area) (w .engine .limit) ≡ true
@@ -39,7 +40,7 @@ pub record Sized (n area limit : ℕ) : Type 0 where
   pub low : 64 ≤ area
   pub whole : area % 64 ≡ 0
   pub limitLow : 64 ≤ limit
-  pub limitHigh : limit ≤ 8192
+  pub limitHigh : limit ≤ packetLimit
 
 pub sized : (n area limit : ℕ) → numbersFit n area limit ≡ true → Sized n area limit
 unfolding numbersFit
@@ -47,14 +48,14 @@ sized n area limit e =
     let a = and-right (leb 1 n) _ e in
     let b = and-right (leb n peerCount) _ a in
     let c = and-right (leb 64 area) _ b in
-    let d = and-right (leb area 8192) _ c in
+    let d = and-right (leb area areaLimit) _ c in
     let f = and-right (eqb (area % 64) 0) _ d in
     record {
-      few = leb-true n peerCount (and-left _ (leb 64 area && (leb area 8192 && (eqb (area % 64) 0 && (leb 64 limit && leb limit 8192)))) a);
-      low = leb-true 64 area (and-left _ (leb area 8192 && (eqb (area % 64) 0 && (leb 64 limit && leb limit 8192))) b);
-      whole = eqb-true (area % 64) 0 (and-left _ (leb 64 limit && leb limit 8192) d);
-      limitLow = leb-true 64 limit (and-left _ (leb limit 8192) f);
-      limitHigh = leb-true limit 8192 (and-right (leb 64 limit) _ f);
+      few = leb-true n peerCount (and-left _ (leb 64 area && (leb area areaLimit && (eqb (area % 64) 0 && (leb 64 limit && leb limit packetLimit)))) a);
+      low = leb-true 64 area (and-left _ (leb area areaLimit && (eqb (area % 64) 0 && (leb 64 limit && leb limit packetLimit))) b);
+      whole = eqb-true (area % 64) 0 (and-left _ (leb 64 limit && leb limit packetLimit) d);
+      limitLow = leb-true 64 limit (and-left _ (leb limit packetLimit) f);
+      limitHigh = leb-true limit packetLimit (and-right (leb 64 limit) _ f);
     }
 
 pub lent-lengths : (n area arena map : ℕ) → lentFits n area arena map ≡ true → (arena ≡ n * area) × (map ≡ n * (area / 64))

@@ -6,7 +6,7 @@ use protocol::Refusal;
 // All peers, of which the first n are in use, with the other set-up numbers: bytes of an area,
 // and the longest packet.
 pub struct Engine {
-    pub peers: [Peer; 8],
+    pub peers: [Peer; Engine::PEERS],
     pub n: usize,
     pub area: usize,
     pub limit: usize,

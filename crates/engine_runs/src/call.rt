@@ -3,6 +3,7 @@ use crate::drive;
 use crate::line;
 use crate::line::LineNumbers;
 use crate::print;
+use peer::LocalCall;
 use peer::Receive;
 ghost use Prim.Native.Nat.{_≤_};
 ghost use lib.ListN.{length};
@@ -36,21 +37,13 @@ pub(crate) struct LentLengths {
     pub reply: usize,
 }
 
-// A call of a peer that writes to no buffer.
-pub(crate) enum Ask {
-    Post(Receive),
-    // a slot
-    Cancel(usize),
-    Report(usize),
-}
-
 // What a line asks for.
 pub(crate) enum Command {
     None,
     Bad,
     SetUp(usize, usize, usize),
     // of this peer
-    Ask(usize, Ask),
+    Local(usize, LocalCall),
     // the peer, and how many bytes the packet has
     Packet(usize, usize),
     Lend(LentLengths),
@@ -86,7 +79,7 @@ fn post(v: [u64; 6]) -> Command {
         capacity: v[5] as usize,
     };
     if v[1] < 2 {
-        Command::Ask(v[0] as usize, Ask::Post(receive))
+        Command::Local(v[0] as usize, LocalCall::Post(receive))
     } else {
         Command::Bad
     }
@@ -122,8 +115,8 @@ fn call_of(name: u64, numbers: LineNumbers, digits: usize) -> Command {
         SHOW => Command::Show,
         LIMIT => Command::Limit(x),
         PACKET => packet(x, digits),
-        CANCEL => Command::Ask(x, Ask::Cancel(y)),
-        REPORT => Command::Ask(x, Ask::Report(y)),
+        CANCEL => Command::Local(x, LocalCall::Cancel(y)),
+        REPORT => Command::Local(x, LocalCall::Report(y)),
         SET_UP => Command::SetUp(x, y, z),
         LEND => lend(x, y, z),
         _ => post(v),

@@ -1,10 +1,10 @@
 // What a run hands from call to call, and the calls of the engine.
-use crate::call::Ask;
 use crate::call::Command;
 use crate::call::LentLengths;
 use crate::print;
 use engine::Engine;
 use engine::Outcome;
+use peer::LocalCall;
 use peer::Peer;
 ghost use Prim.Native.Nat.{_≤_};
 
@@ -23,8 +23,8 @@ const SOILED: u64 = 1;
 
 pub(crate) struct Run {
     pub engine: Engine,
-    pub arena: [u8; 512],
-    pub map: [u64; 8],
+    pub arena: [u8; ARENA],
+    pub map: [u64; MAP],
     pub lent: LentLengths,
 }
 
@@ -79,7 +79,7 @@ fn least(n: usize, most: usize) -> usize
 fn answered(
     engine: Engine,
     peer: usize,
-    what: Ask,
+    call: LocalCall,
     lent: LentLengths,
     arena: &[u8],
     map: &[u64],
@@ -88,18 +88,18 @@ fn answered(
     let m = least(lent.map, map.len());
     let arena_lent = &arena[0..a];
     let map_lent = &map[0..m];
-    match what {
-        Ask::Post(receive) => calls::post(engine, peer, receive, arena_lent, map_lent),
-        Ask::Cancel(slot) => calls::cancel(engine, peer, slot, arena_lent, map_lent),
-        Ask::Report(slot) => calls::report(engine, peer, slot, arena_lent, map_lent),
+    match call {
+        LocalCall::Post(receive) => calls::post(engine, peer, receive, arena_lent, map_lent),
+        LocalCall::Cancel(slot) => calls::cancel(engine, peer, slot, arena_lent, map_lent),
+        LocalCall::Report(slot) => calls::report(engine, peer, slot, arena_lent, map_lent),
     }
 }
 
 // Makes a call that writes to no buffer, and prints what it answers.
-fn ask(mut run: Run, peer: usize, what: Ask) -> Run {
+fn local(mut run: Run, peer: usize, call: LocalCall) -> Run {
     let arena = run.arena;
     let map = run.map;
-    let outcome = answered(run.engine, peer, what, run.lent, &arena, &map);
+    let outcome = answered(run.engine, peer, call, run.lent, &arena, &map);
     let answer = outcome.answer;
     print::answer(answer);
     let engine = outcome.engine;
@@ -180,7 +180,7 @@ pub(crate) fn turn(mut run: Run, call: Command, bytes: &[u8], line: usize) -> Ru
             print::arena(&arena);
             run
         }
-        Command::Ask(peer, what) => ask(run, peer, what),
+        Command::Local(peer, call) => local(run, peer, call),
         Command::Packet(peer, length) => packet(run, peer, bytes, length),
     }
 }

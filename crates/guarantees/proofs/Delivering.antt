@@ -15,13 +15,13 @@ use Rattle.peer.specs.declared.types.Answer.{Answer}
 use Rattle.engine.proofs.SentencesHold.{ready-fits}
 use Rattle.engine.proofs.Worlds.{sized}
 use Rattle.guarantees.proofs.Seeing.{seen-by-history}
-use Rattle.peer.proofs.HistoryBytes.{bytes-by-segments, done-when-covered}
-use Rattle.peer.proofs.HistoryGrants.{grants-bounded}
-use Rattle.peer.proofs.HistoryOnce.{once}
-use Rattle.peer.proofs.HistoryCount.{matched-by-count}
-use Rattle.peer.proofs.HistoryOrder.{matched-in-order, truncated-above-capacity}
-use Rattle.peer.proofs.OriginReplies.{grant-is-a-cts}
-use Rattle.peer.proofs.OriginsHold.{accepted-from-origin}
+use Rattle.peer.proofs.history.Bytes.{bytes-by-segments, done-when-covered}
+use Rattle.peer.proofs.history.Grants.{grants-bounded}
+use Rattle.peer.proofs.history.Once.{once}
+use Rattle.peer.proofs.history.Count.{matched-by-count}
+use Rattle.peer.proofs.history.Order.{matched-in-order, truncated-above-capacity}
+use Rattle.peer.proofs.history.OriginReplies.{grant-is-a-cts}
+use Rattle.peer.proofs.history.OriginsHold.{accepted-from-origin}
 
 -- the history after one call more
 history-next : (area limit : ℕ) (l : Plain) (before : List Call) (c : Call)

@@ -17,7 +17,7 @@ use Rattle.peer.specs.declared.types.Answer.{Answer}
 use Rattle.guarantees.proofs.Seeing.{fresh-tracks}
 use Rattle.guarantees.proofs.Tracking.{Tracks, other-stays, own-seen, own-stays, own-writes}
 use Rattle.laws.proofs.Choosing.{pick-false, pick-true}
-use Rattle.peer.proofs.OriginsHold.{Trace, call-traced, fresh-traced}
+use Rattle.peer.proofs.history.OriginsHold.{Trace, call-traced, fresh-traced}
 
 abbrev Rest : ℕ → List LentRequest → Type 0
 Rest p qs = (w : World) (starts : List ℕ) (l : Plain) (gs : List Origin) → Tracks p w starts l → Trace l gs → AllWrite p w l gs qs

@@ -33,7 +33,7 @@ use Rattle.engine.proofs.Worlds.{Good, lent-lengths, part-inside}
 use Rattle.guarantees.proofs.SetUps.{fresh-good, good-after}
 use Rattle.laws.proofs.Choosing.{branch, clashing}
 use Rattle.laws.proofs.Storing.{store-nothing, store-own}
-use Rattle.peer.proofs.StepCases.{step-refusing}
+use Rattle.peer.proofs.step.StepCases.{step-refusing}
 
 -- a turn that is a refusal leaves all
 abbrev Leaves : World → LentCall → Turn → Type 0

@@ -17,8 +17,8 @@ use Rattle.laws.proofs.Choosing.{pick-either}
 use Rattle.laws.proofs.Storing.{drop-store, length-store, store-nothing}
 use Rattle.peer.specs.Effects.{Effect}
 use Rattle.guarantees.proofs.Tracking.{room-of}
-use Rattle.peer.proofs.AnswerLaws.{granted-or-not}
-use Rattle.peer.proofs.Replies.{Replying, step-replies}
+use Rattle.peer.proofs.step.AnswerLaws.{granted-or-not}
+use Rattle.peer.proofs.plain.Replies.{Replying, step-replies}
 
 -- what holds of every refusal and of the peer's own turn holds of a call
 called : (P : Turn → Type 0) (w : World) (p : ℕ) (c : Call) → ((k : Refusal) → P (refusedTurn w k)) → P (peerTurn w p c) → P (callTurn w p c)

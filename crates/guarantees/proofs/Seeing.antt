@@ -21,9 +21,9 @@ use Rattle.guarantees.proofs.ByHistory.{Tracked, by-history}
 use Rattle.guarantees.proofs.SetUps.{fresh-good, fresh-is}
 use Rattle.guarantees.proofs.Tracking.{Tracks, other-stays, own-seen, own-stays}
 use Rattle.laws.proofs.Choosing.{clashing}
-use Rattle.peer.proofs.Agreement.{Agrees}
-use Rattle.peer.proofs.Steps.{fresh-agrees, fresh-free}
-use Rattle.peer.proofs.Replies.{Starts}
+use Rattle.peer.proofs.plain.Agreement.{Agrees}
+use Rattle.peer.proofs.plain.Steps.{fresh-agrees, fresh-free}
+use Rattle.peer.proofs.plain.Replies.{Starts}
 
 -- the peer is tracked in a world with these numbers
 pub record Follows (p area limit : ℕ) (w : World) (starts : List ℕ) (l : Plain) : Type 0 where

@@ -18,8 +18,8 @@ use Rattle.engine.proofs.SentencesHold.{fresh-peer, ready-fits}
 use Rattle.engine.proofs.WorldTurns.{good-called}
 use Rattle.engine.proofs.Worlds.{Good}
 use Rattle.laws.proofs.Choosing.{branch}
-use Rattle.peer.proofs.Steps.{fresh-valid}
-use Rattle.peer.proofs.Valid.{Valid}
+use Rattle.peer.proofs.plain.Steps.{fresh-valid}
+use Rattle.peer.proofs.slots.Valid.{Valid}
 
 -- what a set-up that is not refused leaves, written out
 pub fresh-is : (n area limit : ℕ) (arena map : List ℕ) → setUp n area limit (length arena) map .started .answer ≡ Ready.Ready

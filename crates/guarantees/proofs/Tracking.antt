@@ -29,16 +29,16 @@ use Rattle.engine.proofs.WorldTurns.{byte-own, good-turn, peer-other, peer-own,
 use Rattle.engine.proofs.Worlds.{Good, byteIn, kept, lent-lengths, part-inside, words-cover}
 use Rattle.laws.proofs.Reading.{getD-part}
 use Rattle.laws.proofs.Storing.{length-part, part-store}
-use Rattle.peer.proofs.Agreement.{Agrees, meets, mirrors}
-use Rattle.peer.proofs.AnswerLaws.{taken-same}
-use Rattle.peer.proofs.CoverageLaws.{Wrote, byte-at, length-bytes}
-use Rattle.peer.proofs.Entered.{agrees-kept}
-use Rattle.peer.proofs.HistoryFacts.{answer-facts}
-use Rattle.peer.proofs.Kept.{Kept}
-use Rattle.peer.proofs.OriginReplies.{own-claim}
-use Rattle.peer.proofs.OriginsHold.{Trace, call-claim}
-use Rattle.peer.proofs.Replies.{Holds, Replying, Starts, Yielded, met-yields, roomOf, starts-stepped, step-replies}
-use Rattle.peer.proofs.Steps.{Stepped, stepped}
+use Rattle.peer.proofs.plain.Agreement.{Agrees, meets, mirrors}
+use Rattle.peer.proofs.step.AnswerLaws.{taken-same}
+use Rattle.peer.proofs.plain.CoverageLaws.{Wrote, byte-at, length-bytes}
+use Rattle.peer.proofs.plain.Entered.{agrees-kept}
+use Rattle.peer.proofs.history.Facts.{answer-facts}
+use Rattle.peer.proofs.step.Kept.{Kept}
+use Rattle.peer.proofs.history.OriginReplies.{own-claim}
+use Rattle.peer.proofs.history.OriginsHold.{Trace, call-claim}
+use Rattle.peer.proofs.plain.Replies.{Holds, Replying, Starts, Yielded, met-yields, roomOf, starts-stepped, step-replies}
+use Rattle.peer.proofs.plain.Steps.{Stepped, stepped}
 
 -- the state, the map and the arena of peer p say what its history l says
 pub record Tracks (p : ℕ) (w : World) (starts : List ℕ) (l : Plain) : Type 0 where

@@ -20,7 +20,10 @@ const RTM_MAY: u16 = 0x8003;
 
 const CTS_MAY: u16 = 0x8000;
 
-const TYPES: [TypeRow; 8] = [
+// The number of types in the table.
+const ROWS: usize = 8;
+
+const TYPES: [TypeRow; ROWS] = [
     TypeRow {
         kind: 3,
         shape: Shape::Cts,
@@ -150,7 +153,7 @@ pub fn find(kind: u8) -> FoundRow
     // once, and not at each turn: a constant is made anew wherever it is named
     let types = TYPES;
     let mut i: usize = 0;
-    while i < 8 {
+    while i < ROWS {
         let row = types[i];
         if row.kind == kind {
             return FoundRow::Row(row);

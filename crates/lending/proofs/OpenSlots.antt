@@ -7,7 +7,7 @@ use Rattle.peer.specs.declared.types.Inbound.{Inbound}
 use Rattle.peer.specs.declared.types.Peer.{Peer}
 use Rattle.peer.specs.declared.types.Phase.{Phase}
 use Rattle.receiving.specs.Preconditions.{Mapped, Mapping}
-use Rattle.peer.proofs.Valid.{fits-valid, open-within}
+use Rattle.peer.proofs.slots.Valid.{fits-valid, open-within}
 
 pub open-mapped : (words : ℕ) (p : Peer) (i : ℕ) (o : Inbound) → Mapped (64 * words) words p → phaseAt (p .slots) i ≡ Phase.Open o → Mapping words o
 open-mapped words p i o m e =

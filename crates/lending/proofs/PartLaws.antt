@@ -14,8 +14,8 @@ use Rattle.receiving.specs.Preconditions.{Limited, Mapped}
 use Rattle.receiving.specs.Leaves.{PacketLeaves, packetLeaves}
 use Rattle.peer.specs.State.{peerFits, slotCount}
 use Rattle.peer.specs.declared.types.Peer.{Peer}
-use Rattle.peer.proofs.Kept.{Kept, step-kept}
-use Rattle.peer.proofs.Valid.{fits-valid}
+use Rattle.peer.proofs.step.Kept.{Kept, step-kept}
+use Rattle.peer.proofs.slots.Valid.{fits-valid}
 use Rattle.lending.specs.Lending.{Lent, Owned, leavesAt}
 
 -- ---- a packet's step, on a part of the whole

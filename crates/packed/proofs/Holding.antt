@@ -30,9 +30,9 @@ use Rattle.peer.specs.declared.types.Phase.{Phase}
 use Rattle.peer.specs.declared.types.Progress.{Progress}
 use Rattle.peer.specs.declared.types.Receive.{Receive}
 use Rattle.peer.specs.declared.types.Slot.{Slot}
-use Rattle.peer.proofs.Ages.{length-renumbered, phase-renumbered}
-use Rattle.peer.proofs.Verdicts.{continued-at}
-use Rattle.peer.proofs.StepCases.{StepCase, begins, cancelled, continues, posted, refused, reported, step-case, truncated}
+use Rattle.peer.proofs.slots.Ages.{length-renumbered, phase-renumbered}
+use Rattle.peer.proofs.step.Verdicts.{continued-at}
+use Rattle.peer.proofs.step.StepCases.{StepCase, begins, cancelled, continues, posted, refused, reported, step-case, truncated}
 use Rattle.engine.specs.SetUp.{engineOf, peerAt, peerCount}
 use Rattle.engine.specs.Steps.{Turn, World, callTurn, putBack, wordsOf}
 use Rattle.engine.proofs.WorldTurns.{good-called, turn-none, turn-own}

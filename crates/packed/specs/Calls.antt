@@ -8,6 +8,10 @@ use Rattle.peer.specs.declared.types.Call.{Call}
 use Rattle.peer.specs.declared.types.LocalCall.{LocalCall}
 use Rattle.packed.specs.declared.types.FoundRequest.{FoundRequest}
 
+-- the words of a call, and of its answer
+abbrev pub wordsEach : ℕ
+wordsEach = 8
+
 -- a call of the peer whose number is the second word
 abbrev pub requestWith : List ℕ → ℕ → Call → FoundRequest
 requestWith w at c = FoundRequest.Request (record { peer = getD w (at + 1) 0; call = c })

@@ -8,7 +8,7 @@ use Rattle.engine.specs.Steps.{World}
 use Rattle.guarantees.specs.Outputs.{RunLeaves, runLeaves}
 use Rattle.state_words.specs.Loading.{stateOf, stateAfter}
 use Rattle.packed.specs.declared.types.FoundRequest.{FoundRequest}
-use Rattle.packed.specs.Calls.{requestAt}
+use Rattle.packed.specs.Calls.{requestAt, wordsEach}
 use Rattle.packed.specs.Answers.{answerWords}
 
 -- ---- the calls
@@ -21,13 +21,13 @@ onFoundRequest (FoundRequest.Request q) bad f = f q
 unfoldable pub requestsFrom : ℕ → List ℕ → List ℕ → List ℕ → ℕ → List Request
 requestsFrom zero w bytes replies at = []
 requestsFrom (suc k) w bytes replies at =
-    onFoundRequest (requestAt w (length bytes) (length replies) at) [] (λ q. q ∷ requestsFrom k w bytes replies (at + 8))
+    onFoundRequest (requestAt w (length bytes) (length replies) at) [] (λ q. q ∷ requestsFrom k w bytes replies (at + wordsEach))
 
 -- ---- the run
 
 -- as many calls as there are words for, and for their answers
 abbrev pub budgetOf : ℕ → ℕ → ℕ
-budgetOf calls answers = min (calls / 8) (answers / 8)
+budgetOf calls answers = min (calls / wordsEach) (answers / wordsEach)
 
 -- eight words for each answer, from the first on
 unfoldable pub ranFrom : World → List ℕ → List ℕ → List ℕ → List ℕ → RunLeaves

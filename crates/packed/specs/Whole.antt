@@ -17,6 +17,7 @@ use Rattle.state_words.specs.Saving.{engineWords}
 use Rattle.packed.specs.Answers.{answerWords}
 use Rattle.packed.specs.Running.{Kept, budgetOf, requestsFrom, runOf}
 use Rattle.packed.specs.Starting.{startOf}
+use Rattle.packed.specs.Calls.{wordsEach}
 
 -- what one run is lent besides state, arena and map
 pub record Batch : Type 0 where
@@ -69,8 +70,8 @@ turnAt w earlier b j none = turnOf (worldAfter receiving w (earlier ++ take j (r
 pub record PartOfRun (w : World) (earlier : List LentRequest) (b : Batch) (k : Kept) : Type 0 where
   pub taken : k .taken ≡ length (callsIn b)
   -- each call has its answer in its eight words, and the words behind them stay
-  pub answers : (j : ℕ) (none : code.Request) → j < length (callsIn b) → part (k .answers) (8 * j) 8 ≡ answerWords (turnAt w earlier b j none .answer)
-  pub answersStay : drop (8 * length (callsIn b)) (k .answers) ≡ drop (8 * length (callsIn b)) (b .answers)
+  pub answers : (j : ℕ) (none : code.Request) → j < length (callsIn b) → part (k .answers) (wordsEach * j) wordsEach ≡ answerWords (turnAt w earlier b j none .answer)
+  pub answersStay : drop (wordsEach * length (callsIn b)) (k .answers) ≡ drop (wordsEach * length (callsIn b)) (b .answers)
   -- the replies, after so many calls: each call's reply packet is put at its place
   pub repliesAt : ℕ → List ℕ
   pub repliesFirst : repliesAt 0 ≡ b .replies

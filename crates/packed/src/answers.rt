@@ -1,4 +1,5 @@
 // An answer, as eight words.
+use crate::types::WORDS;
 use peer::Answer;
 use protocol::CqData;
 ghost use mathlib.Core.Path.{_≡_};
@@ -7,7 +8,7 @@ ghost use lib.ListN.{length};
 ghost use Rattle.laws.specs.Parts.{storeAt};
 ghost use Rattle.packed.specs.Answers.{doneWords, answerWords};
 
-fn done_words(slot: usize, id: u32, length: usize, cq_data: CqData) -> [u64; 8]
+fn done_words(slot: usize, id: u32, length: usize, cq_data: CqData) -> [u64; WORDS]
     ensures { λ r. ⌜ r ≡ doneWords slot id length «cq_data» ⌝ }
 {
     let present = words::cq_bit(cq_data);
@@ -24,7 +25,7 @@ fn done_words(slot: usize, id: u32, length: usize, cq_data: CqData) -> [u64; 8]
     ]
 }
 
-fn answer_words(answer: Answer) -> [u64; 8]
+fn answer_words(answer: Answer) -> [u64; WORDS]
     ensures { λ r. ⌜ r ≡ answerWords answer ⌝ }
 {
     match answer {
@@ -53,5 +54,5 @@ pub(crate) fn put_answer(answers: &mut [u64], at: usize, answer: Answer) -> usiz
 {
     let words = answer_words(answer);
     words::put_words(answers, at, &words);
-    at + 8
+    at + WORDS
 }

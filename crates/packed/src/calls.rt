@@ -8,10 +8,10 @@ use protocol::Span;
 ghost use mathlib.Core.Path.{_≡_};
 ghost use Prim.Native.Nat.{_+_, _≤_};
 ghost use lib.ListN.{length};
-ghost use Rattle.packed.specs.Calls.{packedPacket, packedPost, requestAt};
+ghost use Rattle.packed.specs.Calls.{packedPacket, packedPost, requestAt, wordsEach};
 
 fn post_at(calls: &[u64], at: usize) -> FoundRequest
-    requires { ⌜ at + 8 ≤ length (now calls) ⌝ }
+    requires { ⌜ at + wordsEach ≤ length (now calls) ⌝ }
     ensures { λ r. ⌜ r ≡ packedPost (now (calls .entry)) at ⌝ }
 {
     let kind = calls[at + 2];
@@ -35,7 +35,7 @@ fn post_at(calls: &[u64], at: usize) -> FoundRequest
 }
 
 fn packet_at(calls: &[u64], at: usize, bytes: usize, replies: usize) -> FoundRequest
-    requires { ⌜ at + 8 ≤ length (now calls) ⌝ }
+    requires { ⌜ at + wordsEach ≤ length (now calls) ⌝ }
     ensures { λ r. ⌜ r ≡ packedPacket (now (calls .entry)) bytes replies at ⌝ }
 {
     let peer = calls[at + 1] as usize;
@@ -60,7 +60,7 @@ fn packet_at(calls: &[u64], at: usize, bytes: usize, replies: usize) -> FoundReq
 
 // The call of the words from `at` on, where so many bytes and reply bytes are lent.
 pub(crate) fn request_at(calls: &[u64], at: usize, bytes: usize, replies: usize) -> FoundRequest
-    requires { ⌜ at + 8 ≤ length (now calls) ⌝ }
+    requires { ⌜ at + wordsEach ≤ length (now calls) ⌝ }
     ensures { λ r. ⌜ r ≡ requestAt (now (calls .entry)) bytes replies at ⌝ }
 {
     let number = calls[at];

@@ -4,12 +4,14 @@ use crate::answers;
 use crate::calls;
 use crate::types::FoundRequest;
 use crate::types::Ran;
+use crate::types::WORDS;
 use engine::Engine;
 use engine::Gate;
 use peer::Answer;
 ghost use mathlib.Core.Path.{_≡_};
 ghost use Prim.Native.Nat.{_*_};
 ghost use Rattle.engine.specs.Leaves.{world};
+ghost use Rattle.packed.specs.Calls.{wordsEach};
 ghost use Rattle.packed.specs.Running.{budgetOf, ranFrom, runOf};
 ghost use Rattle.engine.specs.Sentences.{Eights};
 
@@ -17,8 +19,8 @@ ghost use Rattle.engine.specs.Sentences.{Eights};
 fn budget(calls: usize, answers: usize) -> usize
     ensures { λ r. ⌜ r ≡ budgetOf calls answers ⌝ }
 {
-    let a = calls / 8;
-    let b = answers / 8;
+    let a = calls / WORDS;
+    let b = answers / WORDS;
     if a < b { a } else { b }
 }
 
@@ -32,7 +34,7 @@ fn run_calls(
     answers: &mut [u64],
 ) -> Ran
     requires { ⌜ Eights start ⌝ }
-    ensures { λ r. ⌜ record { world = world (r .engine) (now (arena .exit)) (now (map .exit)); taken = r .taken; replies = now (replies .exit); output = now (answers .exit); place = 8 * r .taken } ≡ ranFrom (world start (now (arena .entry)) (now (map .entry))) (now (calls .entry)) (now (bytes .entry)) (now (replies .entry)) (now (answers .entry)) ⌝ }
+    ensures { λ r. ⌜ record { world = world (r .engine) (now (arena .exit)) (now (map .exit)); taken = r .taken; replies = now (replies .exit); output = now (answers .exit); place = wordsEach * r .taken } ≡ ranFrom (world start (now (arena .entry)) (now (map .entry))) (now (calls .entry)) (now (bytes .entry)) (now (replies .entry)) (now (answers .entry)) ⌝ }
 {
     let good = engine::fits(start);
     let most = budget(calls.len(), answers.len());

@@ -2,6 +2,9 @@
 use engine::Engine;
 use peer::Request;
 
+// The words of a call, and of its answer.
+pub(crate) const WORDS: usize = 8;
+
 // A packet lies in the lent bytes, and its reply buffer in the lent replies.
 pub enum FoundRequest {
     Request(Request),

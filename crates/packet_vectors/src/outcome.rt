@@ -2,6 +2,7 @@
 use crate::fields;
 use crate::print;
 use protocol::Header;
+use protocol::PACKET_LIMIT;
 use protocol::Packet;
 use protocol::Read;
 use protocol::Refusal;
@@ -10,9 +11,6 @@ use protocol::Written;
 
 // What a buffer holds before a packet is written to it.
 pub(crate) const FILL: u8 = 0xEE;
-
-// The limit of reader and writer alone.
-pub(crate) const LIMIT: usize = 8192;
 
 // The longest buffer here: it has room for more than a packet may have.
 pub(crate) const LARGE: usize = 8200;
@@ -143,7 +141,7 @@ fn write_back(name: &[u8], bytes: &[u8], packet: Packet) {
 
 fn served(bytes: &[u8]) {
     print::text(b", served");
-    if let Read::Refused(refusal) = packet::read_served(bytes, LIMIT) {
+    if let Read::Refused(refusal) = packet::read_served(bytes, PACKET_LIMIT) {
         refused(refusal);
     }
 }

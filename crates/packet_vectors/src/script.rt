@@ -3,7 +3,6 @@ use crate::hex;
 use crate::outcome;
 use crate::outcome::FILL;
 use crate::outcome::LARGE;
-use crate::outcome::LIMIT;
 use crate::print;
 use crate::words::find;
 use crate::words::number;
@@ -13,6 +12,7 @@ use protocol::Connid;
 use protocol::CqData;
 use protocol::Fields;
 use protocol::Header;
+use protocol::PACKET_LIMIT;
 
 // The largest number of 64 bits: a field may have any.
 const ANY: u64 = 18446744073709551615;
@@ -25,8 +25,8 @@ fn read(line: &[u8], kind: u8) {
     let name = word(line, 1);
     match kind {
         b'g' => outcome::good(name, bytes),
-        b's' => outcome::read_served(name, bytes, LIMIT),
-        b'l' => outcome::read_served(name, bytes, number(line, 3, 8192) as usize),
+        b's' => outcome::read_served(name, bytes, PACKET_LIMIT),
+        b'l' => outcome::read_served(name, bytes, number(line, 3, PACKET_LIMIT as u64) as usize),
         _ => outcome::read(name, bytes),
     }
 }

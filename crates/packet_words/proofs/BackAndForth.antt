@@ -49,6 +49,7 @@ use Rattle.packet_words.specs.Writing.{connidFits, connidNumber, connidW
 use Rattle.packet_words.proofs.OrderHolds.{given, held, numbers-held, put, row-said}
 use Rattle.packet_words.proofs.Rows.{row-small}
 use Rattle.packet_words.proofs.WordsTold.{own-numbers, reads-into-words, same-values}
+use Rattle.protocol.specs.Limits.{packetLimit}
 
 -- ---- the header that the words say has their values
 
@@ -164,7 +165,7 @@ reads-words-written v raw body out values size n words enough z =
     let answer : writtenSays (writeOf h raw body out .answer) ≡ gives n = sym (put-says v raw body out size) ∙ ap putSays (sym on) ∙ z in
     let written = written-gives _ n answer in
     let (q, w, l) = as-written h raw body out n written in
-    let read = reads-what-was-written h raw body out 8192 n (numbers-said v words) (omega (arith, w .allowed)) answer in
+    let read = reads-what-was-written h raw body out packetLimit n (numbers-said v words) (omega (arith, w .allowed)) answer in
     let (a, c, rest) = length-is-packets h raw body out n r (row-said v r row) answer in
     rw (written-on v raw body out size q w long (row-small _ r row) fit _ n refl written)
     (reads-into-words _ values .0 enough ∙ read ∙ ap gives (header-said v raw body (row-small _ r row) fit), rest)
@@ -210,11 +211,11 @@ writes-words-read bs values v raw body out size b room long z =
     let h = wordsHeader v in
     let said = sym (reads-into-words bs values .0 (⊎-elim (λ l. l) few (le-or-lt 19 (length values)))) ∙ z in
     let (p, e, same) = read-gives bs _ (wordsSay v raw body) said in
-    let kind = read-tells-its-bytes everyRow 8192 bs p e .kind in
+    let kind = read-tells-its-bytes everyRow packetLimit bs p e .kind in
     let small : typeWord v < 256 = omega (arith, b 0, type-read v raw body bs p same) in
-    let fit = held-read v raw body bs p same (read-numbers bs b 8192 p e) in
-    let (q, a, y) = as-read 8192 bs p e in
-    let (answer, left) = writes-what-was-read everyRow 8192 bs h raw body out b (a .allowed) room (said ∙ ap gives (sym (header-said v raw body small fit))) in
+    let fit = held-read v raw body bs p same (read-numbers bs b packetLimit p e) in
+    let (q, a, y) = as-read packetLimit bs p e in
+    let (answer, left) = writes-what-was-read everyRow packetLimit bs h raw body out b (a .allowed) room (said ∙ ap gives (sym (header-said v raw body small fit))) in
     let written = written-gives _ (length bs) answer in
     let (r, w, l) = as-written h raw body out (length bs) written in
     written-on v raw body out size r w long small fit _ (length bs) left written

@@ -36,6 +36,7 @@ use Rattle.protocol.proofs.SentencesHold.{types-are-the-tables}
 use Rattle.protocol.proofs.WriterHolds.{bytesAs, options-refused, options-taken, refusing, write-failing, write-judged, written}
 use Rattle.packet_words.proofs.Fitting.{cq-said}
 use Rattle.packet_words.proofs.Rows.{own-fields, ownOf, row-small}
+use Rattle.protocol.specs.Limits.{packetLimit}
 
 -- a conjunction that fails fails in a part
 and-cases : (a b : Bool) → (a && b) ≡ false → (a ≡ false) ⊎ (b ≡ false)
@@ -157,7 +158,7 @@ module _ (v raw body out : List ℕ) (size : ℕ) where
   failsAs o wrongType = isUnknown o
   failsAs o wrongOption = ofRow o (λ r. not (optionsFit r (wordsHeader v)))
   failsAs o wrongNumbers = not (held v) || broken o
-  failsAs o overLimit = ltb 8192 n
+  failsAs o overLimit = ltb packetLimit n
   failsAs o noRoom = ltb (length out) n
 
   abbrev refuse : PutCheck → Put
@@ -193,7 +194,7 @@ module _ (v raw body out : List ℕ) (size : ℕ) where
           pick (isUnknown o) (refuse wrongType)
           (pick (ofRow o (λ q. not (optionsFit q h))) (refuse wrongOption)
           (pick (broken o) (refuse wrongNumbers)
-          (pick (ltb 8192 m) (refuse overLimit)
+          (pick (ltb packetLimit m) (refuse overLimit)
           (pick (ltb (length out) m) (refuse noRoom) (record { refusal = 0; out = storeAt out 0 (bytesAs h raw body out o); size = m })))))
 
   row-judged : (r : TypeRow) → rowOf k ≡ Row r
@@ -255,7 +256,7 @@ module _ (v raw body out : List ℕ) (size : ℕ) where
   passes wrongOption e w = options-pass (rowOf k) refl e w
   passes wrongNumbers e w =
       ⊎-elim (numbers-fit v (not-false _ (or-left _ (broken (rowOf k)) e))) (λ x. x (rule-passes (rowOf k) refl (or-right (not (held v)) _ e))) w
-  passes overLimit e w = omega (arith, ltb-false 8192 n e)
+  passes overLimit e w = omega (arith, ltb-false packetLimit n e)
   passes noRoom e w = omega (arith, ltb-false (length out) n e)
 
   -- ---- in words

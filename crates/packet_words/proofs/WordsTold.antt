@@ -40,6 +40,7 @@ use Rattle.packet_words.specs.Says.{ownByType, tookSays, wordsData, word
 use Rattle.packet_words.specs.Values.{readInto, tookAs, valueWords}
 use Rattle.packet_words.specs.Writing.{fieldWord, typeWord}
 use Rattle.packet_words.proofs.Rows.{own-fields, ownOf}
+use Rattle.protocol.specs.Limits.{packetLimit}
 
 -- ---- values
 
@@ -129,14 +130,14 @@ some-number reader.headerCut = lit< tt
 some-number reader.wrongLengths = lit< tt
 
 -- no refusal has the number 0
-no-refusal : (bs : List ℕ) (k : Refusal) → readOf everyRow 8192 bs ≡ Read.Refused k → k .number ≡ 0 → ⊥
+no-refusal : (bs : List ℕ) (k : Refusal) → readOf everyRow packetLimit bs ≡ Read.Refused k → k .number ≡ 0 → ⊥
 unfolding RefusedByFirstToFail
 no-refusal bs k e z =
-    let (i, l, same, f) = refused-by-first-to-fail true 8192 bs (k .number) .0 (ap (readSays bs) e) in
+    let (i, l, same, f) = refused-by-first-to-fail true packetLimit bs (k .number) .0 (ap (readSays bs) e) in
     omega (arith, some-number (reader.checkAt i))
 
 module _ (bs values : List ℕ) where
-  enough : 19 ≤ length values → readInto bs values ≡ tookAs values (readOf everyRow 8192 bs)
+  enough : 19 ≤ length values → readInto bs values ≡ tookAs values (readOf everyRow packetLimit bs)
   unfolding readInto
   enough l = pick-true _ _ (le-leb 19 (length values) l)
 
@@ -144,7 +145,7 @@ module _ (bs values : List ℕ) where
   unfolding readInto
   few l = pick-false _ _ (lt-leb 19 (length values) l)
 
-  same-said : (o : Read) → readOf everyRow 8192 bs ≡ o → tookSays bs (tookAs values o) ≡ readSays bs o
+  same-said : (o : Read) → readOf everyRow packetLimit bs ≡ o → tookSays bs (tookAs values o) ≡ readSays bs o
   unfolding tookSays
   same-said (Read.Refused k) e = pick-false _ _ (ne-eqb (k .number) 0 (no-refusal bs k e))
   same-said (Read.Packet p) e = pick-true _ _ refl ∙ ap gives (words-told values p bs)
@@ -152,13 +153,13 @@ module _ (bs values : List ℕ) where
 pub reads-into-words : ReadsIntoWords
 unfolding ReadsIntoWords
 reads-into-words bs values = (
-  λ l. ap (tookSays bs) (enough bs values l) ∙ same-said bs values (readOf everyRow 8192 bs) refl,
+  λ l. ap (tookSays bs) (enough bs values l) ∙ same-said bs values (readOf everyRow packetLimit bs) refl,
   λ l. ap (tookSays bs) (few bs values l) ∙ (unfold tookSays in pick-false _ _ refl),
 )
 
 pub refused-read-changes-nothing : RefusedReadChangesNothing
 unfolding RefusedReadChangesNothing ReadsIntoWords
-refused-read-changes-nothing bs values n e = ⊎-elim (λ l. read l (readOf everyRow 8192 bs) refl) short (le-or-lt 19 (length values))
+refused-read-changes-nothing bs values n e = ⊎-elim (λ l. read l (readOf everyRow packetLimit bs) refl) short (le-or-lt 19 (length values))
   where
     short : length values < 19 → readInto bs values ≡ record { refusal = n; values = values }
     short l =
@@ -166,7 +167,7 @@ refused-read-changes-nothing bs values n e = ⊎-elim (λ l. read l (readOf ever
         let same : 21 ≡ n = cc in
         few bs values l ∙ ap (λ (k : ℕ). record { refusal = k; values = values }) same
 
-    read : 19 ≤ length values → (o : Read) → readOf everyRow 8192 bs ≡ o → readInto bs values ≡ record { refusal = n; values = values }
+    read : 19 ≤ length values → (o : Read) → readOf everyRow packetLimit bs ≡ o → readInto bs values ≡ record { refusal = n; values = values }
     read l (Read.Refused k) y =
         let x : refused (k .number) ≡ refused n = sym (reads-into-words bs values .0 l ∙ ap (readSays bs) y) ∙ e in
         let same : k .number ≡ n = cc in

@@ -14,6 +14,7 @@ use Rattle.protocol.specs.Layout.{Field, credit-request, msg-id, msg-length, re
 use Rattle.protocol.specs.declared.types.Fields.{Fields}
 use Rattle.packet_words.specs.Says.{ownByType, putSays}
 use Rattle.packet_words.specs.Writing.{connidNumber, connidWord, cqDataWord, fieldWord, rawAddressWord, refusedPut, typeWord, writeFrom}
+use Rattle.protocol.specs.Limits.{packetLimit}
 
 -- ---- the packet's length
 
@@ -66,7 +67,7 @@ PutFails v raw body out fewWords = length v < 19
 PutFails v raw body out wrongType = Known true (typeWord v) → ⊥
 PutFails v raw body out wrongOption = CtsOrData (typeWord v) × ((rawAddressWord v ≡ 0 → ⊥) ⊎ (cqDataWord v ≡ 0 → ⊥))
 PutFails v raw body out wrongNumbers = TooLarge v ⊎ (LengthRule (typeWord v) (fieldsSaid v) (length body) → ⊥)
-PutFails v raw body out overLimit = 8192 < putLength v (length raw) (length body)
+PutFails v raw body out overLimit = packetLimit < putLength v (length raw) (length body)
 PutFails v raw body out noRoom = length out < putLength v (length raw) (length body)
 
 -- the check at place i of the list

@@ -10,12 +10,13 @@ use Rattle.protocol.specs.Says.{readSays}
 use Rattle.protocol.specs.Types.{everyRow}
 use Rattle.packet_words.specs.Says.{tookSays}
 use Rattle.packet_words.specs.Values.{readInto}
+use Rattle.protocol.specs.Limits.{packetLimit}
 
 -- the refusal's number, or the packet's values, wherever there are words enough; else 21
 unfoldable pub ReadsIntoWords : Type 0
 ReadsIntoWords =
     (bs values : List ℕ)
-    → (19 ≤ length values → tookSays bs (readInto bs values) ≡ readSays bs (readOf everyRow 8192 bs))
+    → (19 ≤ length values → tookSays bs (readInto bs values) ≡ readSays bs (readOf everyRow packetLimit bs))
     × (length values < 19 → tookSays bs (readInto bs values) ≡ refused 21)
 
 -- "Each refusal returns its number alone and changes nothing lent"

@@ -17,7 +17,7 @@ use Rattle.peer.specs.Sentences.{HasByte}
 use Rattle.peer.specs.Says.{said}
 use Rattle.peer.specs.PacketBytes.{RtmIn, idIn, lengthIn, offsetIn, sizeIn, tagIn, typeIn, typeOf}
 use Rattle.peer.specs.Plain.{Plain, idle, receiving, waiting}
-use Rattle.peer.specs.State.{peerFits}
+use Rattle.peer.specs.State.{peerFits, slotCount}
 use Rattle.peer.specs.View.{OneEach, OpenIn, UsesRange, View, viewIn, viewOf}
 use Rattle.peer.specs.declared.types.Answer.{Answer}
 use Rattle.peer.specs.declared.types.Inbound.{Inbound}
@@ -108,7 +108,7 @@ CallFails area limit v (beyondArea r) = area < r .start + r .capacity
 -- 19: "post overlaps a used range of this peer (empty ranges overlap nothing)": some byte lies in both
 CallFails area limit v (inUse r) = (i : ℕ) × (s : Receive) × UsesRange (v .role i) s × ((x : ℕ) × HasByte r x × HasByte s x)
 -- 18: "no free slot (a freed slot counts as free)"
-CallFails area limit v noneFree = (i : ℕ) → i < 8 → v .role i ≡ idle → ⊥
+CallFails area limit v noneFree = (i : ℕ) → i < slotCount → v .role i ≡ idle → ⊥
 -- 5: "reply buffer below 24 bytes"
 CallFails area limit v (shortReply room) = room < 24
 -- 6 to 11, the reader's
@@ -134,9 +134,9 @@ CallFails area limit v (dataBeyond bs) =
 CallFails area limit v (dataRepeats bs) =
     (typeIn bs ≡ 4) × ((i : ℕ) × (o : Inbound) × OpenIn v (idIn bs) i o × Long (o .message) × Repeats v bs i)
 -- 20, of a cancel: "slot not below 8, or free"
-CallFails area limit v (slotFree i) = (8 ≤ i) ⊎ (v .role i ≡ idle)
+CallFails area limit v (slotFree i) = (slotCount ≤ i) ⊎ (v .role i ≡ idle)
 -- 20, of a report: "slot not below 8, or ..; for the missing-byte report, not open"
-CallFails area limit v (slotNotOpen i) = (8 ≤ i) ⊎ ((o : Inbound) → v .role i ≡ receiving o → ⊥)
+CallFails area limit v (slotNotOpen i) = (slotCount ≤ i) ⊎ ((o : Inbound) → v .role i ≡ receiving o → ⊥)
 
 -- ---- the statement, of states
 
@@ -147,7 +147,7 @@ Checked area limit v c a = RefusedByFirst (CallFails area limit v) callRefusedAs
 -- of every peer that can be (the others are refused 2), also one that no run reaches; ids are numbers of 4 bytes
 unfoldable pub CallsAreChecked : Type 0
 CallsAreChecked =
-    (area limit : ℕ) (p : Peer) (ws : List ℕ) (c : Call) → peerFits area p ≡ true → length (p .slots) ≡ 8 → p .next < 2 ^ 32 → AreBytes c
+    (area limit : ℕ) (p : Peer) (ws : List ℕ) (c : Call) → peerFits area p ≡ true → length (p .slots) ≡ slotCount → p .next < 2 ^ 32 → AreBytes c
     → Checked area limit (viewOf p ws) c (peerStep area limit p ws c .answer)
 
 -- ---- the statements, of histories
@@ -155,7 +155,7 @@ CallsAreChecked =
 -- the answer that 01 demands, of every plain receiver that no two messages with one id are open in
 unfoldable pub AnswersAreChecked : Type 0
 AnswersAreChecked =
-    (area limit : ℕ) (l : Plain) (c : Call) → OneEach (viewIn l) → length (l .entries) ≡ 8 → l .next < 2 ^ 32 → AreBytes c
+    (area limit : ℕ) (l : Plain) (c : Call) → OneEach (viewIn l) → length (l .entries) ≡ slotCount → l .next < 2 ^ 32 → AreBytes c
     → Checked area limit (viewIn l) c (expected area limit l c)
 
 -- after every history

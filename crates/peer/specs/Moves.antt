@@ -18,7 +18,7 @@ use Rattle.peer.specs.Origins.{BegunBy}
 use Rattle.peer.specs.PacketBytes.{idIn, offsetIn, sizeIn}
 use Rattle.peer.specs.Plain.{Role, idle, receiving, waiting}
 use Rattle.peer.specs.SlotMoves.{Cancelling, Matching, NextMoves, NextStays, OnlySlot, Posting, Truncating, Unmoved, roleAt}
-use Rattle.peer.specs.State.{peerFits}
+use Rattle.peer.specs.State.{peerFits, slotCount}
 use Rattle.peer.specs.declared.types.Answer.{Answer}
 use Rattle.peer.specs.declared.types.Inbound.{Inbound}
 use Rattle.peer.specs.declared.types.Peer.{Peer}
@@ -160,7 +160,7 @@ Moved limit p ws c f (Answer.Missing k first) = (i : ℕ) × (c ≡ report i) ×
 -- every call of every peer that can be (the others are refused 2), also one that no run reaches, on words that cover its area
 unfoldable pub MovesAreAsSaid : Type 0
 MovesAreAsSaid =
-    (area limit : ℕ) (p : Peer) (ws : List ℕ) (c : Call) → peerFits area p ≡ true → length (p .slots) ≡ 8 → area ≤ 64 * length ws
+    (area limit : ℕ) (p : Peer) (ws : List ℕ) (c : Call) → peerFits area p ≡ true → length (p .slots) ≡ slotCount → area ≤ 64 * length ws
     → Moved limit p ws c (peerStep area limit p ws c) (peerStep area limit p ws c .answer)
 
 -- ---- the slots go round
@@ -176,5 +176,5 @@ pub data Goes : Role → Role → Type 0 where
 
 unfoldable pub SlotsGoRound : Type 0
 SlotsGoRound =
-    (area limit : ℕ) (p : Peer) (ws : List ℕ) (c : Call) → peerFits area p ≡ true → length (p .slots) ≡ 8 → area ≤ 64 * length ws
+    (area limit : ℕ) (p : Peer) (ws : List ℕ) (c : Call) → peerFits area p ≡ true → length (p .slots) ≡ slotCount → area ≤ 64 * length ws
     → (j : ℕ) → Goes (roleAt p j) (roleAt (peerStep area limit p ws c .peer) j)

@@ -19,7 +19,7 @@ use Rattle.peer.specs.Incomings.{incomingOf, isEager, isLong, isMedium, 
 use Rattle.peer.specs.Matching.{ahead, fits, sameMessage}
 use Rattle.peer.specs.PacketBytes.{typeNumber, typeOf, typeSaid}
 use Rattle.peer.specs.Plain.{Entry, Role, firstPosted, idle, openIn, receiving, slotEntry, waiting}
-use Rattle.peer.specs.State.{overlap}
+use Rattle.peer.specs.State.{overlap, slotCount}
 use Rattle.peer.specs.declared.types.Fit.{Fit}
 use Rattle.peer.specs.declared.types.FoundOpen.{FoundOpen}
 use Rattle.peer.specs.declared.types.Inbound.{Inbound}
@@ -27,6 +27,12 @@ use Rattle.peer.specs.declared.types.Incoming.{Incoming}
 use Rattle.peer.specs.declared.types.Message.{Message}
 use Rattle.peer.specs.declared.types.Receive.{Receive}
 use Rattle.wire.specs.LittleEndian.{leAt}
+
+-- ---- slots (18, 20)
+
+-- "eight free slots", "slot not below 8"
+unfoldable pub SlotsAreEight : Type 0
+SlotsAreEight = slotCount ≡ 8
 
 -- ---- ranges (19, 2)
 

@@ -9,7 +9,7 @@ use Rattle.peer.specs.Checks.{FitsIn}
 use Rattle.peer.specs.Effects.{Effect}
 use Rattle.peer.specs.PacketBytes.{RtmIn, idIn, lengthIn}
 use Rattle.peer.specs.Plain.{Role, idle, receiving, waiting}
-use Rattle.peer.specs.State.{phaseAt}
+use Rattle.peer.specs.State.{phaseAt, slotCount}
 use Rattle.peer.specs.View.{roleOf}
 use Rattle.peer.specs.declared.types.Inbound.{Inbound}
 use Rattle.peer.specs.declared.types.Peer.{Peer}
@@ -24,8 +24,8 @@ roleAt p i = roleOf (phaseAt (p .slots) i)
 
 -- of the eight slots slot i alone changes what it is used for
 pub record OnlySlot (i : ℕ) (p q : Peer) : Type 0 where
-  pub inSlots : i < 8
-  pub slots : length (q .slots) ≡ 8
+  pub inSlots : i < slotCount
+  pub slots : length (q .slots) ≡ slotCount
   pub others : (j : ℕ) → (j ≡ i → ⊥) → roleAt q j ≡ roleAt p j
 
 -- no arena byte, map bit or reply byte changes

@@ -61,7 +61,7 @@ pub struct Slot {
 
 pub struct Peer {
     pub next: u32,
-    pub slots: [Slot; 8],
+    pub slots: [Slot; Peer::SLOTS],
 }
 
 // The open message that a packet belongs to.

@@ -10,7 +10,7 @@ use native.Mathlib.Omega.{arith}
 use Rattle.peer.specs.Calls.{renumbered, renumberedPhase}
 use Rattle.peer.specs.State.{freeSlot, phaseAt, slotWith}
 use Rattle.peer.specs.declared.types.Slot.{Slot}
-use Rattle.peer.proofs.Ages.{length-renumbered, phase-renumbered}
+use Rattle.peer.proofs.slots.Ages.{length-renumbered, phase-renumbered}
 
 pub all-renumbered : (ss : List Slot) → paste ss 0 (renumbered ss ss) (length ss) ≡ renumbered ss ss
 all-renumbered ss =

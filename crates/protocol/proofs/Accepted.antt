@@ -37,6 +37,7 @@ use Rattle.protocol.proofs.TypeSentences.{fields-in-words}
 pub use Rattle.protocol.proofs.WholePacket.{connidFrom, dataFrom, packetOf}
 use Rattle.protocol.proofs.SentencesHold.{of-row}
 use Rattle.protocol.proofs.WriterHolds.{length-in-words, refusing, write-failing, write-judged, write-placed, written}
+use Rattle.protocol.specs.Limits.{packetLimit}
 
 -- bs are a packet of type r that the reader takes
 pub record ReadAs (limit : ℕ) (bs : List ℕ) (r : TypeRow) : Type 0 where
@@ -124,7 +125,7 @@ pub record WrittenAs (h : Header) (raw body out : List ℕ) (r : TypeRow) : Type
   pub row : rowOf (h .kind) ≡ Row r
   pub options : optionsFit r h ≡ true
   pub lengths : lengthsFit (r .shape) (h .fields) (length body) ≡ true
-  pub allowed : length (packetBytes r h [] raw body) ≤ 8192
+  pub allowed : length (packetBytes r h [] raw body) ≤ packetLimit
   pub room : length (packetBytes r h [] raw body) ≤ length out
 
 pub write-as : (h : Header) (raw body out : List ℕ) (r : TypeRow)
@@ -144,7 +145,7 @@ write-as h raw body out r a =
     pass noType = ap isUnknown (a .row)
     pass misplacedHeader = row-at _ r (λ q. not (optionsFit q h)) (a .row) ∙ ap not (a .options)
     pass brokenLengths = row-at _ r (λ q. not (lengthsFit (q .shape) (h .fields) (length body))) (a .row) ∙ ap not (a .lengths)
-    pass overLongest = le-ltb 8192 (packetLength h (length raw) (length body)) (omega (arith, size, a .allowed))
+    pass overLongest = le-ltb packetLimit (packetLength h (length raw) (length body)) (omega (arith, size, a .allowed))
     pass shortBuffer = le-ltb (length out) (packetLength h (length raw) (length body)) (omega (arith, size, a .room))
 
 no-length : (k : Refusal) (n : ℕ) → Written.Refused k ≡ Written.Length n → ⊥
@@ -185,7 +186,7 @@ as-written h raw body out n e = accepted (row-out _ (pass noType))
             row = x;
             options = fits;
             lengths = not-false _ (sym (row-at _ r (λ q. not (lengthsFit (q .shape) (h .fields) (length body))) x) ∙ pass brokenLengths);
-            allowed = omega (arith, size, ltb-false 8192 (total) (pass overLongest));
+            allowed = omega (arith, size, ltb-false packetLimit (total) (pass overLongest));
             room = omega (arith, size, ltb-false (length out) (total) (pass shortBuffer));
           },
           omega (arith, size, answered),

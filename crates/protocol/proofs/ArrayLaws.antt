@@ -14,6 +14,7 @@ use Rattle.protocol.specs.Arrays.{arrayAllowed, arrayCount, arrayLength,
 use Rattle.protocol.specs.Rules.{Sound}
 use Rattle.protocol.specs.declared.table.TypeRow.{TypeRow}
 use Rattle.laws.proofs.Choosing.{pick-false, pick-small, pick-true, tested}
+use Rattle.protocol.specs.Limits.{packetLimit}
 
 empty : (l : List ℕ) → length l ≡ 0 → l ≡ []
 empty [] e = refl
@@ -56,7 +57,7 @@ module _ (r : TypeRow) where
   count-back n e l =
       pick-true _ _ e ∙ ap (λ (x : ℕ). x + r .less) (mul-div-cancel (n - r .less) (unit-some e)) ∙ omega (arith, l)
 
-  pub count-small : (n : ℕ) → Sound r → n ≤ 8192 → arrayCount r n < 256 ^ 4
+  pub count-small : (n : ℕ) → Sound r → n ≤ packetLimit → arrayCount r n < 256 ^ 4
   unfolding arrayCount
   count-small n s l =
       let fewer = div-le-self n (r .unit) in

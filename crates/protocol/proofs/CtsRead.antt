@@ -25,6 +25,7 @@ use Rattle.laws.specs.Choose.{pick}
 use Rattle.laws.specs.Parts.{part, storeAt}
 use Rattle.wire.specs.LittleEndian.{leAt, leBytes, leOf}
 use Rattle.protocol.proofs.RoundTrips.{reads-what-was-written}
+use Rattle.protocol.specs.Limits.{packetLimit}
 
 module _ (sendId recvId recvLength : ℕ) (s : sendId < 2 ^ 32) (r : recvId < 2 ^ 32) (some : 1 ≤ recvLength) (n : recvLength < 2 ^ 64) where
   bytes : List ℕ
@@ -57,11 +58,11 @@ module _ (sendId recvId recvLength : ℕ) (s : sendId < 2 ^ 32) (r : recvId < 2 
   unfolding bytes ctsBytes writeOf writeTyped writeAs writeBytes rowOf rowIn optionsFit arrayAllowed arrayWhole arrayCount flagsOf lengthsFit pick storeAt packetBytes mandatoryBytes baseBytes fieldBytes layout sectionsOf connidOrZero leBytes
   written = rw (le-leb 1 recvLength some)
 
-  read-back : readSays bytes (readOf everyRow 8192 bytes) ≡ gives (values (ctsHeader sendId recvId recvLength) [] [])
+  read-back : readSays bytes (readOf everyRow packetLimit bytes) ≡ gives (values (ctsHeader sendId recvId recvLength) [] [])
   unfolding bytes ctsBytes packetBytes mandatoryBytes baseBytes leBytes fieldBytes layout pick sectionsOf
   read-back =
-      subst (λ (o : WriteLeaves). readSays (take 24 (o .out)) (readOf everyRow 8192 (take 24 (o .out))) ≡ gives (values (ctsHeader sendId recvId recvLength) [] [])) written
-      (reads-what-was-written (ctsHeader sendId recvId recvLength) [] [] (replicate 24 0) 8192 24 numbers (omega arith) (ap (λ (o : WriteLeaves). writtenSays (o .answer)) written))
+      subst (λ (o : WriteLeaves). readSays (take 24 (o .out)) (readOf everyRow packetLimit (take 24 (o .out))) ≡ gives (values (ctsHeader sendId recvId recvLength) [] [])) written
+      (reads-what-was-written (ctsHeader sendId recvId recvLength) [] [] (replicate 24 0) packetLimit 24 numbers (omega arith) (ap (λ (o : WriteLeaves). writtenSays (o .answer)) written))
 
   cts-read : ReadsAsCts bytes sendId recvId recvLength
   unfolding bytes ctsBytes packetBytes mandatoryBytes baseBytes leBytes fieldBytes layout pick sectionsOf values ownNumbers ownFields rowOf rowIn leAt leOf part flagsOf connidOrZero

@@ -44,6 +44,7 @@ use Rattle.protocol.proofs.TableRule.{no-array, row-kind, sound}
 use Rattle.protocol.proofs.TypeSentences.{lengths-same}
 use Rattle.protocol.proofs.WritingLaws.{length-base, length-mandatory, length-packet}
 use Rattle.wire.proofs.Laws.{le-behind}
+use Rattle.protocol.specs.Limits.{packetLimit}
 
 -- the headers of a written packet up to the array, up to the raw address, up to the CQ data, and all
 abbrev toArray : TypeRow → Header → List ℕ → List ℕ
@@ -65,7 +66,7 @@ own-numbers k r v e = rw e
 -- of every row that keeps the table's rule, with an array or without
 module _ (h : Header) (arr raw body : List ℕ) (r : TypeRow) (rule : Sound r) (x : Numbers h) (fits : optionsFit r h ≡ true)
     (given : arrayAllowed r (length arr) ≡ true) (members : arrayWhole r (length arr) ≡ true)
-    (allowed : length (packetBytes r h arr raw body) ≤ 8192) where
+    (allowed : length (packetBytes r h arr raw body) ≤ packetLimit) where
   abbrev f : ℕ
   f = flagsOf r h
 

@@ -30,6 +30,7 @@ use Rattle.protocol.proofs.Accepted.{dataFrom, packetOf}
 use Rattle.protocol.proofs.ReadBack.{flags-taken, inside, same, whole-tells}
 use Rattle.protocol.proofs.Sayings.{written-gives}
 use Rattle.protocol.proofs.StepLaws.{extent-in-steps, wholeBytes}
+use Rattle.protocol.specs.Limits.{packetLimit}
 
 no-length : (k : Refusal) (n : ℕ) → Written.Refused k ≡ Written.Length n → ⊥
 no-length k n e = let z : _≡_ {A = ℕ} 0 1 = cc in omega arith
@@ -39,7 +40,7 @@ record Taken (r : TypeRow) (h : Header) (arr raw body out : List ℕ) (n : ℕ) 
   pub options : optionsFit r h ≡ true
   pub given : arrayAllowed r (length arr) ≡ true
   pub members : arrayWhole r (length arr) ≡ true
-  pub allowed : length (packetBytes r h arr raw body) ≤ 8192
+  pub allowed : length (packetBytes r h arr raw body) ≤ packetLimit
   pub room : length (packetBytes r h arr raw body) ≤ length out
   pub size : n ≡ length (packetBytes r h arr raw body)
   pub left : writeAs r h arr raw body out .out ≡ storeAt out 0 (packetBytes r h arr raw body)
@@ -61,7 +62,7 @@ module _ (r : TypeRow) (h : Header) (arr raw body out : List ℕ) (n : ℕ) wher
         options = and-left _ (arrayAllowed r (length arr)) a;
         given = and-right (optionsFit r h) _ a;
         members = and-left _ (lengthsFit (r .shape) (h .fields) (length body)) b;
-        allowed = ltb-false 8192 (length bytes) c;
+        allowed = ltb-false packetLimit (length bytes) c;
         room = ltb-false (length out) (length bytes) d;
         size = sym size;
         left = ap (λ (o : WriteLeaves). o .out) (pick-true _ _ a ∙ pick-true _ _ b ∙ pick-false _ _ c ∙ pick-false _ _ d);

@@ -45,6 +45,7 @@ use Rattle.protocol.proofs.StepLaws.{packet-in-steps}
 use Rattle.protocol.proofs.TableRule.{no-array, row-kind, rows-say, sound}
 use Rattle.protocol.proofs.TypeSentences.{connid-in-words, header-in-words, request-in-words}
 use Rattle.wire.proofs.Laws.{bytes-again, bytes-again-wide, bytes-none}
+use Rattle.protocol.specs.Limits.{packetLimit}
 
 -- the padding of a connid behind the other headers
 unfoldable blankOf : Connid → TypeRow → Packet → Span
@@ -329,7 +330,7 @@ module _ (limit : ℕ) (bs : List ℕ) (r : TypeRow) (a : ReadAs limit bs r) (b 
       let e = zeroed-in-words (leAt 2 bs 2) bs (getD bs 0 0) r (a .row) in
       (ap (λ (l : List ℕ). packetBytes r (q .header) l (bytesAt bs (q .«raw_address»)) (bytesAt bs (q .«data»))) (sym no-bytes) ∙ again ∙ e, ap length (sym e) ∙ n)
 
-  written-again : (out : List ℕ) → length bs ≤ 8192 → length bs ≤ length out
+  written-again : (out : List ℕ) → length bs ≤ packetLimit → length bs ≤ length out
       → WrittenAs (q .header) (bytesAt bs (q .«raw_address»)) (bytesAt bs (q .«data»)) out r
   unfolding packetIn headerIn
   written-again out small room =
@@ -342,7 +343,7 @@ module _ (limit : ℕ) (bs : List ℕ) (r : TypeRow) (a : ReadAs limit bs r) (b 
         room = rw n room;
       }
 
-  pub write-back : (out : List ℕ) → length bs ≤ 8192 → length bs ≤ length out
+  pub write-back : (out : List ℕ) → length bs ≤ packetLimit → length bs ≤ length out
       → writeOf (q .header) (bytesAt bs (q .«raw_address»)) (bytesAt bs (q .«data»)) out
       ≡ record { answer = Written.Length (length bs); out = storeAt out 0 (blanked bs) }
   write-back out small room =

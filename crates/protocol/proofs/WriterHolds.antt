@@ -39,6 +39,7 @@ use Rattle.protocol.proofs.TypeSentences.{connid-in-words, header-in-wo
 use Rattle.protocol.proofs.SentencesHold.{types-are-the-tables}
 use Rattle.protocol.proofs.WritingLaws.{length-packet}
 use Rattle.wire.proofs.Laws.{length-le}
+use Rattle.protocol.specs.Limits.{packetLimit}
 
 -- ---- the packet's length
 
@@ -111,7 +112,7 @@ module _ (h : Header) (raw body out : List ℕ) where
   failsAs o noType = isUnknown o
   failsAs o misplacedHeader = ofRow o (λ r. not (optionsFit r h))
   failsAs o brokenLengths = ofRow o (λ r. not (lengthsFit (r .shape) (h .fields) (length body)))
-  failsAs o overLongest = ltb 8192 n
+  failsAs o overLongest = ltb packetLimit n
   failsAs o shortBuffer = ltb (length out) n
 
   abbrev pub bytesAs : FoundRow → List ℕ
@@ -134,7 +135,7 @@ module _ (h : Header) (raw body out : List ℕ) where
     where
       sized : ℕ → WriteLeaves
       sized m =
-          pick (ltb 8192 m) (refusing overLongest)
+          pick (ltb packetLimit m) (refusing overLongest)
           (pick (ltb (length out) m) (refusing shortBuffer) (record { answer = Written.Length m; out = storeAt out 0 (packetBytes r h [] raw body) }))
 
   typed-judged : (o : FoundRow) → rowOf k ≡ o → writeTyped o h [] raw body out ≡ judgedAs o writerChecks
@@ -186,7 +187,7 @@ module _ (h : Header) (raw body out : List ℕ) where
   passes noType e w = let (r, x) = row-out _ e in w (known r x)
   passes misplacedHeader e w = options-pass (rowOf k) refl e w
   passes brokenLengths e w = w (lengths-pass (rowOf k) refl e)
-  passes overLongest e w = omega (arith, ltb-false 8192 n e)
+  passes overLongest e w = omega (arith, ltb-false packetLimit n e)
   passes shortBuffer e w = omega (arith, ltb-false (length out) n e)
 
   -- ---- in words

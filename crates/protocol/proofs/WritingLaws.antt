@@ -28,6 +28,7 @@ use Rattle.protocol.proofs.ReadingLaws.{options-short}
 use Rattle.protocol.proofs.RowLaws.{header-bounds}
 use Rattle.protocol.proofs.StepLaws.{packet-in-steps, sizes-in-steps}
 use Rattle.wire.proofs.Laws.{length-le}
+use Rattle.protocol.specs.Limits.{packetLimit}
 
 pub head-small : (r : TypeRow) (f : ℕ) → Sound r → headLength r f ≤ 80
 unfolding headLength
@@ -54,7 +55,7 @@ module _ (r : TypeRow) (h : Header) (arr raw body : List ℕ) (s : Sound r) (t :
   length-packet = rw (packet-in-steps r h arr raw body s t u) (simp length-append (omega (arith, length-mandatory r h (length arr) s)))
 
   -- the raw address of a packet that the limit allows has a size that fits
-  pub raw-fits : length (packetBytes r h arr raw body) ≤ 8192 → h .«raw_address» ≡ true → length raw < 2 ^ 32
+  pub raw-fits : length (packetBytes r h arr raw body) ≤ packetLimit → h .«raw_address» ≡ true → length raw < 2 ^ 32
   raw-fits k e = omega (arith, length-packet, length-raw (h .«raw_address») raw, pick-true {A = ℕ} (4 + length raw) 0 e)
 
   -- what the writer computes is the packet's length
@@ -67,9 +68,9 @@ module _ (r : TypeRow) (h : Header) (arr raw body : List ℕ) (s : Sound r) (t :
 
 -- what the limit answers
 
-pub above-limit : (n : ℕ) → 8192 < n → limitedTo n ≡ Above
+pub above-limit : (n : ℕ) → packetLimit < n → limitedTo n ≡ Above
 unfolding limitedTo pick
-above-limit n h = rw (lt-ltb 8192 n h)
+above-limit n h = rw (lt-ltb packetLimit n h)
 
 -- and it is a sum of the headers without the raw address, the array and the raw address, where they are there, and the data
 module _ (r : TypeRow) (f arr raw size : ℕ) (u : arrayAllowed r arr ≡ true) where
@@ -78,7 +79,7 @@ module _ (r : TypeRow) (f arr raw size : ℕ) (u : arrayAllowed r arr ≡ true) 
   total-with e = ap limitedTo (omega (arith, sizes-in-steps r f arr raw, given-size r arr u, pick-true {A = ℕ} (4 + raw) 0 e))
 
   -- which an array or data above the limit make longer than it
-  pub total-above : 8192 < arr + size → totalOf r f arr raw size ≡ Above
+  pub total-above : packetLimit < arr + size → totalOf r f arr raw size ≡ Above
   unfolding totalOf
   total-above l = above-limit _ (omega (arith, sizes-in-steps r f arr raw, given-size r arr u))
 
@@ -86,14 +87,14 @@ module _ (r : TypeRow) (f arr raw size : ℕ) (u : arrayAllowed r arr ≡ true) 
   unfolding totalOf headLength
   total-without e = ap limitedTo (omega (arith, sizes-in-steps r f arr raw, given-size r arr u, pick-false {A = ℕ} (4 + raw) 0 e))
 
-pub limited-above : (n : ℕ) → limitedTo n ≡ Above → 8192 < n
+pub limited-above : (n : ℕ) → limitedTo n ≡ Above → packetLimit < n
 unfolding limitedTo
 limited-above n e =
-    ⊎-elim (λ w. ltb-true 8192 n (w .0)) (λ w. let z : _≡_ {A = ℕ} 0 1 = cc in absurd (omega arith))
-    (pick-cases (ltb 8192 n) Above (Bytes n) Above e)
+    ⊎-elim (λ w. ltb-true packetLimit n (w .0)) (λ w. let z : _≡_ {A = ℕ} 0 1 = cc in absurd (omega arith))
+    (pick-cases (ltb packetLimit n) Above (Bytes n) Above e)
 
-pub limited-bytes : (n m : ℕ) → limitedTo n ≡ Bytes m → (n ≡ m) × (n ≤ 8192)
+pub limited-bytes : (n m : ℕ) → limitedTo n ≡ Bytes m → (n ≡ m) × (n ≤ packetLimit)
 unfolding limitedTo
 limited-bytes n m e =
-    ⊎-elim (λ w. let z : _≡_ {A = ℕ} 0 1 = cc in absurd (omega arith)) (λ w. (cc, ltb-false 8192 n (w .0)))
-    (pick-cases (ltb 8192 n) Above (Bytes n) (Bytes m) e)
+    ⊎-elim (λ w. let z : _≡_ {A = ℕ} 0 1 = cc in absurd (omega arith)) (λ w. (cc, ltb-false packetLimit n (w .0)))
+    (pick-cases (ltb packetLimit n) Above (Bytes n) (Bytes m) e)

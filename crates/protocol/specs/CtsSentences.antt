@@ -13,6 +13,7 @@ use Rattle.protocol.specs.declared.types.Connid.{Connid}
 use Rattle.protocol.specs.declared.types.CqData.{CqData}
 use Rattle.protocol.specs.Types.{everyRow}
 use Rattle.wire.specs.LittleEndian.{leAt}
+use Rattle.protocol.specs.Limits.{packetLimit}
 
 -- the values of a CTS: type 3, its fields "send_id 4, recv_id 4, recv_length 8", no optional header and no data
 abbrev pub ctsValues : ℕ → ℕ → ℕ → Values
@@ -29,7 +30,7 @@ ctsValues sendId recvId recvLength =
 -- 24 bytes that the reader reads as this CTS, with "flags and multiuse 0"
 pub record ReadsAsCts (bs : List ℕ) (sendId recvId recvLength : ℕ) : Type 0 where
   pub size : length bs ≡ 24
-  pub says : readSays bs (readOf everyRow 8192 bs) ≡ gives (ctsValues sendId recvId recvLength)
+  pub says : readSays bs (readOf everyRow packetLimit bs) ≡ gives (ctsValues sendId recvId recvLength)
   pub flags : leAt 2 bs 2 ≡ 0
   pub multiuse : leAt 4 bs 4 ≡ 0
 

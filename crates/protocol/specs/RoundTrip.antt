@@ -27,6 +27,7 @@ use Rattle.protocol.specs.declared.types.CqData.{CqData}
 use Rattle.protocol.specs.declared.types.Header.{Header}
 use Rattle.protocol.specs.declared.types.Packet.{Packet}
 use Rattle.protocol.specs.Sections.{arraySpan}
+use Rattle.protocol.specs.Limits.{packetLimit}
 
 abbrev pub cqDataOrZero : CqData → ℕ
 cqDataOrZero CqData.Absent = 0
@@ -62,7 +63,7 @@ abbrev pub WritesWhatWasRead : Type 0
 WritesWhatWasRead =
     (which : TypeRow → Bool) (limit : ℕ) (bs : List ℕ) (h : Header) (raw body out : List ℕ)
     → ((i : ℕ) → getD bs i 0 < 256)
-    → length bs ≤ 8192
+    → length bs ≤ packetLimit
     → length bs ≤ length out
     → readSays bs (readOf which limit bs) ≡ gives (values h raw body)
     → (writtenSays (writeOf h raw body out .answer) ≡ gives (length bs)) × (writeOf h raw body out .out ≡ storeAt out 0 (blanked bs))

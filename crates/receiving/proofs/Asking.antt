@@ -36,9 +36,10 @@ use Rattle.laws.proofs.Choosing.{pick-first, pick-second}
 use Rattle.laws.proofs.Storing.{store-nothing}
 use Rattle.protocol.proofs.Accepted.{ReadAs, as-read, packetOf}
 use Rattle.protocol.proofs.Served.{any-read}
-use Rattle.peer.proofs.Kept.{begun-beside, continued-beside}
-use Rattle.peer.proofs.Valid.{Valid, Within, fits-valid}
-use Rattle.peer.proofs.Verdicts.{Judged, again-inside, chosen-at, continued-at, found-within, judged}
+use Rattle.peer.proofs.step.Kept.{begun-beside, continued-beside}
+use Rattle.peer.proofs.slots.Valid.{Valid, Within, fits-valid}
+use Rattle.peer.proofs.step.Verdicts.{Judged, again-inside, chosen-at, continued-at, found-within, judged}
+use Rattle.protocol.specs.Limits.{packetLimit}
 
 -- ---- a grant
 
@@ -51,7 +52,7 @@ grant-one limit m g =
 
 pub grant-most : (limit credits : ℕ) → Limited limit → credits ≤ 16 → credits * (limit - 32) ≤ 131072
 grant-most limit credits l h =
-    let some : limit - 32 ≤ 8192 = omega (arith, l .high) in
+    let some : limit - 32 ≤ packetLimit = omega (arith, l .high) in
     omega (arith, mul-le-mul h some)
 
 -- more is due only where length remains

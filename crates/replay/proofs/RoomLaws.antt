@@ -9,6 +9,7 @@ use native.Mathlib.Omega.{arith}
 use Rattle.laws.proofs.Choosing.{and-right, branch, tested}
 use Rattle.engine.specs.SetUp.{peerCount}
 use Rattle.replay.specs.Replaying.{lentOf}
+use Rattle.peer.specs.State.{areaLimit}
 
 -- the room is counted by lines, behind that of the first and the last
 pub room-by-lines : (budget text : ℕ) → 64 ≤ text → leb budget ((text - 64) / 80) ≡ leb (64 + 80 * budget) text
@@ -22,6 +23,6 @@ room-by-lines budget text h =
 pub lent-there : (n each there : ℕ) → lentOf n each there ≤ there
 unfolding lentOf
 lent-there n each there =
-    branch (λ (k : ℕ). k ≤ there) (leb n peerCount && (leb each 8192 && leb (n * each) there)) _ _
-    (λ t. leb-true (n * each) there (and-right (leb each 8192) _ (and-right (leb n peerCount) _ t)))
+    branch (λ (k : ℕ). k ≤ there) (leb n peerCount && (leb each areaLimit && leb (n * each) there)) _ _
+    (λ t. leb-true (n * each) there (and-right (leb each areaLimit) _ (and-right (leb n peerCount) _ t)))
     (λ t. omega arith)

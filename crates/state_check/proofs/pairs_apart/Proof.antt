@@ -14,7 +14,7 @@ use Rattle.laws.proofs.Listing.{length-mapped}
 use Rattle.peer.specs.State.{freeSlot, isFree, noneClash, pairsApart, phaseAt, slotCount}
 use Rattle.peer.specs.declared.types.Phase.{Phase}
 use Rattle.peer.specs.declared.types.Slot.{Slot}
-use Rattle.peer.proofs.SlotTurns.{free-apart, none-end, none-turn, pairs-end, pairs-turn}
+use Rattle.peer.proofs.slots.SlotTurns.{free-apart, none-end, none-turn, pairs-end, pairs-turn}
 use Rattle.state_check.proofs.pairs_apart.Statement.{statement}
 use Rattle.state_check.proofs.pairs_apart.Tie as tie
 

@@ -7,7 +7,7 @@ use mathlib.Core.Path.{_≡_, sym, _∙_}
 use native.Mathlib.Omega.{arith}
 use Rattle.laws.proofs.Listing.{length-mapped}
 use Rattle.peer.specs.State.{allFit}
-use Rattle.peer.proofs.SlotTurns.{fit-end, fit-turn}
+use Rattle.peer.proofs.slots.SlotTurns.{fit-end, fit-turn}
 use Rattle.state_check.proofs.slots_fit.Statement.{statement}
 use Rattle.state_check.proofs.slots_fit.Tie as tie
 

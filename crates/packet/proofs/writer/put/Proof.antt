@@ -11,6 +11,7 @@ use Rattle.protocol.proofs.StepLaws.{packet-in-steps}
 use Rattle.protocol.proofs.WritingLaws.{length-mandatory, length-packet, raw-fits}
 use Rattle.packet.proofs.writer.put.Statement.{statement}
 use Rattle.packet.proofs.writer.put.Tie as tie
+use Rattle.protocol.specs.Limits.{packetLimit}
 
 -- the parts have room
 room : (c : tie.Start) → let a = c .args in
@@ -27,7 +28,7 @@ room c =
     rw (← length-packet (a .row) (a .header) (a .array .now) (a .raw .now) (a .«data» .now) (c .pre .0) (p .0) (p .1 .0)) (p .1 .1 .1)
 
 -- and the array is short
-short : (c : tie.Start) → length (c .args .array .now) ≤ 8192
+short : (c : tie.Start) → length (c .args .array .now) ≤ packetLimit
 short c =
     let a = c .args in
     let p = c .pre .1 .1 in

@@ -15,6 +15,7 @@ use Rattle.laws.proofs.Choosing.{and-left, and-right}
 use Rattle.protocol.proofs.WritingLaws.{limited-above, limited-bytes, total-is}
 use Rattle.packet.proofs.writer.typed.Statement.{statement}
 use Rattle.packet.proofs.writer.typed.Tie as tie
+use Rattle.protocol.specs.Limits.{packetLimit}
 
 -- past the tests of optional headers, array and lengths, the bytes are written
 passed : (c : tie.Else2) → let a = c .before .before .before .before .before .before .before .before .args in
@@ -50,7 +51,7 @@ answered c =
 measured : (c : tie.After-known-told) →
     let a = c .before .before .before .before .before .before .before .before .before .before .before .before .before .args in
     let bytes = packetBytes (a .row) (a .header) (a .array .now) (a .raw .now) (a .«data» .now) in
-    (length bytes ≡ c .before .n .given .0 .0) × (length bytes ≤ 8192)
+    (length bytes ≡ c .before .n .given .0 .0) × (length bytes ≤ packetLimit)
 measured c = limited-bytes _ _ (answered (c .before .before .before) ∙ c .before .n .given .1)
 
 returns : tie.Need-returns
@@ -78,7 +79,7 @@ returns-3 c =
     let t = c .before .before in
     let m = measured t in
     let k = rw (← m .0) at (c .before .if3 .taken) in
-    rw (passed (t .before .before .before .before .before), le-ltb 8192 _ (m .1), lt-ltb _ _ k, c .refused4 .ensures)
+    rw (passed (t .before .before .before .before .before), le-ltb packetLimit _ (m .1), lt-ltb _ _ k, c .refused4 .ensures)
 
 put-requires : tie.Need-put-requires
 put-requires c κs =
@@ -93,7 +94,7 @@ unfolding writeBytes pick
 returns-4 c =
     let t = c .before .before .before in
     let e = limited-above _ (answered t ∙ c .before .enum-told .given .1) in
-    rw (passed (t .before .before), lt-ltb 8192 _ e, c .refused3 .ensures)
+    rw (passed (t .before .before), lt-ltb packetLimit _ e, c .refused3 .ensures)
 
 returns-5 : tie.Need-returns-5
 unfolding writeBytes pick
@@ -102,7 +103,7 @@ returns-5 c =
     let t = w .before .before .before in
     let m = measured t in
     let k = rw (← m .0) at (w .before .before .if3 .left) in
-    rw (passed (t .before .before .before .before .before), le-ltb 8192 _ (m .1), le-ltb _ _ k, w .put .ensures, m .0)
+    rw (passed (t .before .before .before .before .before), le-ltb packetLimit _ (m .1), le-ltb _ _ k, w .put .ensures, m .0)
 
 pub typed-spec : {M : Type 1} → statement M
 typed-spec =

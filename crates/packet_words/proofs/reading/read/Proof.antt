@@ -8,9 +8,10 @@ use Rattle.protocol.specs.Reading.{readOf}
 use Rattle.protocol.specs.Types.{everyRow}
 use Rattle.packet_words.proofs.reading.read.Statement.{statement}
 use Rattle.packet_words.proofs.reading.read.Tie as tie
+use Rattle.protocol.specs.Limits.{packetLimit}
 
 -- what the packet reader answers, with its own limit
-answer : (c : tie.After-read) → c .read .result ≡ readOf everyRow 8192 (c .before .before .before .before .args .bytes .now)
+answer : (c : tie.After-read) → c .read .result ≡ readOf everyRow packetLimit (c .before .before .before .before .args .bytes .now)
 answer c = c .read .ensures
 
 returns : tie.Need-returns

@@ -8,7 +8,7 @@ use native.Mathlib.Omega.{arith}
 use Rattle.laws.proofs.Listing.{length-mapped}
 use Rattle.peer.specs.Calls.{countOlder}
 use Rattle.peer.specs.State.{phaseAt}
-use Rattle.peer.proofs.SlotTurns.{older-end, older-turn, one-older-le}
+use Rattle.peer.proofs.slots.SlotTurns.{older-end, older-turn, one-older-le}
 use Rattle.posting.proofs.ages.count_older.Statement.{statement}
 use Rattle.posting.proofs.ages.count_older.Tie as tie
 

@@ -8,7 +8,7 @@ use native.Mathlib.Omega.{arith}
 use Rattle.laws.proofs.Listing.{length-mapped}
 use Rattle.peer.specs.Calls.{countPosted}
 use Rattle.peer.specs.State.{phaseAt}
-use Rattle.peer.proofs.SlotTurns.{one-posted-le, posted-end, posted-turn}
+use Rattle.peer.proofs.slots.SlotTurns.{one-posted-le, posted-end, posted-turn}
 use Rattle.posting.proofs.ages.count_posted.Statement.{statement}
 use Rattle.posting.proofs.ages.count_posted.Tie as tie
 

@@ -9,7 +9,7 @@ use Rattle.laws.specs.Choose.{pick}
 use Rattle.laws.proofs.Comparing.{beyond, not-beyond}
 use Rattle.laws.proofs.Listing.{length-mapped}
 use Rattle.peer.specs.Calls.{placedIn, postEffect}
-use Rattle.peer.proofs.Slots.{vacant}
+use Rattle.peer.proofs.slots.Slots.{vacant}
 use Rattle.posting.proofs.calls.post.Statement.{statement}
 use Rattle.posting.proofs.calls.post.Tie as tie
 

@@ -7,7 +7,7 @@ use native.Mathlib.Omega.{arith}
 use Rattle.peer.specs.Matching.{vacancy}
 use Rattle.laws.proofs.Choosing.{pick-false, pick-true}
 use Rattle.laws.proofs.Listing.{length-mapped}
-use Rattle.peer.proofs.SlotTurns.{vacancy-end, vacancy-turn}
+use Rattle.peer.proofs.slots.SlotTurns.{vacancy-end, vacancy-turn}
 use Rattle.posting.proofs.places.find_vacancy.Statement.{statement}
 use Rattle.posting.proofs.places.find_vacancy.Tie as tie
 

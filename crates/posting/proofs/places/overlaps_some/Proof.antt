@@ -6,7 +6,7 @@ use mathlib.Core.Path.{_≡_, sym, _∙_}
 use native.Mathlib.Omega.{arith}
 use Rattle.laws.proofs.Listing.{length-mapped}
 use Rattle.peer.specs.Calls.{overlapsSome}
-use Rattle.peer.proofs.SlotTurns.{overlaps-end, overlaps-turn}
+use Rattle.peer.proofs.slots.SlotTurns.{overlaps-end, overlaps-turn}
 use Rattle.posting.proofs.places.overlaps_some.Statement.{statement}
 use Rattle.posting.proofs.places.overlaps_some.Tie as tie
 

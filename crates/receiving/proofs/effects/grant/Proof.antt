@@ -2,7 +2,7 @@
 use borrow.Author.Needs.{needs}
 use native.Mathlib.Omega.{arith}
 use Rattle.receiving.proofs.Asking.{grant-one}
-use Rattle.peer.proofs.Kept.{grant-le}
+use Rattle.peer.proofs.step.Kept.{grant-le}
 use Rattle.receiving.proofs.effects.grant.Statement.{statement}
 use Rattle.receiving.proofs.effects.grant.Tie as tie
 

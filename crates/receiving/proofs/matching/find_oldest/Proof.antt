@@ -7,7 +7,7 @@ use native.Mathlib.Omega.{arith}
 use Rattle.laws.proofs.Listing.{length-mapped}
 use Rattle.peer.specs.Matching.{oldest}
 use Rattle.peer.specs.declared.types.Fit.{Fit}
-use Rattle.peer.proofs.SlotTurns.{oldest-end, oldest-turn}
+use Rattle.peer.proofs.slots.SlotTurns.{oldest-end, oldest-turn}
 use Rattle.receiving.proofs.matching.find_oldest.Statement.{statement}
 use Rattle.receiving.proofs.matching.find_oldest.Tie as tie
 

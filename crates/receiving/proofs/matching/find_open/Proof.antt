@@ -6,7 +6,7 @@ use mathlib.Core.Path.{_≡_, sym, _∙_}
 use native.Mathlib.Omega.{arith}
 use Rattle.laws.proofs.Listing.{length-mapped}
 use Rattle.peer.specs.Matching.{findOpen}
-use Rattle.peer.proofs.SlotTurns.{open-end, open-turn}
+use Rattle.peer.proofs.slots.SlotTurns.{open-end, open-turn}
 use Rattle.receiving.proofs.matching.find_open.Statement.{statement}
 use Rattle.receiving.proofs.matching.find_open.Tie as tie
 

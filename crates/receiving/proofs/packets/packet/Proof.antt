@@ -9,7 +9,7 @@ use Rattle.laws.specs.Choose.{pick}
 use Rattle.peer.specs.Calls.{packetEffect, readEffect}
 use Rattle.laws.proofs.Storing.{lent-part}
 use Rattle.receiving.proofs.Asking.{data-inside, left-quiet}
-use Rattle.peer.proofs.PacketsRead.{read-formed}
+use Rattle.peer.proofs.sentences.PacketsRead.{read-formed}
 use Rattle.receiving.proofs.packets.packet.Statement.{statement}
 use Rattle.receiving.proofs.packets.packet.Tie as tie
 

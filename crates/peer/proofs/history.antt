@@ -1,0 +1,8 @@
+pub mod Facts
+pub mod Order
+pub mod Bytes
+pub mod Grants
+pub mod Once
+pub mod Count
+pub mod OriginsHold
+pub mod OriginReplies

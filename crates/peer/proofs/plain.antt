@@ -1,0 +1,7 @@
+pub mod Roles
+pub mod EntrySearch
+pub mod CoverageLaws
+pub mod Agreement
+pub mod Entered
+pub mod Steps
+pub mod Replies

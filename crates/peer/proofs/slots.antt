@@ -1,0 +1,5 @@
+pub mod Slots
+pub mod SlotTurns
+pub mod Valid
+pub mod Ages
+pub mod CannotBeLaws
