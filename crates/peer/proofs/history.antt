@@ -1,3 +1,4 @@
+-- What is claimed of the plain receiver after every history.
 pub mod Facts
 pub mod Order
 pub mod Bytes

@@ -1,3 +1,4 @@
+-- Engine and plain receiver answer alike and go on agreeing.
 pub mod Roles
 pub mod EntrySearch
 pub mod CoverageLaws

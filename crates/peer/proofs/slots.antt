@@ -1,3 +1,4 @@
+-- A peer's slots: what searches of them find, which peers can be, and the order of posts.
 pub mod Slots
 pub mod SlotTurns
 pub mod Valid

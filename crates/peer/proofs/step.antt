@@ -1,3 +1,4 @@
+-- One step of a peer: what a call may come to, what it keeps, and what each answer leaves.
 pub mod StepCases
 pub mod Verdicts
 pub mod AnswerLaws

@@ -1,6 +1,6 @@
 -- Refusal 2 of one peer in 01's own words, clause by clause: "within one peer below n a used range (of a posted or open slot) outside its
 -- area, two overlapping used ranges, two open messages with one id, two posted receives of one age, open length above capacity, granted
--- end above length". Proved in proofs/CannotBeLaws.antt.
+-- end above length". Proved in proofs/slots/CannotBeLaws.antt.
 use Prim.Native.Nat.{ℕ, _+_, _<_}
 use mathlib.Core.Bool.{true, false}
 use mathlib.Core.Logic.{_↔_, _≢_}

@@ -1,6 +1,6 @@
 -- A peer's checks from 5 on, each in 01's own words over a view of the peer, and each call's list of them in 01's order: a call is refused by
--- the first that fails, and by none exactly if it is not refused. Proved in proofs/AnswersChecked.antt, proofs/AcceptOrRefuse.antt and
--- proofs/HistoryChecked.antt.
+-- the first that fails, and by none exactly if it is not refused. Proved in proofs/refusals/AnswersChecked.antt, proofs/refusals/AcceptOrRefuse.antt and
+-- proofs/refusals/HistoryChecked.antt.
 use Prim.Native.Nat.{ℕ, _+_, _%_, _^_, _≤_, _<_}
 use lib.ListN.{length}
 use mathlib.Core.Bool.{true, false}

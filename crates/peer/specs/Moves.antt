@@ -1,5 +1,5 @@
 -- What each answer of a peer's call leaves of its slots, next id, map and area, in 01's own words, over roles, bits and bytes: accepted segments,
--- the missing-byte report, and the statement of every answer. Proved in proofs/MovesHold.antt and proofs/SlotsRound.antt.
+-- the missing-byte report, and the statement of every answer. Proved in proofs/step/MovesHold.antt and proofs/step/SlotsRound.antt.
 use Prim.Native.Nat.{ℕ, _+_, _-_, _*_, _^_, _<_, _≤_, min, max}
 use lib.ListN.{length, drop}
 use mathlib.Core.Bool.{true}

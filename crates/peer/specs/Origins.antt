@@ -1,5 +1,5 @@
 -- Where a message comes from, by the calls of a history: the post that its slot was posted with, and the packet that matched it, byte by byte.
--- Proved in proofs/OriginsHold.antt and proofs/OriginReplies.antt.
+-- Proved in proofs/history/OriginsHold.antt and proofs/history/OriginReplies.antt.
 use Prim.Native.Nat.{ℕ, _+_, _≤_, _<_}
 use lib.ListN.{length, getD, drop, replicate, set}
 use mathlib.Core.Bool.{false}

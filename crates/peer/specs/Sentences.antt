@@ -1,5 +1,5 @@
 -- The tests that engine and plain receiver share, in 01's own words, over numbers, bits and bytes.
--- Proved in proofs/SentencesHold.antt, proofs/OffsetsHold.antt and proofs/FieldsHold.antt.
+-- Proved in proofs/sentences/SentencesHold.antt, proofs/sentences/OffsetsHold.antt and proofs/sentences/FieldsHold.antt.
 use Prim.Native.Nat.{ℕ, _+_, _%_, _^_, _≤_, _<_}
 use lib.ListN.{length, getD}
 use mathlib.Core.Bool.{Bool, true, false}

@@ -158,7 +158,7 @@ fields-read gs told h a c at y x p = map-own _ _ gs (λ f m o. number-in gs at _
 -- ---- two ways to number fields
 
 -- that agree on the fields gs agree on each of them
-map-has : (u v : Field → ℕ) (gs : List Field) (f : Field) → map u gs ≡ map v gs → has f gs ≡ true → u f ≡ v f
+pub map-has : (u v : Field → ℕ) (gs : List Field) (f : Field) → map u gs ≡ map v gs → has f gs ≡ true → u f ≡ v f
 map-has u v [] f e m = absurd (false≢true m)
 map-has u v (g ∷ gs) f e m =
     let x : u g ≡ v g = cc in

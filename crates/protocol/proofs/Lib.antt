@@ -26,6 +26,7 @@ pub mod ValuesWritten
 pub mod RoundTrips
 pub mod RowTrips
 pub mod Served
+pub mod HeaderBack
 pub mod CtsRead
 pub mod BytesHold
 pub mod ReadNumbers

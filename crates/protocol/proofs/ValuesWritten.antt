@@ -65,23 +65,23 @@ raw-same true false x y e = let z : _≡_ {A = ℕ} 0 1 = cc in absurd (omega ar
 raw-same false true x y e = let z : _≡_ {A = ℕ} 0 1 = cc in absurd (omega arith)
 
 module _ (h g : Header) (raw raw′ body body′ : List ℕ) (same : values h raw body ≡ values g raw′ body′) where
-  kind-same : h .kind ≡ g .kind
+  pub kind-same : h .kind ≡ g .kind
   unfolding values
   kind-same = ap (λ (v : Values). v .kind) same
 
-  own-same : ownNumbers (rowOf (h .kind)) (h .fields) ≡ ownNumbers (rowOf (g .kind)) (g .fields)
+  pub own-same : ownNumbers (rowOf (h .kind)) (h .fields) ≡ ownNumbers (rowOf (g .kind)) (g .fields)
   unfolding values
   own-same = ap (λ (v : Values). v .own) same
 
-  address-same : (h .«raw_address» ≡ g .«raw_address») × (rawAddressBytes (h .«raw_address») raw ≡ rawAddressBytes (g .«raw_address») raw′)
+  pub address-same : (h .«raw_address» ≡ g .«raw_address») × (rawAddressBytes (h .«raw_address») raw ≡ rawAddressBytes (g .«raw_address») raw′)
   unfolding values
   address-same = raw-same (h .«raw_address») (g .«raw_address») raw raw′ (ap (λ (v : Values). v .rawAddress) same)
 
-  cq-same : h .«cq_data» ≡ g .«cq_data»
+  pub cq-same : h .«cq_data» ≡ g .«cq_data»
   unfolding values
   cq-same = ap (λ (v : Values). v .cqData) same
 
-  connid-same : h .connid ≡ g .connid
+  pub connid-same : h .connid ≡ g .connid
   unfolding values
   connid-same = ap (λ (v : Values). v .connid) same
 

@@ -1,9 +1,10 @@
 -- Reader and writer undo each other (01: "Reading a written packet gives the values written. Writing the values read gives the same
--- bytes, except that padding, and multiuse without its flag, become zero"). Proved in proofs/RoundTrips.antt and proofs/RowTrips.antt.
+-- bytes, except that padding, and multiuse without its flag, become zero"). Proved in proofs/RoundTrips.antt, proofs/RowTrips.antt and
+-- proofs/HeaderBack.antt.
 use Prim.Native.Nat.{ℕ, _^_, _<_, _≤_}
 use lib.Dec.{eqb}
 use lib.ListN.{length, getD, take, drop, replicate}
-use mathlib.Core.Bool.{Bool}
+use mathlib.Core.Bool.{Bool, true}
 use mathlib.Core.List.{List, [], _∷_, map}
 use mathlib.Core.Option.{some, none}
 use mathlib.Core.Path.{_≡_}
@@ -13,7 +14,7 @@ use Rattle.protocol.specs.ByType.{bitOf, column}
 use Rattle.protocol.specs.Checks.{gives}
 use Rattle.protocol.specs.Sentences.{flagsIn, typeIn}
 use Rattle.protocol.specs.FieldNumbers.{numberIn}
-use Rattle.protocol.specs.Layout.{Field, ownFields, width}
+use Rattle.protocol.specs.Layout.{Field, ownFields, placeOf, width}
 use Rattle.protocol.specs.Options.{connidOrZero}
 use Rattle.protocol.specs.Reading.{readFlags, readLengths, readOf}
 use Rattle.protocol.specs.Rules.{Sound}
@@ -26,6 +27,7 @@ use Rattle.protocol.specs.declared.table.TypeRow.{TypeRow}
 use Rattle.protocol.specs.declared.types.CqData.{CqData}
 use Rattle.protocol.specs.declared.types.Header.{Header}
 use Rattle.protocol.specs.declared.types.Packet.{Packet}
+use Rattle.protocol.specs.declared.types.Read.{Read}
 use Rattle.protocol.specs.Sections.{arraySpan}
 use Rattle.protocol.specs.Limits.{packetLimit}
 
@@ -47,6 +49,27 @@ ReadsWhatWasWritten =
     → n ≤ limit
     → writtenSays (writeOf h raw body out .answer) ≡ gives n
     → readSays (take n (writeOf h raw body out .out)) (readOf everyRow limit (take n (writeOf h raw body out .out))) ≡ gives (values h raw body)
+
+-- a header has zero in each field that the type r has not
+abbrev pub ZeroOutside : TypeRow → Header → Type 0
+ZeroOutside r h = (f : Field) → placeOf r f ≡ 0 → numberIn (h .fields) f ≡ 0
+
+-- a header with zeros outside its layout reads back as itself, with the bytes written, by every reader that admits its type
+abbrev pub HeaderReadsBack : Type 0
+HeaderReadsBack =
+    (which : TypeRow → Bool) (r : TypeRow) (h : Header) (raw body out : List ℕ) (limit n : ℕ)
+    → rowOf (h .kind) ≡ Row r
+    → which r ≡ true
+    → Numbers h
+    → ZeroOutside r h
+    → n ≤ limit
+    → writtenSays (writeOf h raw body out .answer) ≡ gives n
+    → let bs = take n (writeOf h raw body out .out) in
+    (p : Packet)
+    × (readOf which limit bs ≡ Read.Packet p)
+    × (p .header ≡ h)
+    × (h .«raw_address» ≡ true → bytesAt bs (p .«raw_address») ≡ raw)
+    × (bytesAt bs (p .«data») ≡ body)
 
 -- the bytes bs of a packet of type k with the flags f, with zero for those that no value is read from: with 0x8000 CTSDATA's padding, bytes 28 to
 -- 31, without it a CTS's multiuse, bytes 4 to 7
