@@ -45,9 +45,10 @@ returns-2 c =
     let w = c .before .before .before .before .before .before .before .before .before .before .before .before .before .before .before .before .before .before .before .put-line in
     let r = c .before .before .before .before .before .before .before .before .before .before .before .before .run in
     let p = c .before .before .put-ending in
+    let e = c .before .before .before .before .before .before .before .before .before .before .before .before .before .before .before .before .before .before .before .before .before .before .before in
     reported-by-parts _ _ _ (a .text .now) _ (a .budget) (calls-few (a .budget) _ _ _) (s .pre) _ _ (w .ensures .0) (rw (w .ensures .1) at (r .ensures)) _ _
     (p .ensures .0) (p .ensures .1)
-    ∙ sym (replay-from-ready _ _ _ _ _ _ _ _ _ _ _ (c .before .before .before .before .before .before .before .before .before .before .before .before .before .before .before .before .before .before .before .before .before .before .before .before .before .before .before .before .set-up .ensures) (c .before .before .before .before .before .before .before .before .before .before .before .before .before .before .before .before .before .before .before .before .before .before .before .enum-told .given .1))
+    ∙ sym (replay-from-ready _ _ _ _ _ _ _ _ _ _ _ (e .before .before .before .before .before .set-up .ensures) (e .enum-told .given .1))
 
 pub begin-spec : {M : Type 1} → statement M
 begin-spec =

@@ -65,11 +65,12 @@ returns-3 c =
     let g = c .before .before .before .before .before .before .before .before .begin in
     let m = c .before .before .before .before .before .before .before .before .before .before .before .before .before .before .lent in
     let k = c .before .before .before .before .before .before .before .before .before .before .before .before .before .lent2 in
+    let e = c .before .before .before .before .before .before .before .before .before .before .before .before .before .before .before .before in
     put-back (a .arena .now) (a .map .now) _ (m .result) (k .result)
     (g .kept .1 .1 .1 .1 .1 .1 .0 ∙ length-take-le _ _ (rw (m .ensures) (lent-there _ _ _)))
     (g .kept .1 .1 .1 .1 .1 .1 .1 .0 ∙ length-take-le _ _ (rw (k .ensures) (lent-there _ _ _)))
     ∙ ap (inWhole (a .arena .now) (a .map .now)) (g .ensures)
-    ∙ sym (pick-true _ _ (open-room (c .before .before .before .before .before .before .before .before .before .before .before .before .before .before .before .before .before .before .before)) ∙ rw (sym (c .before .before .before .before .before .before .before .before .before .before .before .before .before .before .before .before .before .before .read-set-up .ensures) ∙ c .before .before .before .before .before .before .before .before .before .before .before .before .before .before .before .before .n .given .1, ← m .ensures, ← k .ensures))
+    ∙ sym (pick-true _ _ (open-room (e .before .before .before)) ∙ rw (sym (e .before .before .read-set-up .ensures) ∙ e .n .given .1, ← m .ensures, ← k .ensures))
 
 pub replay-spec : {M : Type 1} → statement M
 replay-spec =
