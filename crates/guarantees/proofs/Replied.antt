@@ -23,9 +23,9 @@ use Rattle.peer.proofs.plain.Replies.{Replying, step-replies}
 -- what holds of every refusal and of the peer's own turn holds of a call
 called : (P : Turn → Type 0) (w : World) (p : ℕ) (c : Call) → ((k : Refusal) → P (refusedTurn w k)) → P (peerTurn w p c) → P (callTurn w p c)
 unfolding callTurn
-called P w p c shut own =
+called P w p c refuse own =
     pick-either P (engineFits (w .engine)) (pick-either P (lentFits (w .engine .n) (w .engine .area) (length (w .arena)) (length (w .map)))
-    (pick-either P (ltb p (w .engine .n)) own (shut badPeer)) (shut badLent)) (shut badState)
+    (pick-either P (ltb p (w .engine .n)) own (refuse badPeer)) (refuse badLent)) (refuse badState)
 
 -- a grant's reply is a CTS of 24 bytes, for which there is room; no other answer comes with a reply
 replies : (w : World) (q : LentRequest) → Replying (length (bufferOf (q .call))) (turnOf w q .reply) (turnOf w q .answer)

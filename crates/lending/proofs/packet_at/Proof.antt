@@ -8,6 +8,7 @@ use Rattle.laws.proofs.Listing.{length-mapped}
 use Rattle.lending.proofs.PartLaws.{own-part, packet-put}
 use Rattle.lending.proofs.packet_at.Statement.{statement}
 use Rattle.lending.proofs.packet_at.Tie as tie
+use Rattle.peer.specs.State.{slotCount}
 
 packet-requires : tie.Need-packet-requires
 packet-requires c κs =
@@ -21,7 +22,7 @@ returns c =
     let s = c .before .before .before .before .before .before .before .before .before .before .before .before .before .before in
     let a = s .args in
     let m = s .pre in
-    let len : length (a .there .slots) ≡ 8 = search length-mapped in
+    let len : length (a .there .slots) ≡ slotCount = search length-mapped in
     packet-put (a .area) (a .limit) (a .p) (a .there) (a .arena .now) (a .map .now) (a .reply .now) (a .bytes .now) m len _ (c .before .before .before .before .before .before .packet .ensures)
 
 pub packet-at-spec : {M : Type 1} → statement M

@@ -118,17 +118,17 @@ unfolding truncatedAt begun accept placed
 starts-stepped area limit p ws starts c v eight s = go (step-case area limit p ws c)
   where
     -- a refusal notes nothing
-    shut : (c : Call) (k : Refusal) → Starts (p .slots) (noteStart starts c (Answer.Refused k))
-    shut (post r) k = s
-    shut (packet bs room) k = s
-    shut (cancel i) k = s
-    shut (report i) k = s
+    after-refusal : (c : Call) (k : Refusal) → Starts (p .slots) (noteStart starts c (Answer.Refused k))
+    after-refusal (post r) k = s
+    after-refusal (packet bs room) k = s
+    after-refusal (cancel i) k = s
+    after-refusal (report i) k = s
 
     freed : (i : ℕ) → i < length (p .slots) → Starts (set (p .slots) i (slotWith Phase.Free)) starts
     freed i h = starts-set (p .slots) starts i Phase.Free h s (λ u. absurd (true≢false u))
 
     go : {c : Call} {f : Effect} → StepCase area limit p ws c f → Starts (f .peer .slots) (noteStart starts c (f .answer))
-    go (refused c k m) = shut c k
+    go (refused c k m) = after-refusal c k
     go (posted r i e a w) =
         starts-noted (renumbered (p .slots) (p .slots)) starts i r _ (omega (arith, vacant (p .slots) i e .0, length-renumbered (p .slots) (p .slots))) (starts-renumbered (p .slots) starts s)
     go (cancelled i l u) = freed i (omega arith)

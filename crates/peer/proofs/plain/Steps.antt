@@ -154,16 +154,16 @@ module _ (area limit : ℕ) (p : Peer) (ws : List ℕ) (mem mem′ : ℕ → ℕ
   moved : (t : Target) → t .matched ≡ true → advance p .next ≡ nextAfter l t
   moved t x = ap (λ (n : ℕ). advance (record { next = n; slots = p .slots }) .next) (agrees .next) ∙ sym (pick-true _ _ x)
 
-  shut : (c : Call) (k : Refusal) → Wrote area mem mem′ 0 [] → Agrees p ws mem′ (enterAt l c nowhere (Answer.Refused k))
-  shut (post r) k w = same w
-  shut (packet bs room) k w = same w
-  shut (cancel i) k w = same w
-  shut (report i) k w = same w
+  after-refusal : (c : Call) (k : Refusal) → Wrote area mem mem′ 0 [] → Agrees p ws mem′ (enterAt l c nowhere (Answer.Refused k))
+  after-refusal (post r) k w = same w
+  after-refusal (packet bs room) k w = same w
+  after-refusal (cancel i) k w = same w
+  after-refusal (report i) k w = same w
 
   entered : {c : Call} {f : Effect} {t : Target} → Meets area limit p ws l c f t → Wrote area mem mem′ (f .at) (f .bytes)
       → Agrees (f .peer) (f .words) mem′ (enterAt l c t (f .answer))
   unfolding truncatedAt begun accept
-  entered (refused c k) w = shut c k w
+  entered (refused c k) w = after-refusal c k w
   entered (posted r i e) w = placed-agrees p ws mem′ l r i (same w) (vacant (p .slots) i e .0)
   entered (cancelled i h) w =
       agrees-set p ws ws mem′ mem′ l i Phase.Free noEntry (p .next) (l .next) (same w) (freed p ws mem′ l i (omega arith) (λ k o n x. same w .held k o x)) (agrees .next)

@@ -20,7 +20,7 @@ use Rattle.peer.specs.Coverage.{Segment, covers, inside}
 use Rattle.peer.specs.Expected.{expected}
 use Rattle.peer.specs.Plain.{Entry, Plain, slotEntry}
 use Rattle.peer.specs.Says.{said}
-use Rattle.peer.specs.State.{peerFits, phaseAt}
+use Rattle.peer.specs.State.{peerFits, phaseAt, slotCount}
 use Rattle.peer.specs.View.{OneEach, View, markedIn, roleOf, viewIn, viewOf}
 use Rattle.peer.specs.declared.types.Answer.{Answer}
 use Rattle.peer.specs.declared.types.Inbound.{Inbound}
@@ -136,7 +136,7 @@ module _ (area limit : ℕ) (p : Peer) (ws : List ℕ) where
       taken-in : (i x : ℕ) → covers (slotEntry (entriesOf segments (p .slots)) i .segments) x ≡ markedIn ws (phaseAt (p .slots) i) x
       taken-in i x = ap (λ (e : Entry). covers (e .segments) x) (slot-entry segments (p .slots) i) ∙ at (phaseAt (p .slots) i) x
 
-  pub step-checked : (c : Call) → peerFits area p ≡ true → length (p .slots) ≡ 8 → p .next < 2 ^ 32 → AreBytes c
+  pub step-checked : (c : Call) → peerFits area p ≡ true → length (p .slots) ≡ slotCount → p .next < 2 ^ 32 → AreBytes c
       → GoneFor area limit (viewOf p ws) (checksOf c) (peerStep area limit p ws c .answer)
   unfolding mirror
   step-checked c fit eight small b =

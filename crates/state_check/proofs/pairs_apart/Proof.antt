@@ -44,18 +44,6 @@ from-there f ss i len =
 there : (t : Bool) (i : ℕ) → i < slotCount → pick t slotCount (i + 1) ≤ slotCount
 there t i h = ⊎-elim (λ e. rw (pick-true slotCount (i + 1) e) (omega arith)) (λ e. rw (pick-false slotCount (i + 1) e) (omega arith)) (tested t)
 
-loop-holds : tie.Need-loop-holds Inv-loop2 μ-loop2 Inv-loop μ-loop
-loop-holds c = search needs
-
-mul-slot : tie.Need-mul-slot Inv-loop2 μ-loop2 Inv-loop μ-loop
-mul-slot c = search needs
-
-element-copy-out-slot : tie.Need-element-copy-out-slot Inv-loop2 μ-loop2 Inv-loop μ-loop
-element-copy-out-slot c = search needs
-
-first-other-requires : tie.Need-first-other-requires Inv-loop2 μ-loop2 Inv-loop μ-loop
-first-other-requires c κs = search needs
-
 loop2-holds : tie.Need-loop2-holds Inv-loop2 μ-loop2 Inv-loop μ-loop
 loop2-holds c =
     let l = c .before .before .before in
@@ -63,15 +51,6 @@ loop2-holds c =
     let len : length ss ≡ slotCount = search length-mapped in
     let r = c .first-other .ensures in
     (rw r (there _ (l .loop .i) (omega arith)), refl, rw r (from-there (phaseAt ss (l .loop .i)) ss (l .loop .i) len))
-
-mul-other : tie.Need-mul-other Inv-loop2 μ-loop2 Inv-loop μ-loop
-mul-other c = search needs
-
-element-copy-out-other : tie.Need-element-copy-out-other Inv-loop2 μ-loop2 Inv-loop μ-loop
-element-copy-out-other c = search needs
-
-clashes-requires : tie.Need-clashes-requires Inv-loop2 μ-loop2 Inv-loop μ-loop
-clashes-requires c κs = search needs
 
 returns : tie.Need-returns Inv-loop2 μ-loop2 Inv-loop μ-loop
 returns c =
@@ -84,12 +63,6 @@ returns c =
     m .loop2 .inv .2 ∙ rw (none-turn ss (m .loop2 .j) (omega (arith, len)) (phaseAt ss i), ← c .before .clashes .ensures, c .if1 .taken) in
     rw (l .loop .inv .1, pairs-turn ss i (omega (arith, len)), none)
 
-add-j : tie.Need-add-j Inv-loop2 μ-loop2 Inv-loop μ-loop
-add-j c = search needs
-
-loop2-less : tie.Need-loop2-less Inv-loop2 μ-loop2 Inv-loop μ-loop
-loop2-less c = search needs
-
 loop2-again : tie.Need-loop2-again Inv-loop2 μ-loop2 Inv-loop μ-loop
 loop2-again c =
     let m = c .before .before .before .before in
@@ -100,12 +73,6 @@ loop2-again c =
     let on : noneClash (phaseAt ss i) (drop (i + 1) ss) ≡ noneClash (phaseAt ss i) (drop (m .loop2 .j + 1) ss) =
     m .loop2 .inv .2 ∙ rw (none-turn ss (m .loop2 .j) (omega (arith, len)) (phaseAt ss i), ← c .before .clashes .ensures, c .if1 .left) in
     (omega arith, refl, on)
-
-add-i : tie.Need-add-i Inv-loop2 μ-loop2 Inv-loop μ-loop
-add-i c = search needs
-
-loop-less : tie.Need-loop-less Inv-loop2 μ-loop2 Inv-loop μ-loop
-loop-less c = search needs
 
 loop-again : tie.Need-loop-again Inv-loop2 μ-loop2 Inv-loop μ-loop
 loop-again c =
@@ -132,19 +99,19 @@ pairs-apart-spec =
     μ-loop2
     Inv-loop
     μ-loop
-    loop-holds
-    mul-slot
-    element-copy-out-slot
-    first-other-requires
+    (λ c. search needs)
+    (λ c. search needs)
+    (λ c. search needs)
+    (λ c κs. search needs)
     loop2-holds
-    mul-other
-    element-copy-out-other
-    clashes-requires
+    (λ c. search needs)
+    (λ c. search needs)
+    (λ c κs. search needs)
     returns
-    add-j
-    loop2-less
+    (λ c. search needs)
+    (λ c. search needs)
     loop2-again
-    add-i
-    loop-less
+    (λ c. search needs)
+    (λ c. search needs)
     loop-again
     returns-2)

@@ -70,18 +70,12 @@ array-write-digits-2 c = omega arith
 sub-write-bytes : tie.Need-sub-write-bytes Inv-loop μ-loop
 sub-write-bytes c = omega arith
 
-part-write-bytes-start : tie.Need-part-write-bytes-start Inv-loop μ-loop
-part-write-bytes-start c = search needs
-
 part-write-bytes-end : tie.Need-part-write-bytes-end Inv-loop μ-loop
 part-write-bytes-end c = simp length-set (omega arith)
 
 write-bytes-requires : tie.Need-write-bytes-requires Inv-loop μ-loop
 write-bytes-requires c κs =
     rw (digits-in (c .before .before .before)) (c .before .before .before .before .before .before .pre)
-
-same-length : tie.Need-same-length Inv-loop μ-loop
-same-length c = search needs
 
 returns : tie.Need-returns Inv-loop μ-loop
 returns c =
@@ -106,8 +100,8 @@ put-decimal-spec =
     cast-digits-2
     array-write-digits-2
     sub-write-bytes
-    part-write-bytes-start
+    (λ c. search needs)
     part-write-bytes-end
     write-bytes-requires
-    same-length
+    (λ c. search needs)
     returns)

@@ -69,12 +69,6 @@ write-bytes-requires c κs =
 loop-holds : tie.Need-loop-holds Inv-loop μ-loop
 loop-holds c = (omega arith, refl, refl, refl)
 
-mul-put-number : tie.Need-mul-put-number Inv-loop μ-loop
-mul-put-number c = search needs
-
-shared-slice-read-put-number : tie.Need-shared-slice-read-put-number Inv-loop μ-loop
-shared-slice-read-put-number c = search needs
-
 put-number-requires : tie.Need-put-number-requires Inv-loop μ-loop
 put-number-requires c κs =
     let s = c .before .before in
@@ -140,8 +134,8 @@ put-line-spec =
     μ-loop
     write-bytes-requires
     loop-holds
-    mul-put-number
-    shared-slice-read-put-number
+    (λ c. search needs)
+    (λ c. search needs)
     put-number-requires
     add-k
     loop-less

@@ -15,6 +15,7 @@ use Rattle.packed.specs.declared.types.FoundRequest.{FoundRequest}
 use Rattle.packed.proofs.BatchInvariant.{BatchInvariant, batch-again, batch-bad, batch-end, batch-inside, batch-next, batch-start, batch-words}
 use Rattle.packed.proofs.running.run_calls.Statement.{statement}
 use Rattle.packed.proofs.running.run_calls.Tie as tie
+use Rattle.engine.specs.SetUp.{peerCount}
 
 abbrev Inv-loop : tie.InvT-loop
 Inv-loop arena₀ map₀ calls bytes replies₀ answers₀ good most engine₀ at₀ taken₀ arena map replies answers engine at taken =
@@ -25,12 +26,6 @@ Inv-loop arena₀ map₀ calls bytes replies₀ answers₀ good most engine₀ a
 abbrev μ-loop : tie.MeasureT-loop
 μ-loop arena₀ map₀ calls bytes replies₀ answers₀ good most engine₀ at₀ taken₀ arena map replies answers engine at taken =
     most - taken
-
-fits-requires : tie.Need-fits-requires Inv-loop μ-loop
-fits-requires c κs = search needs
-
-budget-requires : tie.Need-budget-requires Inv-loop μ-loop
-budget-requires c κs = search needs
 
 loop-holds : tie.Need-loop-holds Inv-loop μ-loop
 loop-holds c =
@@ -45,12 +40,6 @@ loop-holds c =
 
 request-at-requires : tie.Need-request-at-requires Inv-loop μ-loop
 request-at-requires c κs = batch-words (c .before .loop .inv .5) (c .loop-test .taken)
-
-enum-known-found : tie.Need-enum-known-found Inv-loop μ-loop
-enum-known-found c = search needs
-
-enum-told : tie.Need-enum-told Inv-loop μ-loop
-enum-told c = search needs
 
 same-length : tie.Need-same-length Inv-loop μ-loop
 same-length c = c .before .before .before .before .loop .inv .0
@@ -67,15 +56,6 @@ same-length-4 c = c .before .before .before .before .loop .inv .3
 returns : tie.Need-returns Inv-loop μ-loop
 returns c = sym (batch-bad (c .before .before .before .before .loop .inv .5) (c .before .before .before .loop-test .taken) (sym (c .before .before .request-at .ensures) ∙ c .enum-told .given .1))
 
-admit-requires : tie.Need-admit-requires Inv-loop μ-loop
-admit-requires c κs = search needs
-
-enum-known-refusal : tie.Need-enum-known-refusal Inv-loop μ-loop
-enum-known-refusal c = search needs
-
-enum-told-2 : tie.Need-enum-told-2 Inv-loop μ-loop
-enum-told-2 c = search needs
-
 -- ---- a call that was read
 
 read : (c : tie.After-admit Inv-loop μ-loop) → let a = c .before .before .before .before .before .before .before .before .before .before .before .before .before .before .before .args in let l = c .before .before .before .before .before .before .loop in
@@ -83,7 +63,7 @@ read : (c : tie.After-admit Inv-loop μ-loop) → let a = c .before .before .bef
 read c = sym (c .before .before .before .before .request-at .ensures) ∙ c .before .before .found .given .1
 
 -- behind an open gate its peer is there
-below : (c : tie.After-enum-told2 Inv-loop μ-loop) → c .before .before .before .before .found .given .0 .0 .peer < 8
+below : (c : tie.After-enum-told2 Inv-loop μ-loop) → c .before .before .before .before .found .given .0 .0 .peer < peerCount
 below c =
     let l = c .before .before .before .before .before .before .before .before .loop in
     let s = l .inv .4 in
@@ -177,20 +157,20 @@ run-calls-spec =
     (tie.spec
     Inv-loop
     μ-loop
-    fits-requires
-    budget-requires
+    (λ c κs. search needs)
+    (λ c κs. search needs)
     loop-holds
     request-at-requires
-    enum-known-found
-    enum-told
+    (λ c. search needs)
+    (λ c. search needs)
     same-length
     same-length-2
     same-length-3
     same-length-4
     returns
-    admit-requires
-    enum-known-refusal
-    enum-told-2
+    (λ c κs. search needs)
+    (λ c. search needs)
+    (λ c. search needs)
     mul-there
     element-copy-out-there
     step-requires

@@ -7,28 +7,16 @@ use native.Mathlib.Nat.{add-assoc}
 use native.Mathlib.Omega.{arith}
 use Rattle.laws.proofs.Listing.{length-mapped}
 use Rattle.peer.specs.Calls.{countOlder}
-use Rattle.peer.specs.State.{phaseAt}
+use Rattle.peer.specs.State.{phaseAt, slotCount}
 use Rattle.peer.proofs.slots.SlotTurns.{older-end, older-turn, one-older-le}
 use Rattle.posting.proofs.ages.count_older.Statement.{statement}
 use Rattle.posting.proofs.ages.count_older.Tie as tie
 
 abbrev Inv-loop : tie.InvT-loop
-Inv-loop age self n₀ i₀ n i = (i ≤ 8) × (n ≤ i) × (countOlder age (self .slots) ≡ n + countOlder age (drop i (self .slots)))
+Inv-loop age self n₀ i₀ n i = (i ≤ slotCount) × (n ≤ i) × (countOlder age (self .slots) ≡ n + countOlder age (drop i (self .slots)))
 
 abbrev μ-loop : tie.MeasureT-loop
-μ-loop age self n₀ i₀ n i = 8 - i
-
-loop-holds : tie.Need-loop-holds Inv-loop μ-loop
-loop-holds c = search needs
-
-mul-slot : tie.Need-mul-slot Inv-loop μ-loop
-mul-slot c = search needs
-
-element-copy-out-slot : tie.Need-element-copy-out-slot Inv-loop μ-loop
-element-copy-out-slot c = search needs
-
-one-older-requires : tie.Need-one-older-requires Inv-loop μ-loop
-one-older-requires c κs = search needs
+μ-loop age self n₀ i₀ n i = slotCount - i
 
 add-n : tie.Need-add-n Inv-loop μ-loop
 add-n c =
@@ -36,17 +24,11 @@ add-n c =
     let one : c .one-older .result ≤ 1 = rw (c .one-older .ensures) (one-older-le (l .before .args .age) (phaseAt (l .before .args .t1 .slots) (l .loop .i))) in
     omega arith
 
-add-i : tie.Need-add-i Inv-loop μ-loop
-add-i c = search needs
-
-loop-less : tie.Need-loop-less Inv-loop μ-loop
-loop-less c = search needs
-
 loop-again : tie.Need-loop-again Inv-loop μ-loop
 loop-again c =
     let l = c .before .before .before in
     let ss = l .before .args .t1 .slots in
-    let len : length ss ≡ 8 = search length-mapped in
+    let len : length ss ≡ slotCount = search length-mapped in
     let one : c .one-older .result ≤ 1 = rw (c .one-older .ensures) (one-older-le (l .before .args .age) (phaseAt ss (l .loop .i))) in
     (omega arith, omega arith, rw (l .loop .inv .2, older-turn ss (l .loop .i) (omega (arith, len)) (l .before .args .age), ← c .one-older .ensures) (sym (add-assoc (l .loop .n) _ _)))
 
@@ -54,7 +36,7 @@ returns : tie.Need-returns Inv-loop μ-loop
 returns c =
     let l = c .before in
     let ss = l .before .args .t1 .slots in
-    let len : length ss ≡ 8 = search length-mapped in
+    let len : length ss ≡ slotCount = search length-mapped in
     omega (arith, l .loop .inv .2, older-end ss (l .loop .i) (omega (arith, len)) (l .before .args .age))
 
 pub count-older-spec : {M : Type 1} → statement M
@@ -63,12 +45,12 @@ count-older-spec =
     (tie.spec
     Inv-loop
     μ-loop
-    loop-holds
-    mul-slot
-    element-copy-out-slot
-    one-older-requires
+    (λ c. search needs)
+    (λ c. search needs)
+    (λ c. search needs)
+    (λ c κs. search needs)
     add-n
-    add-i
-    loop-less
+    (λ c. search needs)
+    (λ c. search needs)
     loop-again
     returns)

@@ -12,49 +12,29 @@ use Rattle.peer.specs.declared.types.Slot.{Slot}
 use Rattle.posting.proofs.Renumbering.{all-renumbered, renumbered-turn}
 use Rattle.posting.proofs.ages.renumbered.Statement.{statement}
 use Rattle.posting.proofs.ages.renumbered.Tie as tie
+use Rattle.peer.specs.State.{slotCount}
 
 abbrev Inv-loop : tie.InvT-loop
-Inv-loop self peer₀ i₀ peer i = (i ≤ 8) × (peer .next ≡ self .next) × (peer .slots ≡ paste (self .slots) 0 (renumbered (self .slots) (self .slots)) i)
+Inv-loop self peer₀ i₀ peer i = (i ≤ slotCount) × (peer .next ≡ self .next) × (peer .slots ≡ paste (self .slots) 0 (renumbered (self .slots) (self .slots)) i)
 
 abbrev μ-loop : tie.MeasureT-loop
-μ-loop self peer₀ i₀ peer i = 8 - i
+μ-loop self peer₀ i₀ peer i = slotCount - i
 
 loop-holds : tie.Need-loop-holds Inv-loop μ-loop
 loop-holds c = (omega arith, refl, paste-zero (c .args .t1 .slots) 0 (renumbered (c .args .t1 .slots) (c .args .t1 .slots)))
-
-mul-slot : tie.Need-mul-slot Inv-loop μ-loop
-mul-slot c = search needs
-
-element-copy-out-slot : tie.Need-element-copy-out-slot Inv-loop μ-loop
-element-copy-out-slot c = search needs
-
-renumbered-slot-requires : tie.Need-renumbered-slot-requires Inv-loop μ-loop
-renumbered-slot-requires c κs = search needs
-
-mul-t8 : tie.Need-mul-t8 Inv-loop μ-loop
-mul-t8 c = search needs
-
-element-set-from-peer : tie.Need-element-set-from-peer Inv-loop μ-loop
-element-set-from-peer c = search needs
-
-add-i : tie.Need-add-i Inv-loop μ-loop
-add-i c = search needs
-
-loop-less : tie.Need-loop-less Inv-loop μ-loop
-loop-less c = search needs
 
 loop-again : tie.Need-loop-again Inv-loop μ-loop
 loop-again c =
     let l = c .before .before .before in
     let ss = l .before .args .t1 .slots in
-    let len : length ss ≡ 8 = search length-mapped in
+    let len : length ss ≡ slotCount = search length-mapped in
     (omega arith, l .loop .inv .1, rw (c .renumbered-slot .ensures) (renumbered-turn ss (l .loop .peer .slots) (l .loop .i) (omega (arith, len)) (l .loop .inv .2)))
 
 returns : tie.Need-returns Inv-loop μ-loop
 returns c =
     let l = c .before in
     let ss = l .before .args .t1 .slots in
-    let len : length ss ≡ 8 = search length-mapped in
+    let len : length ss ≡ slotCount = search length-mapped in
     let all : l .loop .i ≡ length ss = omega (arith, len) in
     ap₂ (λ (n : ℕ) (s : List Slot). record { next = n; slots = s }) (l .loop .inv .1) (rw all at (l .loop .inv .2) ∙ all-renumbered ss)
 
@@ -65,12 +45,12 @@ renumbered-spec =
     Inv-loop
     μ-loop
     loop-holds
-    mul-slot
-    element-copy-out-slot
-    renumbered-slot-requires
-    mul-t8
-    element-set-from-peer
-    add-i
-    loop-less
+    (λ c. search needs)
+    (λ c. search needs)
+    (λ c κs. search needs)
+    (λ c. search needs)
+    (λ c. search needs)
+    (λ c. search needs)
+    (λ c. search needs)
     loop-again
     returns)

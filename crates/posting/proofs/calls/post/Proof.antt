@@ -12,6 +12,7 @@ use Rattle.peer.specs.Calls.{placedIn, postEffect}
 use Rattle.peer.proofs.slots.Slots.{vacant}
 use Rattle.posting.proofs.calls.post.Statement.{statement}
 use Rattle.posting.proofs.calls.post.Tie as tie
+use Rattle.peer.specs.State.{slotCount}
 
 returns : tie.Need-returns
 unfolding postEffect pick
@@ -30,7 +31,7 @@ returns-2 c = λ ws.
 placed-requires : tie.Need-placed-requires
 placed-requires c κs =
     let ss = c .before .before .before .before .before .before .before .before .args .peer .slots in
-    let len : length ss ≡ 8 = search length-mapped in
+    let len : length ss ≡ slotCount = search length-mapped in
     omega (arith, len, vacant ss _ (sym (c .before .before .before .find-vacancy .ensures) ∙ c .before .i .given .1) .0)
 
 returns-3 : tie.Need-returns-3

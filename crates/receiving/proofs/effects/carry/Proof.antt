@@ -7,47 +7,48 @@ use Rattle.peer.specs.Effects.{advance, carry, truncatedAt}
 use Rattle.receiving.proofs.Asking.{begins, begun-slot, cut-slot, goes-on, in-peer, judging, left-quiet, more-slot}
 use Rattle.receiving.proofs.effects.carry.Statement.{statement}
 use Rattle.receiving.proofs.effects.carry.Tie as tie
+use Rattle.peer.specs.State.{slotCount}
 
 judge-requires : tie.Need-judge-requires
 judge-requires c κs =
     let s = c .before .before .before .before .before in
     let a = s .args in
-    let len : length (a .peer .slots) ≡ 8 = search length-mapped in
+    let len : length (a .peer .slots) ≡ slotCount = search length-mapped in
     judging (a .limit) (a .peer) (a .h) (length (a .bytes .now)) (length (a .area .now)) (length (a .words .now)) (length (a .reply .now)) (s .pre) len (a .words .now)
 
 stepped-requires : tie.Need-stepped-requires
 stepped-requires c κs =
     let s = c .before .before .before .before .before .before .before .before .before .before .before in
     let a = s .args in
-    let len : length (a .peer .slots) ≡ 8 = search length-mapped in
+    let len : length (a .peer .slots) ≡ slotCount = search length-mapped in
     cut-slot (a .limit) (a .peer) (a .h) (length (a .bytes .now)) (length (a .area .now)) (length (a .words .now)) (length (a .reply .now)) (s .pre) len (a .words .now) _ (sym (c .before .before .before .before .before .judge .ensures) ∙ c .before .before .before .i .given .1)
 
 begin-requires : tie.Need-begin-requires
 begin-requires c κs =
     let s = c .before .before .before .before .before .before .before .before .before .before .before .before in
     let a = s .args in
-    let len : length (a .peer .slots) ≡ 8 = search length-mapped in
+    let len : length (a .peer .slots) ≡ slotCount = search length-mapped in
     begins (a .limit) (a .peer) (a .h) (length (a .bytes .now)) (length (a .area .now)) (length (a .words .now)) (length (a .reply .now)) (s .pre) len (a .words .now) _ _ (sym (c .before .before .before .before .before .before .judge .ensures) ∙ c .before .before .before .before .i2 .given .1)
 
 stepped-requires-2 : tie.Need-stepped-requires-2
 stepped-requires-2 c κs =
     let s = c .before .before .before .before .before .before .before .before .before .before .before .before .before .before .before .before .before .before .before .before in
     let a = s .args in
-    let len : length (a .peer .slots) ≡ 8 = search length-mapped in
+    let len : length (a .peer .slots) ≡ slotCount = search length-mapped in
     begun-slot (a .limit) (a .peer) (a .h) (length (a .bytes .now)) (length (a .area .now)) (length (a .words .now)) (length (a .reply .now)) (s .pre) len (a .words .now) _ _ (sym (c .before .before .before .before .before .before .before .before .before .before .before .before .before .before .judge .ensures) ∙ c .before .before .before .before .before .before .before .before .before .before .before .before .i2 .given .1)
 
 accept-requires : tie.Need-accept-requires
 accept-requires c κs =
     let s = c .before .before .before .before .before .before .before .before .before .before .before .before in
     let a = s .args in
-    let len : length (a .peer .slots) ≡ 8 = search length-mapped in
+    let len : length (a .peer .slots) ≡ slotCount = search length-mapped in
     goes-on (a .limit) (a .peer) (a .h) (length (a .bytes .now)) (length (a .area .now)) (length (a .words .now)) (length (a .reply .now)) (s .pre) len (a .words .now) _ _ (sym (c .before .before .before .before .before .before .judge .ensures) ∙ c .before .before .before .before .i3 .given .1)
 
 stepped-requires-3 : tie.Need-stepped-requires-3
 stepped-requires-3 c κs =
     let s = c .before .before .before .before .before .before .before .before .before .before .before .before .before .before .before .before .before .before .before in
     let a = s .args in
-    let len : length (a .peer .slots) ≡ 8 = search length-mapped in
+    let len : length (a .peer .slots) ≡ slotCount = search length-mapped in
     more-slot (a .limit) (a .peer) (a .h) (length (a .bytes .now)) (length (a .area .now)) (length (a .words .now)) (length (a .reply .now)) (s .pre) len (a .words .now) _ _ (sym (c .before .before .before .before .before .before .before .before .before .before .before .before .before .judge .ensures) ∙ c .before .before .before .before .before .before .before .before .before .before .before .i3 .given .1)
 
 returns : tie.Need-returns

@@ -27,9 +27,6 @@ mul-size c = omega arith
 shared-slice-read-size : tie.Need-shared-slice-read-size Inv-loop μ-loop
 shared-slice-read-size c = omega arith
 
-size-requires : tie.Need-size-requires Inv-loop μ-loop
-size-requires c κs = search needs
-
 add-size : tie.Need-add-size Inv-loop μ-loop
 add-size c =
     let n = c .before .before .before in
@@ -62,7 +59,7 @@ numbers-size-spec =
     loop-holds
     mul-size
     shared-slice-read-size
-    size-requires
+    (λ c κs. search needs)
     add-size
     add-k
     loop-less

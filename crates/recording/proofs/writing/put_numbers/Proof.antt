@@ -26,9 +26,6 @@ abbrev μ-loop : tie.MeasureT-loop
 loop-holds : tie.Need-loop-holds Inv-loop μ-loop
 loop-holds c = (omega arith, refl, refl, refl)
 
-mul-put : tie.Need-mul-put Inv-loop μ-loop
-mul-put c = search needs
-
 shared-slice-read-put : tie.Need-shared-slice-read-put Inv-loop μ-loop
 shared-slice-read-put c = omega arith
 
@@ -72,7 +69,7 @@ put-numbers-spec =
     Inv-loop
     μ-loop
     loop-holds
-    mul-put
+    (λ c. search needs)
     shared-slice-read-put
     put-requires
     add-k

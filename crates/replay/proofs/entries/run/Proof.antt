@@ -18,6 +18,7 @@ use Rattle.replay.specs.Lines.{answerLine}
 use Rattle.replay.proofs.ReplayInvariant.{ReplayInvariant, replay-again, replay-bad, replay-end, replay-inside, replay-next, replay-start}
 use Rattle.replay.proofs.entries.run.Statement.{statement}
 use Rattle.replay.proofs.entries.run.Tie as tie
+use Rattle.engine.specs.SetUp.{peerCount}
 
 abbrev Inv-loop : tie.InvT-loop
 Inv-loop trace from budget arena₀ map₀ reply₀ text₀ at engine₀ place₀ written₀ taken₀ arena map reply text engine place written taken =
@@ -33,15 +34,6 @@ loop-holds : tie.Need-loop-holds Inv-loop μ-loop
 loop-holds c =
     let s = c .before .before .before .before .before in
     (refl, refl, refl, refl, record { eights = s .pre .0; state = s .pre .1 .0 }, replay-start _ _ _ _ _ _ _ (s .pre .1 .1))
-
-read-entry-requires : tie.Need-read-entry-requires Inv-loop μ-loop
-read-entry-requires c κs = search needs
-
-enum-known-found : tie.Need-enum-known-found Inv-loop μ-loop
-enum-known-found c = search needs
-
-enum-told : tie.Need-enum-told Inv-loop μ-loop
-enum-told c = search needs
 
 same-length : tie.Need-same-length Inv-loop μ-loop
 same-length c = c .before .before .before .before .before .loop .inv .0
@@ -60,18 +52,6 @@ returns c =
     let t = c .before .before .before in
     sym (replay-bad (t .before .before .loop .inv .5) (t .before .loop-test .taken) (ltb-true _ _ (t .if1 .taken)) (sym (c .before .before .read-entry .ensures) ∙ c .enum-told .given .1))
 
-with-buffer-requires : tie.Need-with-buffer-requires Inv-loop μ-loop
-with-buffer-requires c κs = search needs
-
-admit-requires : tie.Need-admit-requires Inv-loop μ-loop
-admit-requires c κs = search needs
-
-enum-known-refusal : tie.Need-enum-known-refusal Inv-loop μ-loop
-enum-known-refusal c = search needs
-
-enum-told-2 : tie.Need-enum-told-2 Inv-loop μ-loop
-enum-told-2 c = search needs
-
 -- ---- an entry that was read
 
 inside : (c : tie.After-admit Inv-loop μ-loop) → c .before .before .before .before .before .before .before .before .loop .place < length (c .before .before .before .before .before .before .before .before .before .before .before .before .before .before .args .trace .now)
@@ -82,7 +62,7 @@ read : (c : tie.After-admit Inv-loop μ-loop) → let e = c .before .before .bef
 read c = sym (c .before .before .before .before .before .read-entry .ensures) ∙ c .before .before .before .found .given .1
 
 -- behind an open gate its peer is there
-below : (c : tie.After-enum-told2 Inv-loop μ-loop) → c .before .before .before .before .before .found .given .0 .0 .peer < 8
+below : (c : tie.After-enum-told2 Inv-loop μ-loop) → c .before .before .before .before .before .found .given .0 .0 .peer < peerCount
 below c =
     let l = c .before .before .before .before .before .before .before .before .before .before .loop in
     let s = l .inv .4 in
@@ -155,9 +135,6 @@ loop-again c =
     ))
     (c .before .before .before .before .match2 .came)
 
-ending-requires : tie.Need-ending-requires Inv-loop μ-loop
-ending-requires c κs = search needs
-
 same-length-5 : tie.Need-same-length-5 Inv-loop μ-loop
 same-length-5 c = c .before .before .loop .inv .0
 
@@ -182,18 +159,18 @@ run-spec =
     Inv-loop
     μ-loop
     loop-holds
-    read-entry-requires
-    enum-known-found
-    enum-told
+    (λ c κs. search needs)
+    (λ c. search needs)
+    (λ c. search needs)
     same-length
     same-length-2
     same-length-3
     same-length-4
     returns
-    with-buffer-requires
-    admit-requires
-    enum-known-refusal
-    enum-told-2
+    (λ c κs. search needs)
+    (λ c κs. search needs)
+    (λ c. search needs)
+    (λ c. search needs)
     mul-there
     element-copy-out-there
     step-requires
@@ -203,7 +180,7 @@ run-spec =
     add-taken
     loop-less
     loop-again
-    ending-requires
+    (λ c κs. search needs)
     same-length-5
     same-length-6
     same-length-7

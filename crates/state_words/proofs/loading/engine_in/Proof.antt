@@ -29,44 +29,11 @@ Inv-loop words engine₀ p₀ engine p = (p ≤ peerCount) × (engine .n ≡ get
 abbrev μ-loop : tie.MeasureT-loop
 μ-loop words engine₀ p₀ engine p = peerCount - p
 
-fresh-requires : tie.Need-fresh-requires Inv-loop μ-loop
-fresh-requires c κs = search needs
-
-shared-slice-read-t7 : tie.Need-shared-slice-read-t7 Inv-loop μ-loop
-shared-slice-read-t7 c = search needs
-
-shared-slice-read-t10 : tie.Need-shared-slice-read-t10 Inv-loop μ-loop
-shared-slice-read-t10 c = search needs
-
-shared-slice-read-t13 : tie.Need-shared-slice-read-t13 Inv-loop μ-loop
-shared-slice-read-t13 c = search needs
-
 loop-holds : tie.Need-loop-holds Inv-loop μ-loop
 unfolding fresh
 loop-holds c =
     let a = c .before .before .before .before .before .args in
     (omega arith, refl, refl, refl, rw (c .before .before .before .fresh .ensures) (paste-zero fresh 0 (tabulate (read (a .words .now)) peerCount)))
-
-mul-peer-in : tie.Need-mul-peer-in Inv-loop μ-loop
-mul-peer-in c = search needs
-
-add-peer-in : tie.Need-add-peer-in Inv-loop μ-loop
-add-peer-in c = search needs
-
-peer-in-requires : tie.Need-peer-in-requires Inv-loop μ-loop
-peer-in-requires c κs = search needs
-
-mul-t19 : tie.Need-mul-t19 Inv-loop μ-loop
-mul-t19 c = search needs
-
-element-set-from-engine : tie.Need-element-set-from-engine Inv-loop μ-loop
-element-set-from-engine c = search needs
-
-add-p : tie.Need-add-p Inv-loop μ-loop
-add-p c = search needs
-
-loop-less : tie.Need-loop-less Inv-loop μ-loop
-loop-less c = search needs
 
 loop-again : tie.Need-loop-again Inv-loop μ-loop
 unfolding fresh
@@ -92,17 +59,17 @@ engine-in-spec =
     (tie.spec
     Inv-loop
     μ-loop
-    fresh-requires
-    shared-slice-read-t7
-    shared-slice-read-t10
-    shared-slice-read-t13
+    (λ c κs. search needs)
+    (λ c. search needs)
+    (λ c. search needs)
+    (λ c. search needs)
     loop-holds
-    mul-peer-in
-    add-peer-in
-    peer-in-requires
-    mul-t19
-    element-set-from-engine
-    add-p
-    loop-less
+    (λ c. search needs)
+    (λ c. search needs)
+    (λ c κs. search needs)
+    (λ c. search needs)
+    (λ c. search needs)
+    (λ c. search needs)
+    (λ c. search needs)
     loop-again
     returns)

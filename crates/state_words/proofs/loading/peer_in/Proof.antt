@@ -27,47 +27,11 @@ Inv-loop words at peer₀ i₀ peer i = (i ≤ slotCount) × (peer .next ≡ get
 abbrev μ-loop : tie.MeasureT-loop
 μ-loop words at peer₀ i₀ peer i = slotCount - i
 
-fresh-requires : tie.Need-fresh-requires Inv-loop μ-loop
-fresh-requires c κs = search needs
-
-mul-peer : tie.Need-mul-peer Inv-loop μ-loop
-mul-peer c = search needs
-
-shared-slice-read-peer : tie.Need-shared-slice-read-peer Inv-loop μ-loop
-shared-slice-read-peer c = search needs
-
-cast-peer : tie.Need-cast-peer Inv-loop μ-loop
-cast-peer c = search needs
-
 loop-holds : tie.Need-loop-holds Inv-loop μ-loop
 unfolding free freshPeer
 loop-holds c =
     let a = c .before .before .before .args in
     (omega arith, refl, rw (c .before .fresh .ensures) (paste-zero free 0 (tabulate (read (a .words .now) (a .at)) slotCount)))
-
-add-slot-in : tie.Need-add-slot-in Inv-loop μ-loop
-add-slot-in c = search needs
-
-mul-slot-in : tie.Need-mul-slot-in Inv-loop μ-loop
-mul-slot-in c = search needs
-
-add-slot-in-2 : tie.Need-add-slot-in-2 Inv-loop μ-loop
-add-slot-in-2 c = search needs
-
-slot-in-requires : tie.Need-slot-in-requires Inv-loop μ-loop
-slot-in-requires c κs = search needs
-
-mul-t16 : tie.Need-mul-t16 Inv-loop μ-loop
-mul-t16 c = search needs
-
-element-set-from-peer : tie.Need-element-set-from-peer Inv-loop μ-loop
-element-set-from-peer c = search needs
-
-add-i : tie.Need-add-i Inv-loop μ-loop
-add-i c = search needs
-
-loop-less : tie.Need-loop-less Inv-loop μ-loop
-loop-less c = search needs
 
 loop-again : tie.Need-loop-again Inv-loop μ-loop
 unfolding free
@@ -91,18 +55,18 @@ peer-in-spec =
     (tie.spec
     Inv-loop
     μ-loop
-    fresh-requires
-    mul-peer
-    shared-slice-read-peer
-    cast-peer
+    (λ c κs. search needs)
+    (λ c. search needs)
+    (λ c. search needs)
+    (λ c. search needs)
     loop-holds
-    add-slot-in
-    mul-slot-in
-    add-slot-in-2
-    slot-in-requires
-    mul-t16
-    element-set-from-peer
-    add-i
-    loop-less
+    (λ c. search needs)
+    (λ c. search needs)
+    (λ c. search needs)
+    (λ c κs. search needs)
+    (λ c. search needs)
+    (λ c. search needs)
+    (λ c. search needs)
+    (λ c. search needs)
     loop-again
     returns)

@@ -22,51 +22,15 @@ Inv-loop words₀ at peer i₀ words i = (i ≤ slotCount) × (length words ≡ 
 abbrev μ-loop : tie.MeasureT-loop
 μ-loop words₀ at peer i₀ words i = slotCount - i
 
-cast-words : tie.Need-cast-words Inv-loop μ-loop
-cast-words c = search needs
-
-mul-words : tie.Need-mul-words Inv-loop μ-loop
-mul-words c = search needs
-
-slice-write-words : tie.Need-slice-write-words Inv-loop μ-loop
-slice-write-words c = search needs
-
 loop-holds : tie.Need-loop-holds Inv-loop μ-loop
 unfolding flat
 loop-holds c = (omega arith, refl, sym (store-nothing _ _))
-
-mul-slot : tie.Need-mul-slot Inv-loop μ-loop
-mul-slot c = search needs
-
-element-copy-out-slot : tie.Need-element-copy-out-slot Inv-loop μ-loop
-element-copy-out-slot c = search needs
-
-add-put-words : tie.Need-add-put-words Inv-loop μ-loop
-add-put-words c = search needs
-
-mul-put-words : tie.Need-mul-put-words Inv-loop μ-loop
-mul-put-words c = search needs
-
-add-put-words-2 : tie.Need-add-put-words-2 Inv-loop μ-loop
-add-put-words-2 c = search needs
-
-slot-words-requires : tie.Need-slot-words-requires Inv-loop μ-loop
-slot-words-requires c κs = search needs
-
-slice-aggregate-put-words : tie.Need-slice-aggregate-put-words Inv-loop μ-loop
-slice-aggregate-put-words c = search needs
 
 put-words-requires : tie.Need-put-words-requires Inv-loop μ-loop
 put-words-requires c κs =
     let l = c .before .before .before .before .before in
     let size : length (c .before .slot-words .result) ≡ 16 = ap length (c .before .slot-words .ensures) ∙ length-slot _ in
     omega (arith, size, simp length-set at (l .loop .inv .1))
-
-add-i : tie.Need-add-i Inv-loop μ-loop
-add-i c = search needs
-
-loop-less : tie.Need-loop-less Inv-loop μ-loop
-loop-less c = search needs
 
 loop-again : tie.Need-loop-again Inv-loop μ-loop
 loop-again c =
@@ -101,20 +65,20 @@ put-peer-spec =
     (tie.spec
     Inv-loop
     μ-loop
-    cast-words
-    mul-words
-    slice-write-words
+    (λ c. search needs)
+    (λ c. search needs)
+    (λ c. search needs)
     loop-holds
-    mul-slot
-    element-copy-out-slot
-    add-put-words
-    mul-put-words
-    add-put-words-2
-    slot-words-requires
-    slice-aggregate-put-words
+    (λ c. search needs)
+    (λ c. search needs)
+    (λ c. search needs)
+    (λ c. search needs)
+    (λ c. search needs)
+    (λ c κs. search needs)
+    (λ c. search needs)
     put-words-requires
-    add-i
-    loop-less
+    (λ c. search needs)
+    (λ c. search needs)
     loop-again
     same-length
     returns)

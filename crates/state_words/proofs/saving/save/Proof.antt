@@ -35,39 +35,12 @@ eight s = search length-mapped
 slots : (s : tie.Start Inv-loop μ-loop) (i : ℕ) → i < length (s .args .t2 .peers) → length (getD (s .args .t2 .peers) i noPeer .slots) ≡ slotCount
 slots s i h = slots-each (s .args .t2 .peers) _ (s .good .1 .0 .1 .1 .0 .1 .1) i noPeer h
 
-slice-write-words : tie.Need-slice-write-words Inv-loop μ-loop
-slice-write-words c = search needs
-
-slice-write-words-2 : tie.Need-slice-write-words-2 Inv-loop μ-loop
-slice-write-words-2 c = search needs
-
-slice-write-words-3 : tie.Need-slice-write-words-3 Inv-loop μ-loop
-slice-write-words-3 c = search needs
-
 loop-holds : tie.Need-loop-holds Inv-loop μ-loop
 unfolding flat
 loop-holds c = (omega arith, refl, sym (store-nothing _ _))
 
-mul-peer : tie.Need-mul-peer Inv-loop μ-loop
-mul-peer c = search needs
-
-element-copy-out-peer : tie.Need-element-copy-out-peer Inv-loop μ-loop
-element-copy-out-peer c = search needs
-
-mul-put-peer : tie.Need-mul-put-peer Inv-loop μ-loop
-mul-put-peer c = search needs
-
-add-put-peer : tie.Need-add-put-peer Inv-loop μ-loop
-add-put-peer c = search needs
-
 put-peer-requires : tie.Need-put-peer-requires Inv-loop μ-loop
 put-peer-requires c κs = omega (arith, simp length-set at (c .before .before .before .loop .inv .1))
-
-add-p : tie.Need-add-p Inv-loop μ-loop
-add-p c = search needs
-
-loop-less : tie.Need-loop-less Inv-loop μ-loop
-loop-less c = search needs
 
 loop-again : tie.Need-loop-again Inv-loop μ-loop
 loop-again c =
@@ -110,17 +83,17 @@ save-spec =
     (tie.spec
     Inv-loop
     μ-loop
-    slice-write-words
-    slice-write-words-2
-    slice-write-words-3
+    (λ c. search needs)
+    (λ c. search needs)
+    (λ c. search needs)
     loop-holds
-    mul-peer
-    element-copy-out-peer
-    mul-put-peer
-    add-put-peer
+    (λ c. search needs)
+    (λ c. search needs)
+    (λ c. search needs)
+    (λ c. search needs)
     put-peer-requires
-    add-p
-    loop-less
+    (λ c. search needs)
+    (λ c. search needs)
     loop-again
     same-length
     returns)

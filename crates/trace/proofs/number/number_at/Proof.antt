@@ -49,14 +49,8 @@ goes-on c =
 loop-holds : tie.Need-loop-holds Inv-loop μ-loop
 loop-holds c = underway-start _ (c .args .at)
 
-shared-slice-read-group : tie.Need-shared-slice-read-group Inv-loop μ-loop
-shared-slice-read-group c = search needs
-
 cast-group : tie.Need-cast-group Inv-loop μ-loop
 cast-group c = omega (arith, c .shared-slice-known .given (c .before .before .loop .i))
-
-add-i : tie.Need-add-i Inv-loop μ-loop
-add-i c = search needs
 
 returns : tie.Need-returns Inv-loop μ-loop
 returns c =
@@ -105,9 +99,9 @@ number-at-spec =
     Inv-loop
     μ-loop
     loop-holds
-    shared-slice-read-group
+    (λ c. search needs)
     cast-group
-    add-i
+    (λ c. search needs)
     returns
     returns-2
     mul-t15
