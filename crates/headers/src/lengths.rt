@@ -15,6 +15,6 @@ pub fn fit(shape: Shape, fields: Fields, size: usize) -> bool
         Shape::Eager => true,
         Shape::Medium => 1 <= n
             && wire::ends_by(fields.seg_offset as usize, size, fields.msg_length as usize),
-        Shape::LongCts => 1 <= n && n <= fields.msg_length,
+        Shape::LongCts => 1 <= fields.msg_length && n <= fields.msg_length,
     }
 }

@@ -6,3 +6,4 @@ pub mod Kept
 pub mod BitMoves
 pub mod MovesHold
 pub mod SlotsRound
+pub mod EmptyStarts

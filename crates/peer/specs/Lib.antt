@@ -23,3 +23,4 @@ pub mod PacketBytes
 pub mod Checks
 pub mod SlotMoves
 pub mod Moves
+pub mod EmptyStart

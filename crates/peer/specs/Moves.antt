@@ -15,7 +15,7 @@ use Rattle.peer.specs.Checks.{Long}
 use Rattle.peer.specs.Effects.{Effect}
 use Rattle.peer.specs.Sentences.{Falling, HasByte}
 use Rattle.peer.specs.Origins.{BegunBy}
-use Rattle.peer.specs.PacketBytes.{idIn, offsetIn, sizeIn}
+use Rattle.peer.specs.PacketBytes.{RtmIn, idIn, offsetIn, sizeIn, typeIn}
 use Rattle.peer.specs.Plain.{Role, idle, receiving, waiting}
 use Rattle.peer.specs.SlotMoves.{Cancelling, Matching, NextMoves, NextStays, OnlySlot, Posting, Truncating, Unmoved, roleAt}
 use Rattle.peer.specs.State.{peerFits, slotCount}
@@ -57,6 +57,8 @@ pub record Beginning (p : Peer) (ws bs : List ℕ) (i : ℕ) (o : Inbound) (next
   -- "The granted end is the RTM's data plus all grants"
   pub granted : o .message .granted ≡ sizeIn bs
   pub fitting : o .message .length ≤ o .receive .capacity
+  -- 02, request 3: "a msg_length of 0 stays refusal 11", so that a long message is never empty
+  pub some : Long (o .message) → 1 ≤ o .message .length
   pub moves : NextMoves p next
   pub bits : MatchBits bs (o .receive) ws now
 
@@ -64,6 +66,8 @@ pub record Beginning (p : Peer) (ws bs : List ℕ) (i : ℕ) (o : Inbound) (next
 pub record GoingOn (p : Peer) (ws bs : List ℕ) (i : ℕ) (o : Inbound) (next : ℕ) (now : List ℕ) : Type 0 where
   pub receives : roleAt p i ≡ receiving o
   pub id : o .message .id ≡ idIn bs
+  -- 14: "or the type isn't medium"
+  pub again : RtmIn bs → (typeIn bs ≡ 66) ⊎ (typeIn bs ≡ 67)
   pub stays : NextStays p next
   pub bits : MoreBits bs (o .receive) ws now
 

@@ -97,7 +97,7 @@ ShapeRule Cts v n = (n ≡ 0) × (1 ≤ v .«recv_length»)
 ShapeRule CtsData v n = (n ≡ v .«seg_length») × (1 ≤ n)
 ShapeRule Eager v n = Unit {0}
 ShapeRule Medium v n = (1 ≤ n) × (v .«seg_offset» + n ≤ v .«msg_length»)
-ShapeRule LongCts v n = (1 ≤ n) × (n ≤ v .«msg_length»)
+ShapeRule LongCts v n = (1 ≤ v .«msg_length») × (n ≤ v .«msg_length»)
 
 shape-rule : (s : Shape) (v : Fields) (n : ℕ) → (lengthsFit s v n ≡ true) ↔ ShapeRule s v n
 unfolding lengthsFit
@@ -105,7 +105,7 @@ shape-rule Cts v n = both-tests (eq-words n 0) (le-words 1 (v .«recv_length»))
 shape-rule CtsData v n = let w = both-tests (le-words 1 n) (eq-words n (v .«seg_length»)) in (λ e. (w .0 e .1, w .0 e .0), λ u. w .1 (u .1, u .0))
 shape-rule Eager v n = (λ e. tt, λ u. refl)
 shape-rule Medium v n = both-tests (le-words 1 n) (le-words (v .«seg_offset» + n) (v .«msg_length»))
-shape-rule LongCts v n = both-tests (le-words 1 n) (le-words n (v .«msg_length»))
+shape-rule LongCts v n = both-tests (le-words 1 (v .«msg_length»)) (le-words n (v .«msg_length»))
 
 -- the types of a shape that has a rule
 abbrev numbered : Shape → ℕ → Bool

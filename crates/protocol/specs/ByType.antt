@@ -134,5 +134,6 @@ pub record LengthRule (k : ℕ) (v : Fields) (n : ℕ) : Type 0 where
   pub ctsdata : k ≡ 4 → (n ≡ v .«seg_length») × (1 ≤ n)
   -- "medium data at least 1 byte, offset + data ≤ msg_length as whole numbers"
   pub medium : (k ≡ 66) ⊎ (k ≡ 67) → (1 ≤ n) × (v .«seg_offset» + n ≤ v .«msg_length»)
-  -- "LONGCTS data at least 1 byte, at most msg_length"; "Eager data may be empty"
-  pub long : (k ≡ 68) ⊎ (k ≡ 69) → (1 ≤ n) × (n ≤ v .«msg_length»)
+  -- LONGCTS data "at most msg_length"; request 3: "Accept 0 bytes when msg_length is at least 1; a msg_length of 0 stays refusal 11"; "Eager data
+  -- may be empty"
+  pub long : (k ≡ 68) ⊎ (k ≡ 69) → (1 ≤ v .«msg_length») × (n ≤ v .«msg_length»)

@@ -1,4 +1,4 @@
--- The rules on lengths (01, "Lengths: ..").
+-- The rules on lengths (01, "Lengths: ..", and 02, request 3, for LONGCTS).
 use Prim.Native.Nat.{ℕ, _+_}
 use mathlib.Core.Bool.{Bool, true, _&&_}
 use lib.Dec.{leb, eqb}
@@ -16,5 +16,5 @@ lengthsFit CtsData v n = leb 1 n && eqb n (v .«seg_length»)
 lengthsFit Eager v n = true
 -- "medium data at least 1 byte, offset + data ≤ msg_length as whole numbers"
 lengthsFit Medium v n = leb 1 n && leb (v .«seg_offset» + n) (v .«msg_length»)
--- "LONGCTS data at least 1 byte, at most msg_length"
-lengthsFit LongCts v n = leb 1 n && leb n (v .«msg_length»)
+-- "at most msg_length"; request 3: "Accept 0 bytes when msg_length is at least 1; a msg_length of 0 stays refusal 11"
+lengthsFit LongCts v n = leb 1 (v .«msg_length») && leb n (v .«msg_length»)

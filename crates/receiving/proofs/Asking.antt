@@ -90,7 +90,7 @@ module _ (limit : ℕ) (p : Peer) (h : Incoming) (n area words reply : ℕ) (c :
   judging =
       record {
         mapped = record { whole = refl; small = omega (arith, c .mapped .whole, c .mapped .small); fits = rw (c .mapped .whole) (c .mapped .fits) };
-        form = record { size = refl; inside = c .form .inside; start = c .form .start };
+        form = record { size = refl; inside = c .form .inside; start = c .form .start; some = c .form .some };
       }
 
   sound : Valid area (p .slots)

@@ -6,9 +6,9 @@ use mathlib.Core.List.{List, [], _∷_, _++_, map}
 use mathlib.Core.Bool.{true, false}
 use lib.ListN.{length, replicate}
 use Rattle.wire.specs.LittleEndian.{leAt, leBytes, leOf}
-use Rattle.peer.specs.Says.{Saying, say, refused, posted, stored, granted, done, truncated}
+use Rattle.peer.specs.Says.{Saying, say, refused, posted, stored, granted, done, truncated, missing}
 use Rattle.engine.specs.SetUp.{allPeersFit, engineFits, lentFits, numbersFit, peerAt, setUp}
-use Rattle.peer.specs.Calls.{LentCall, cancelEffect, cancelSlot, countOlder, countPosted, packet, packetEffect, peerStep, placed, placedIn, post, postEffect, readEffect, renumbered, reportEffect, reportSlot, overlapsSome}
+use Rattle.peer.specs.Calls.{LentCall, cancelEffect, cancelSlot, countOlder, countPosted, packet, packetEffect, peerStep, placed, placedIn, post, postEffect, readEffect, renumbered, report, reportEffect, reportSlot, overlapsSome}
 use Rattle.guarantees.specs.Runs.{callsOf, observe, worldAfter}
 use Rattle.guarantees.specs.Receiving.{LentRequest, Seen, freshWorld, noStarts, receiving, turnOf}
 use Rattle.laws.specs.Choose.{pick}
@@ -139,11 +139,27 @@ cases =
     ∷ give (ctsData 40 (replicate 72 2)) ∷ give (ctsData 112 (replicate 55 2)) ∷ give (ctsData 168 (replicate 32 3)) ∷ [])
     (postedFirst ∷ grants 128 ∷ answers (say stored []) ∷ no 17 ∷ answers (say stored []) ∷ grants 32
     ∷ yieldsDone 200 (replicate 40 1 ++ replicate 127 2 ++ (9 ∷ []) ++ replicate 32 3) ∷ []) 1
-    -- "LentRequest 0: 64, 64, 32."
+    -- "Request 0: 64, 64, 32."
     ∷ case
     (receive 200 ∷ give (long 200 0 (replicate 40 1)) ∷ give (ctsData 40 (replicate 64 2)) ∷ give (ctsData 104 (replicate 64 2))
     ∷ give (ctsData 168 (replicate 32 2)) ∷ [])
     (postedFirst ∷ grants 64 ∷ grants 64 ∷ grants 32 ∷ yieldsDone 200 (replicate 40 1 ++ replicate 160 2) ∷ []) 1
+    -- 02, request 3: "Accept 0 bytes when msg_length is at least 1"; "The first grant then starts at offset 0". Length 200, request 2: 128, then 72;
+    -- right after the start 0 bytes are received, and 0 is the first missing
+    ∷ case
+    (receive 200 ∷ give (long 200 2 []) ∷ report 0 ∷ give (ctsData 128 (9 ∷ [])) ∷ give (ctsData 0 (replicate 64 1)) ∷ give (ctsData 64 (replicate 64 2))
+    ∷ give (ctsData 128 (replicate 72 3)) ∷ [])
+    (postedFirst ∷ grants 128 ∷ answers (say missing (0 ∷ 0 ∷ [])) ∷ no 17 ∷ answers (say stored []) ∷ grants 72
+    ∷ yieldsDone 200 (replicate 64 1 ++ replicate 64 2 ++ replicate 72 3) ∷ []) 1
+    -- request 0: 64, 64, 64, 8
+    ∷ case
+    (receive 200 ∷ give (long 200 0 []) ∷ give (ctsData 0 (replicate 64 1)) ∷ give (ctsData 64 (replicate 64 1)) ∷ give (ctsData 128 (replicate 64 1))
+    ∷ give (ctsData 192 (replicate 8 2)) ∷ [])
+    (postedFirst ∷ grants 64 ∷ grants 64 ∷ grants 64 ∷ grants 8 ∷ yieldsDone 200 (replicate 192 1 ++ replicate 8 2) ∷ []) 1
+    -- "a msg_length of 0 stays refusal 11", and so does data above it; a message that does not fit its receive is truncated
+    ∷ case
+    (receive 199 ∷ give (long 0 2 []) ∷ give (long 0 2 (1 ∷ [])) ∷ give (long 2 2 (1 ∷ 1 ∷ 1 ∷ [])) ∷ give (long 200 2 []) ∷ [])
+    (postedFirst ∷ no 11 ∷ no 11 ∷ no 11 ∷ answers (say truncated (0 ∷ 0 ∷ 200 ∷ [])) ∷ []) 1
     -- "Want 0x10, ignore 0x0F: tag 0x1A fits; 0x2A: 13."
     ∷ case (receiveTagged 0x10 0x0F ∷ give (eagerTagged 0x2A) ∷ give (eagerTagged 0x1A) ∷ []) (postedFirst ∷ no 13 ∷ yieldsDone 0 [] ∷ []) 1
     ∷ []

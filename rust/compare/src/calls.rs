@@ -234,7 +234,12 @@ impl<'a> Guide<'a> {
             credit_request: self.random.pick(&[0, 1, 2, 16, 17, u32::MAX]),
             ..Packet::default()
         };
-        let data = if kind < 66 { length.min(most) } else { size };
+        let data = match kind {
+            64 | 65 => length.min(most),
+            // a long message that starts empty; its data is asked for from offset 0 on
+            68 | 69 if self.random.chance(25) => 0,
+            _ => size,
+        };
         packets::with_data(self.random, packet, data as usize)
     }
 

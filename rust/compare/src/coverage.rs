@@ -20,6 +20,10 @@ const ANSWERS: [&str; 8] = [
 /// The lines of a replay that are no answers.
 const LINES: [&str; 5] = ["setup ok", "setup 1", "end", "stopped", "bad trace at"];
 
+/// Where answers to long messages that start empty are counted once more.
+pub const EMPTY_IN_RUN: &str = "run of an empty start";
+pub const EMPTY_IN_REPLAY: &str = "replay of an empty start";
+
 #[derive(Default)]
 pub struct Coverage {
     counts: BTreeMap<Key, u64>,
@@ -29,10 +33,13 @@ pub struct Coverage {
 impl Coverage {
     /// Counts a call's answer, given by its first two words.
     pub fn answer(&mut self, word: u64, number: u64) {
-        let word = ANSWERS[word as usize];
-        let number = if word == "refused" { number } else { 0 };
-        self.add(("run", word, number));
+        self.add(key_of("run", word, number));
         self.calls += 1;
+    }
+
+    /// Counts an answer once more that was one to a long message that started empty.
+    pub fn started_empty(&mut self, place: &'static str, word: u64, number: u64) {
+        self.add(key_of(place, word, number));
     }
 
     /// Counts what a function other than run and replay answered: 0 or a refusal.
@@ -89,6 +96,22 @@ impl Coverage {
     }
 }
 
+/// The key of an answer, given by its first two words.
+fn key_of(place: &'static str, word: u64, number: u64) -> Key {
+    let word = ANSWERS[word as usize];
+    let number = if word == "refused" { number } else { 0 };
+    (place, word, number)
+}
+
+/// The words of the answer that a line of a replay gives, none if it gives no answer.
+pub fn answer_in(line: &str) -> Option<Vec<u64>> {
+    let mut parts = line.split(' ');
+    let word = parts.next()?;
+    let first = ANSWERS.iter().position(|answer| *answer == word)? as u64;
+    let rest = parts.map(|part| part.parse().ok());
+    std::iter::once(Some(first)).chain(rest).collect()
+}
+
 /// Everything that can be reached. A replay's state and lent lengths are always right, its reply
 /// buffer has 24 bytes and it has no reports, so some of a run's outcomes are none of its.
 fn wanted() -> Vec<Key> {
@@ -100,7 +123,9 @@ fn wanted() -> Vec<Key> {
     run.chain(refused("run", &(2..=20).collect::<Vec<_>>()))
         .chain(result("set-up", &[1]))
         .chain(result("read", &[6, 7, 8, 9, 10, 11, 21]))
+        .chain(result("read of an empty start", &[11]))
         .chain(result("write", &[6, 9, 10, 11, 21]))
+        .chain(result("write of an empty start", &[11]))
         .chain(result("write of a wide field", &[6, 9, 10, 11, 21]))
         .chain(result("write of a wide connid", &[9, 10, 11, 21]))
         .chain(result("overlap test", &[3, 16]))
@@ -111,7 +136,16 @@ fn wanted() -> Vec<Key> {
             "replay",
             &[4, 6, 7, 8, 9, 10, 11, 12, 13, 14, 15, 16, 17, 18, 19, 20],
         ))
+        .chain(started_empty(EMPTY_IN_RUN))
+        .chain(started_empty(EMPTY_IN_REPLAY))
         .collect()
+}
+
+/// What comes of long messages that start empty; refused is one without a length.
+fn started_empty(place: &'static str) -> Vec<Key> {
+    let answers = ["granted", "truncated", "done"];
+    let answers = answers.iter().map(|word| (place, *word, 0));
+    answers.chain(refused(place, &[11])).collect()
 }
 
 fn refused(place: &'static str, numbers: &[u64]) -> Vec<Key> {

@@ -15,6 +15,7 @@ mod random;
 mod replay;
 mod run;
 mod single;
+mod starts;
 mod states;
 
 use std::process::ExitCode;

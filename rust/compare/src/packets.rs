@@ -1,7 +1,7 @@
 //! Packets: values for the writer, bytes for the reader, and damage.
 
 use reference::packed::{self, VALUE_WORDS};
-use reference::packet::{self, Packet};
+use reference::packet::{self, Packet, Shape};
 
 use crate::random::Random;
 
@@ -13,19 +13,17 @@ pub struct Values {
     pub data: Vec<u8>,
 }
 
+impl Values {
+    /// Whether they are those of a long RTM without data.
+    pub fn are_empty_start(&self) -> bool {
+        matches!(self.words.first(), Some(68 | 69)) && self.data.is_empty()
+    }
+}
+
 /// The values of a packet of any type that breaks no rule.
 pub fn values(random: &mut Random) -> Values {
     let kind = random.pick(&[3, 4, 64, 65, 66, 67, 68, 69]);
-    let count = match random.below(20) {
-        0 => random.within(8_100, 8_200),
-        1..=4 => 1,
-        _ => random.within(1, 60),
-    };
-    let count = match kind {
-        3 => 0,
-        64 | 65 if random.chance(20) => 0,
-        _ => count,
-    };
+    let count = data_length(random, kind);
     let offset = random.pick(&[0, 0, 1, 100, u64::MAX - count]);
     let mut words = vec![0; VALUE_WORDS];
     words[0] = kind;
@@ -35,7 +33,8 @@ pub fn values(random: &mut Random) -> Values {
     words[4] = if matches!(kind, 66 | 67) {
         offset + count
     } else {
-        count + random.below(50)
+        // a long message may start empty, but has a byte
+        (count + random.below(50)).max(1)
     };
     words[5] = count;
     words[6] = random.wild().max(1);
@@ -55,6 +54,21 @@ pub fn values(random: &mut Random) -> Values {
     }
 }
 
+/// How much data a packet of this type carries; only some types may carry none.
+fn data_length(random: &mut Random, kind: u64) -> u64 {
+    let count = match random.below(20) {
+        0 => random.within(8_100, 8_200),
+        1..=4 => 1,
+        _ => random.within(1, 60),
+    };
+    match kind {
+        3 => 0,
+        64 | 65 if random.chance(20) => 0,
+        68 | 69 if random.chance(25) => 0,
+        _ => count,
+    }
+}
+
 /// Words that are no type, some of them a type's number with more before it.
 const NO_TYPES: [u64; 8] = [0, 5, 6, 63, 70, 255, 256 + 3, 1 << 32 | 64];
 
@@ -67,7 +81,7 @@ pub fn spoil(random: &mut Random, values: &mut Values) {
 
 fn spoil_one(random: &mut Random, values: &mut Values) {
     let any = random.below(VALUE_WORDS as u64) as usize;
-    let (place, word) = match random.below(14) {
+    let (place, word) = match random.below(15) {
         0 => return values.words.truncate(random.below(25) as usize),
         1 => return values.words.push(random.next()),
         2 => return values.data.truncate(random.below(3) as usize),
@@ -81,6 +95,8 @@ fn spoil_one(random: &mut Random, values: &mut Values) {
             set(values, 15, random.below(3));
             (16, wide(random))
         }
+        // a message without a length, which may not even start empty
+        11 => (4, 0),
         _ => (any, random.wild()),
     };
     set(values, place, word);
@@ -139,9 +155,21 @@ fn begun(kind: u8, data: &[u8]) -> Vec<u8> {
     bytes
 }
 
+/// The id of the message that a packet begins, if it is a long RTM without data. The message may be
+/// without a length too, which is then all that is wrong with the packet.
+pub fn empty_start(bytes: &[u8]) -> Option<u64> {
+    let mut bytes = bytes.to_vec();
+    // the first byte of the message's length
+    *bytes.get_mut(8)? = 1;
+    let packet = packet::read(&bytes).ok()?;
+    let row = packet::row(packet.kind)?;
+    let empty = row.shape == Shape::Long && packet.data.is_empty();
+    empty.then_some(packet.msg_id.into())
+}
+
 /// Damages a packet: cuts it, lengthens it, or changes its first bytes, a field or a bit.
 pub fn damage(random: &mut Random, bytes: &mut Vec<u8>) {
-    match random.below(7) {
+    match random.below(8) {
         0 => {
             let length = random.below(bytes.len() as u64 + 1) as usize;
             bytes.truncate(length);
@@ -159,19 +187,24 @@ pub fn damage(random: &mut Random, bytes: &mut Vec<u8>) {
                 *target = byte;
             }
         }
-        3 => {
-            // a field of the headers
-            let place = 4 * random.within(1, 8) as usize;
-            let field = random.wild().to_le_bytes();
-            if let Some(target) = bytes.get_mut(place..place + 8) {
-                target.copy_from_slice(&field);
-            }
-        }
+        3 | 4 => damage_field(random, bytes),
         _ => {
             if !bytes.is_empty() {
                 let place = random.below((bytes.len() as u64).min(64)) as usize;
                 bytes[place] ^= 1 << random.below(8);
             }
         }
+    }
+}
+
+/// Changes a field of the headers, as often as not to give the message no length.
+fn damage_field(random: &mut Random, bytes: &mut [u8]) {
+    let (place, field) = if random.chance(50) {
+        (8, 0)
+    } else {
+        (4 * random.within(1, 8) as usize, random.wild())
+    };
+    if let Some(target) = bytes.get_mut(place..place + 8) {
+        target.copy_from_slice(&field.to_le_bytes());
     }
 }

@@ -4,13 +4,14 @@ use std::ops::Range;
 
 use reference::engine;
 use reference::replay;
-use reference::trace::{write_entry, write_set_up, Entry};
+use reference::trace::{read_entry, write_entry, write_set_up, Entry};
 
 use crate::calls::{Call, Guide, Kinds};
 use crate::case::{hex, Case};
-use crate::coverage::Coverage;
+use crate::coverage::{answer_in, Coverage, EMPTY_IN_REPLAY};
 use crate::random::Random;
 use crate::run;
+use crate::starts::Starts;
 
 /// The entries that one replay takes at most.
 const BUDGET: usize = 512;
@@ -115,6 +116,15 @@ impl Case for Trace {
 
     fn count(&self, outcome: &Vec<u8>, coverage: &mut Coverage) {
         coverage.text(outcome);
+        let mut starts = Starts::in_place(EMPTY_IN_REPLAY);
+        let text = String::from_utf8_lossy(outcome);
+        // the line of the set-up is no entry's
+        for (entry, line) in self.entries.iter().zip(text.lines().skip(1)) {
+            let entry = read_entry(entry, 0).map(|(entry, _)| entry);
+            if let (Some(Entry::Packet { peer, bytes }), Some(answer)) = (entry, answer_in(line)) {
+                starts.packet(peer, bytes, &answer, coverage);
+            }
+        }
     }
 
     fn calls(&self) -> usize {

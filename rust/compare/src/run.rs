@@ -8,8 +8,9 @@ use reference::packed::{self, ANSWER_WORDS, CALL_WORDS, PEER_WORDS, SLOT_WORDS, 
 
 use crate::calls::{Call, Guide, Kinds};
 use crate::case::{differences, hex, Case};
-use crate::coverage::Coverage;
+use crate::coverage::{Coverage, EMPTY_IN_RUN};
 use crate::random::Random;
+use crate::starts::Starts;
 use crate::states;
 
 #[derive(Clone)]
@@ -181,6 +182,13 @@ impl Run {
         words
     }
 
+    /// The bytes that a call lends, if it is a packet and they are there.
+    fn packet_of(&self, call: &[u64; CALL_WORDS]) -> Option<&[u8]> {
+        let place = call[2] as usize;
+        let end = place.checked_add(call[3] as usize)?;
+        self.bytes.get(place..end).filter(|_| call[0] == 2)
+    }
+
     fn ended_by(&self, run: RunFunction) -> Lent {
         let mut lent = self.lent.clone();
         lent.ran = run(
@@ -232,8 +240,13 @@ impl Case for Run {
     }
 
     fn count(&self, outcome: &Lent, coverage: &mut Coverage) {
-        for answer in outcome.answers.chunks_exact(ANSWER_WORDS).take(outcome.ran) {
+        let mut starts = Starts::in_place(EMPTY_IN_RUN);
+        let answers = outcome.answers.chunks_exact(ANSWER_WORDS);
+        for (call, answer) in self.calls.iter().zip(answers).take(outcome.ran) {
             coverage.answer(answer[0], answer[1]);
+            if let Some(packet) = self.packet_of(call) {
+                starts.packet(call[1], packet, answer, coverage);
+            }
         }
         if outcome.ran < self.calls.len().min(outcome.answers.len() / ANSWER_WORDS) {
             coverage.ended_early();
@@ -320,10 +333,7 @@ impl Run {
         }
         for (number, call) in self.calls.iter().enumerate() {
             let _ = writeln!(text, "call {number}: {call:?}");
-            let place = call[2] as usize;
-            let packet = place.checked_add(call[3] as usize);
-            let packet = packet.and_then(|end| self.bytes.get(place..end));
-            if let (2, Some(packet)) = (call[0], packet) {
+            if let Some(packet) = self.packet_of(call) {
                 let _ = writeln!(text, "        {}", hex(packet));
             }
         }

@@ -135,6 +135,9 @@ impl Case for Read {
 
     fn count(&self, outcome: &Self::Outcome, coverage: &mut Coverage) {
         coverage.result("read", outcome.0 as u64);
+        if packets::empty_start(&self.packet).is_some() {
+            coverage.result("read of an empty start", outcome.0 as u64);
+        }
     }
 
     fn describe(&self, reference: &Self::Outcome, verified: &Self::Outcome) -> String {
@@ -212,6 +215,8 @@ impl Case for Write {
             coverage.result("write of a wide field", outcome.0 as u64);
         } else if wide(16) {
             coverage.result("write of a wide connid", outcome.0 as u64);
+        } else if self.values.are_empty_start() {
+            coverage.result("write of an empty start", outcome.0 as u64);
         }
     }
 

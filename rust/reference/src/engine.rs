@@ -86,7 +86,7 @@ pub struct Message {
     pub id: u32,
     pub tag: u64,
     pub length: u64,
-    /// The granted end: the data of the matching RTM plus all grants.
+    /// The granted end: the data of the matching RTM, which may be none, plus all grants.
     pub granted: u64,
     pub send_id: u32,
     pub credit_request: u32,
@@ -451,6 +451,7 @@ impl Peer {
         // The whole range is cleared, so that no bit of an earlier message counts for this one.
         bits::clear(part.map, receive.start as usize, receive.end() as usize);
         part.store(receive.start + packet.seg_offset, packet.data);
+        // A long message has at least one byte, so one that starts empty is not done here.
         if message.granted == message.length {
             return Ok(self.done(slot, &message));
         }

@@ -152,7 +152,8 @@ impl Packet<'_> {
                 let end = self.seg_offset.checked_add(data);
                 data >= 1 && end.is_some_and(|end| end <= self.msg_length)
             }
-            Shape::Long => data >= 1 && data <= self.msg_length,
+            // An RTM sent after a read refusal carries no data, but the message has some.
+            Shape::Long => self.msg_length >= 1 && data <= self.msg_length,
         }
     }
 

@@ -197,7 +197,7 @@ pub data Reason (l : Plain) (h : Incoming) : Refusal → Type 0 where
 
 -- what a packet comes to
 pub data Ruled (limit : ℕ) (l : Plain) (h : Incoming) (body : List ℕ) : Ruling → Type 0 where
-  shut : (k : Refusal) → Reason l h k → Ruled limit l h body (refusing k)
+  refusal : (k : Refusal) → Reason l h k → Ruled limit l h body (refusing k)
   cutOff : (i : ℕ) (r : Receive) (serial : ℕ) → Matches l h i r serial → r .capacity < h .length
       → Ruled limit l h body (record { target = begunAt h i r serial (segmentOf h body); answer = Answer.Truncated i (h .id) (h .length) })
   accepted : (t : Target) (o : Inbound) → Aims l h body t o → Fitting (t .matched) o → Ruled limit l h body (accepting limit o t)
@@ -211,25 +211,25 @@ module _ (limit : ℕ) (l : Plain) (h : Incoming) (body : List ℕ) where
   more i o e b =
       let role : slotEntry (l .entries) i .role ≡ receiving o =
       sym (role-of-entry (l .entries) i) ∙ found-is-the-lowest-open (roles (l .entries)) (h .id) i o .0 e .0 .0 in
-      branch R (someOf (covers (slotEntry (l .entries) i .segments)) (h .offset) (h .size)) _ _ (λ x. shut repeated (repeating i o e b x))
+      branch R (someOf (covers (slotEntry (l .entries) i .segments)) (h .offset) (h .size)) _ _ (λ x. refusal repeated (repeating i o e b x))
       (λ x. accepted _ o (goesOn i o (record { found = e; role = role; belongs = b; new = x })) (λ y. absurd (false≢true y)))
 
   further : (i : ℕ) (o : Inbound) → Open l h i o → isRtm (h .shape) ≡ true → R (expectAgain limit l h body i o)
   unfolding expectAgain
-  further i o e r = branch R _ _ _ (λ x. more i o e (again r x)) (λ x. shut differs (differing i o e r x))
+  further i o e r = branch R _ _ _ (λ x. more i o e (again r x)) (λ x. refusal differs (differing i o e r x))
 
   ctsData : (i : ℕ) (o : Inbound) → Open l h i o → isRtm (h .shape) ≡ false → R (expectData limit l h body i o)
   unfolding expectData
   ctsData i o e d =
       branch R _ _ _
-      (λ long. branch R (ltb (o .message .granted) (h .offset + h .size)) _ _ (λ x. shut beyondGrant (beyond i o e d long (ltb-true _ _ x)))
+      (λ long. branch R (ltb (o .message .granted) (h .offset + h .size)) _ _ (λ x. refusal beyondGrant (beyond i o e d long (ltb-true _ _ x)))
       (λ x. more i o e (granted d long (ltb-false _ _ x))))
-      (λ x. shut late (notLong i o e d x))
+      (λ x. refusal late (notLong i o e d x))
 
   fitted : (f : Fit) → firstPosted h 0 Fit.Unfit (l .entries) ≡ f → Unopened l h → isRtm (h .shape) ≡ true → ahead (h .id) (l .next) ≡ 0
       → R (expectFit limit h body f)
   unfolding expectFit
-  fitted Fit.Unfit e n rtm next = shut noReceive (unmatched n rtm next e)
+  fitted Fit.Unfit e n rtm next = refusal noReceive (unmatched n rtm next e)
   fitted (Fit.To i r serial) e n rtm next =
       let m : Matches l h i r serial = record { unopened = n; rtm = rtm; next = next; chosen = foremost h (l .entries) i r serial e } in
       branch R (ltb (r .capacity) (h .length)) _ _ (λ x. cutOff i r serial m (ltb-true _ _ x))
@@ -238,15 +238,15 @@ module _ (limit : ℕ) (l : Plain) (h : Incoming) (body : List ℕ) where
   fresh : Unopened l h → isRtm (h .shape) ≡ true → R (expectNew limit l h body)
   unfolding expectNew
   fresh n rtm =
-      branch R (ltb 2147483647 (ahead (h .id) (l .next))) _ _ (λ x. shut late (behind n rtm (ltb-true _ _ x))) (λ x.
+      branch R (ltb 2147483647 (ahead (h .id) (l .next))) _ _ (λ x. refusal late (behind n rtm (ltb-true _ _ x))) (λ x.
       branch R (ltb 0 (ahead (h .id) (l .next))) _ _
-      (λ y. shut early (tooSoon n rtm (omega (arith, ltb-false 2147483647 (ahead (h .id) (l .next)) x)) (ltb-true _ _ y)))
+      (λ y. refusal early (tooSoon n rtm (omega (arith, ltb-false 2147483647 (ahead (h .id) (l .next)) x)) (ltb-true _ _ y)))
       (λ y. fitted _ refl n rtm (omega (arith, ltb-false 0 (ahead (h .id) (l .next)) y))))
 
   ruled-found : (f : FoundOpen) → openIn (h .id) 0 (roles (l .entries)) ≡ f → R (expectFound limit l h body f)
   unfolding expectFound
   ruled-found (FoundOpen.At i o) e = branch R _ _ _ (λ x. further i o e x) (λ x. ctsData i o e x)
-  ruled-found FoundOpen.Nothing e = branch R _ _ _ (λ x. fresh e x) (λ x. shut late (notOpen e x))
+  ruled-found FoundOpen.Nothing e = branch R _ _ _ (λ x. fresh e x) (λ x. refusal late (notOpen e x))
 
   pub ruled : Ruled limit l h body (expectFound limit l h body (openIn (h .id) 0 (roles (l .entries))))
   ruled = ruled-found (openIn (h .id) 0 (roles (l .entries))) refl
@@ -277,7 +277,7 @@ module _ (limit : ℕ) (l : Plain) (bs : List ℕ) (room : ℕ) (q : Packet) (re
       (λ y. (p, withSegment t p)))
 
   ruled-walked : {x : Ruling} → Ruled limit l (headOf b) (bytesOf b) x → Walked limit l (packet bs room) (x .target) (x .answer)
-  ruled-walked (shut k r) = refused-walked limit l (packet bs room) k
+  ruled-walked (refusal k r) = refused-walked limit l (packet bs room) k
   ruled-walked (cutOff i r serial m above) =
       let w : Taken limit l (packet bs room) (begunAt (headOf b) i r serial (segmentOf (headOf b) (bytesOf b))) =
       record { brings = b; message = opened r (headOf b); aims = begins i r serial m } in

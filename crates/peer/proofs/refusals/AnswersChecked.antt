@@ -7,7 +7,7 @@ use mathlib.Core.Path.{_≡_, sym, ap, _∙_, refl, subst}
 use mathlib.Core.Bool.{true, false}
 use borrow.Author.Tests.{ltb-false, ltb-true}
 use lib.Dec.{leb}
-use mathlib.Core.Logic.{inl, inr, ⊎-elim}
+use mathlib.Core.Logic.{inl, inr, ⊎-elim, _⊎_, ⊎-map}
 use native.Mathlib.Omega.{arith}
 use Rattle.protocol.specs.Sentences.{ReadIfNoneFails, RefusedByFirstToFail, readerChecks, wrongLengths}
 use Rattle.protocol.specs.Reading.{readOf}
@@ -23,8 +23,8 @@ use Rattle.peer.specs.Claims.{AreBytes}
 use Rattle.peer.specs.Coverage.{Segment}
 use Rattle.peer.specs.Effects.{opened}
 use Rattle.peer.specs.Expected.{Ruling, expectCancel, expectPacket, expectPost, expectRead, expectReport, expected, accepting}
-use Rattle.peer.specs.Sentences.{FoundIsTheLowestOpen, NothingFoundIsNoneOpen, RtmIs64To69, UnfitIsNoneWaiting}
-use Rattle.peer.specs.Incomings.{incomingOf, isRtm}
+use Rattle.peer.specs.Sentences.{FoundIsTheLowestOpen, NothingFoundIsNoneOpen, RtmIs64To69, UnfitIsNoneWaiting, MediumIs66And67}
+use Rattle.peer.specs.Incomings.{incomingOf, isRtm, isMedium}
 use Rattle.peer.specs.PacketBytes.{RtmIn, idIn, typeIn}
 use Rattle.peer.specs.Plain.{Plain, Role, slotEntry, idle, openIn, receiving, roles, segmentOf, waiting, Target, begunAt, moreAt}
 use Rattle.peer.specs.Says.{refused, said, say}
@@ -39,11 +39,12 @@ use Rattle.protocol.proofs.OrderHolds.{read-if-none-fails, refused-by-first-to-
 use Rattle.peer.proofs.step.AnswerLaws.{expect-takes, takes-unrefused}
 use Rattle.peer.proofs.sentences.BytesHold.{Says, read-says}
 use Rattle.peer.proofs.refusals.FirstLaws.{gone-at, gone-past, gone-refused}
-use Rattle.peer.proofs.history.Facts.{Belongs, Ruled, accepted, again, begins, beyond, behind, cutOff, differing, goesOn, granted, notLong, notOpen, repeating, ruled, shut, tooSoon, unmatched}
-use Rattle.peer.proofs.refusals.PacketChecked.{Sole, data-beyond, data-more, data-repeats, data-short, data-shut, new-early, new-fits, new-late, new-unfit, open-differs, open-more, open-repeats}
-use Rattle.peer.proofs.refusals.PostChecked.{GoneFor, Unrefused, cancel-free, cancel-used, post-gone, report-open, report-shut, slot-beyond}
+use Rattle.peer.proofs.history.Facts.{Belongs, Ruled, accepted, again, begins, beyond, behind, cutOff, differing, goesOn, granted, notLong, notOpen, repeating, ruled, refusal, tooSoon, unmatched}
+use Rattle.peer.proofs.refusals.PacketChecked.{Sole, data-beyond, data-more, data-repeats, data-short, data-unopened, new-early, new-fits, new-late, new-unfit, open-differs, open-more, open-repeats}
+use Rattle.peer.proofs.refusals.PostChecked.{GoneFor, Unrefused, cancel-free, cancel-used, post-gone, report-open, report-unopened, slot-beyond}
 use Rattle.peer.proofs.plain.Roles.{role-of-entry}
-use Rattle.peer.proofs.sentences.SentencesHold.{found-is-the-lowest-open, nothing-found-is-none-open, rtm-is-64-to-69, unfit-is-none-waiting}
+use Rattle.peer.proofs.sentences.SentencesHold.{found-is-the-lowest-open, nothing-found-is-none-open, rtm-is-64-to-69, unfit-is-none-waiting, medium-is-66-and-67}
+use Rattle.peer.specs.State.{slotCount}
 
 -- ---- the type of a packet
 
@@ -51,11 +52,19 @@ pub rtm-of : {bs : List ℕ} {h : Incoming} → Says bs h → isRtm (h .shape) �
 unfolding RtmIs64To69
 rtm-of {h = h} s x = let w = rtm-is-64-to-69 (h .shape) (h .tagged) .0 x in (omega (arith, s .kind, w .0), omega (arith, s .kind, w .1))
 
+pub of-rtm : {bs : List ℕ} {h : Incoming} → Says bs h → RtmIn bs → isRtm (h .shape) ≡ true
+unfolding RtmIs64To69
+of-rtm {h = h} s w = rtm-is-64-to-69 (h .shape) (h .tagged) .1 (omega (arith, s .kind, w .0), omega (arith, s .kind, w .1))
+
+pub medium-of : {bs : List ℕ} {h : Incoming} → Says bs h → isMedium (h .shape) ≡ true → (typeIn bs ≡ 66) ⊎ (typeIn bs ≡ 67)
+unfolding MediumIs66And67
+medium-of {h = h} s x = ⊎-map (λ y. sym (s .kind) ∙ y) (λ y. sym (s .kind) ∙ y) (medium-is-66-and-67 (h .shape) (h .tagged) .0 x)
+
 pub data-of : {bs : List ℕ} {h : Incoming} → Says bs h → isRtm (h .shape) ≡ false → typeIn bs ≡ 4
 unfolding RtmIs64To69
 data-of {h = h} s x =
     ⊎-elim (λ t. t)
-    (λ w. clashing (isRtm (h .shape)) (rtm-is-64-to-69 (h .shape) (h .tagged) .1 (omega (arith, s .kind, w .0), omega (arith, s .kind, w .1))) x)
+    (λ w. clashing (isRtm (h .shape)) (of-rtm s w) x)
     (s .served)
 
 module _ (area limit : ℕ) (l : Plain) where
@@ -67,7 +76,7 @@ module _ (area limit : ℕ) (l : Plain) where
 
   -- ---- post, cancel and report
 
-  post-checked : length (l .entries) ≡ 8 → (r : Receive) → G (checksOf (post r)) (expectPost area l r)
+  post-checked : length (l .entries) ≡ slotCount → (r : Receive) → G (checksOf (post r)) (expectPost area l r)
   unfolding expectPost
   post-checked eight r = post-gone area limit v (roles (l .entries)) (λ i. sym (role-of-entry (l .entries) i)) (length-map (l .entries) _ ∙ eight) r
 
@@ -76,7 +85,7 @@ module _ (area limit : ℕ) (l : Plain) where
   cancel-checked i =
       branch (G (checksOf (cancel i))) _ _ _ (λ x. slot-beyond area limit v i (Answer.Refused badSlot) x refl .0) (λ x. at (slotEntry (l .entries) i .role) refl x)
     where
-      at : (u : Role) → v .role i ≡ u → leb 8 i ≡ false → G (checksOf (cancel i)) (expectCancel i u)
+      at : (u : Role) → v .role i ≡ u → leb slotCount i ≡ false → G (checksOf (cancel i)) (expectCancel i u)
       at idle e x = cancel-free area limit v i (Answer.Refused badSlot) e refl
       at (waiting r) e x =
           cancel-used area limit v i (Answer.Cancelled i) x (λ y. let w = sym y ∙ e in let z : _≡_ {A = ℕ} 0 1 = cc in omega arith)
@@ -93,9 +102,9 @@ module _ (area limit : ℕ) (l : Plain) where
       gs : List Segment
       gs = slotEntry (l .entries) i .segments
 
-      at : (u : Role) → v .role i ≡ u → leb 8 i ≡ false → G (checksOf (report i)) (expectReport gs u)
-      at idle e x = report-shut area limit v i (Answer.Refused badSlot) (λ o y. let w = sym y ∙ e in let z : _≡_ {A = ℕ} 0 1 = cc in omega arith) refl
-      at (waiting r) e x = report-shut area limit v i (Answer.Refused badSlot) (λ o y. let w = sym y ∙ e in let z : _≡_ {A = ℕ} 0 1 = cc in omega arith) refl
+      at : (u : Role) → v .role i ≡ u → leb slotCount i ≡ false → G (checksOf (report i)) (expectReport gs u)
+      at idle e x = report-unopened area limit v i (Answer.Refused badSlot) (λ o y. let w = sym y ∙ e in let z : _≡_ {A = ℕ} 0 1 = cc in omega arith) refl
+      at (waiting r) e x = report-unopened area limit v i (Answer.Refused badSlot) (λ o y. let w = sym y ∙ e in let z : _≡_ {A = ℕ} 0 1 = cc in omega arith) refl
       at (receiving o) e x = report-open area limit v i o (expectReport gs (receiving o)) x e (λ y. let z : _≡_ {A = ℕ} 0 1 = cc in omega arith)
 
   -- ---- packet
@@ -137,16 +146,16 @@ module _ (area limit : ℕ) (l : Plain) where
 
     judged : {x : Ruling} → Ruled limit l h body x → J x
     unfolding UnfitIsNoneWaiting
-    judged (shut _ (differing i o f r d)) = open-differs area limit v bs h says (Answer.Refused differs) (rtm-of says r) i o (sole i o f) d refl
-    judged (shut _ (repeating i o f (again r s) t)) = open-repeats area limit v bs h says (Answer.Refused repeated) (rtm-of says r) i o (sole i o f) s t refl
-    judged (shut _ (repeating i o f (granted d long g) t)) =
+    judged (refusal _ (differing i o f r d)) = open-differs area limit v bs h says (Answer.Refused differs) (rtm-of says r) i o (sole i o f) d refl
+    judged (refusal _ (repeating i o f (again r s) t)) = open-repeats area limit v bs h says (Answer.Refused repeated) (rtm-of says r) i o (sole i o f) s t refl
+    judged (refusal _ (repeating i o f (granted d long g) t)) =
         data-repeats area limit v bs h says (Answer.Refused repeated) (data-of says d) i o (sole i o f) long g t refl
-    judged (shut _ (beyond i o f d long g)) = data-beyond area limit v bs h says (Answer.Refused beyondGrant) (data-of says d) i o (sole i o f) long g refl
-    judged (shut _ (notLong i o f d short)) = data-short area limit v bs h says (Answer.Refused late) (data-of says d) i o (sole i o f) short refl
-    judged (shut _ (notOpen n d)) = data-shut area limit v bs h says (Answer.Refused late) (data-of says d) (none n) refl
-    judged (shut _ (behind n r g)) = new-late area limit v bs h says (Answer.Refused late) (rtm-of says r) (none n) small octets g refl
-    judged (shut _ (tooSoon n r g m)) = new-early area limit v bs h says (Answer.Refused early) (rtm-of says r) (none n) small octets g m refl
-    judged (shut _ (unmatched n r z u)) =
+    judged (refusal _ (beyond i o f d long g)) = data-beyond area limit v bs h says (Answer.Refused beyondGrant) (data-of says d) i o (sole i o f) long g refl
+    judged (refusal _ (notLong i o f d short)) = data-short area limit v bs h says (Answer.Refused late) (data-of says d) i o (sole i o f) short refl
+    judged (refusal _ (notOpen n d)) = data-unopened area limit v bs h says (Answer.Refused late) (data-of says d) (none n) refl
+    judged (refusal _ (behind n r g)) = new-late area limit v bs h says (Answer.Refused late) (rtm-of says r) (none n) small octets g refl
+    judged (refusal _ (tooSoon n r g m)) = new-early area limit v bs h says (Answer.Refused early) (rtm-of says r) (none n) small octets g m refl
+    judged (refusal _ (unmatched n r z u)) =
         new-unfit area limit v bs h says (Answer.Refused noReceive) (rtm-of says r) (none n) small octets (omega arith) z
         (λ j s y f. unfit-is-none-waiting h (l .entries) .0 u j s y f) refl
     judged (cutOff i r serial m above) =
@@ -179,7 +188,7 @@ module _ (area limit : ℕ) (l : Plain) where
           gone-past (CallFails area limit v) callRefusedAs (unread bs) readerChecks (judgedChecks bs) (said (expectRead limit l bs (Read.Packet q) .answer))
           (read-if-none-fails false limit bs .0 (valuesIn q bs, ap (readSays bs) e)) (judged one small bs octets q e (ruled limit l (incomingOf q) (bytesAt bs (q .«data»))))
 
-  pub answer-checked : (c : Call) → OneEach (viewIn l) → length (l .entries) ≡ 8 → l .next < 2 ^ 32 → AreBytes c → G (checksOf c) (expected area limit l c)
+  pub answer-checked : (c : Call) → OneEach (viewIn l) → length (l .entries) ≡ slotCount → l .next < 2 ^ 32 → AreBytes c → G (checksOf c) (expected area limit l c)
   answer-checked (post r) one eight small b = unfold expected in post-checked eight r
   answer-checked (packet bs room) one eight small b = packet-checked one small bs room b
   answer-checked (cancel i) one eight small b = cancel-checked i

@@ -136,10 +136,10 @@ module _ (area limit : ℕ) (v : View) (bs : List ℕ) (h : Incoming) (s : Says 
         ((l, m ∙ s .id), λ e x. u e (x .0) (x .1 ∙ sym (s .id)))
 
     past-open : G (rtmLate bs ∷ rtmEarly bs ∷ rtmUnmatched bs ∷ dataLate bs ∷ dataBeyond bs ∷ dataRepeats bs ∷ []) → G (judgedChecks bs)
-    past-open g = inr (λ x. shut (x .1), inr (λ x. shut (x .1), g))
+    past-open g = inr (λ x. none-open (x .1), inr (λ x. none-open (x .1), g))
       where
-        shut : {A : ℕ → Inbound → Type 0} → ((i : ℕ) × (o : Inbound) × OpenIn v (idIn bs) i o × A i o) → ⊥
-        shut (i, o, x, y) = n i o x
+        none-open : {A : ℕ → Inbound → Type 0} → ((i : ℕ) × (o : Inbound) × OpenIn v (idIn bs) i o × A i o) → ⊥
+        none-open (i, o, x, y) = n i o x
 
     pub new-late : 2 ^ 31 ≤ ahead (h .id) (v .next) → Refuses 15 → G (judgedChecks bs)
     unfolding d
@@ -170,8 +170,8 @@ module _ (area limit : ℕ) (v : View) (bs : List ℕ) (h : Incoming) (s : Says 
 
   -- "CTSDATA: 15, 17, 16"
   module _ (t : typeIn bs ≡ 4) where
-    pub data-shut : NotOpen v bs → Refuses 15 → G (judgedChecks bs)
-    data-shut n e = past-rtm t (inl ((t, λ i o x y. n i o x), e))
+    pub data-unopened : NotOpen v bs → Refuses 15 → G (judgedChecks bs)
+    data-unopened n e = past-rtm t (inl ((t, λ i o x y. n i o x), e))
 
     module _ (i : ℕ) (o : Inbound) (sole : Sole v (idIn bs) i o) where
       pub data-short : isLong (o .message .shape) ≡ false → Refuses 15 → G (judgedChecks bs)

@@ -16,7 +16,7 @@ use Rattle.peer.specs.Expected.{anyOverlap, expectPlace, lowestIdle}
 use Rattle.peer.specs.Sentences.{HasByte}
 use Rattle.peer.specs.Says.{refused, said, say}
 use Rattle.peer.specs.Plain.{Role, idle, receiving, waiting}
-use Rattle.peer.specs.State.{overlap}
+use Rattle.peer.specs.State.{overlap, slotCount}
 use Rattle.peer.specs.View.{UsesRange, View}
 use Rattle.peer.specs.declared.types.Answer.{Answer}
 use Rattle.peer.specs.declared.types.Inbound.{Inbound}
@@ -89,7 +89,7 @@ placed k (receiving o ∷ us) = not-idle k (receiving o) us (lowestIdle (suc k) 
 
 module _ (area limit : ℕ) (v : View) where
   -- the view's roles are those of a list of eight
-  module _ (us : List Role) (same : (i : ℕ) → v .role i ≡ getD us i idle) (eight : length us ≡ 8) where
+  module _ (us : List Role) (same : (i : ℕ) → v .role i ≡ getD us i idle) (eight : length us ≡ slotCount) where
     place-gone : (y : Vacancy) → Placed 0 us y → GoneFor area limit v (noneFree ∷ []) (expectPlace y)
     place-gone Vacancy.Full w = inl (λ i l e. w i (omega (arith, eight)) (sym (same i) ∙ e), refl)
     place-gone (Vacancy.Slot j) (i, l, e) = inr (λ n. n i (omega (arith, eight)) (same i ∙ e), λ x. let z : _≡_ {A = ℕ} 0 1 = cc in omega arith)
@@ -109,23 +109,23 @@ module _ (area limit : ℕ) (v : View) where
         (λ y. inr (λ l. omega (arith, ltb-false area (r .start + r .capacity) x), inl (used r y, refl)))
         (λ y. inr (λ l. omega (arith, ltb-false area (r .start + r .capacity) x), inr (unused r y, place-gone (lowestIdle 0 us) (placed 0 us)))))
 
-  -- 20, where the slot is not below 8
-  pub slot-beyond : (i : ℕ) (a : Answer) → leb 8 i ≡ true → said a ≡ say refused (20 ∷ [])
+  -- 20, where the slot is not there
+  pub slot-beyond : (i : ℕ) (a : Answer) → leb slotCount i ≡ true → said a ≡ say refused (20 ∷ [])
       → GoneFor area limit v (checksOf (cancel i)) a × GoneFor area limit v (checksOf (report i)) a
-  slot-beyond i a x e = (inl (inl (leb-true 8 i x), e), inl (inl (leb-true 8 i x), e))
+  slot-beyond i a x e = (inl (inl (leb-true slotCount i x), e), inl (inl (leb-true slotCount i x), e))
 
-  -- a slot below 8 that is used, and one that is not
+  -- a slot that is used, and one that is not
   pub cancel-free : (i : ℕ) (a : Answer) → v .role i ≡ idle → said a ≡ say refused (20 ∷ [])
       → GoneFor area limit v (checksOf (cancel i)) a
   cancel-free i a x e = inl (inr x, e)
 
-  pub cancel-used : (i : ℕ) (a : Answer) → leb 8 i ≡ false → (v .role i ≡ idle → ⊥) → Unrefused a → GoneFor area limit v (checksOf (cancel i)) a
-  cancel-used i a l n e = inr (λ w. ⊎-elim (λ x. omega (arith, leb-false 8 i l)) n w, e)
+  pub cancel-used : (i : ℕ) (a : Answer) → leb slotCount i ≡ false → (v .role i ≡ idle → ⊥) → Unrefused a → GoneFor area limit v (checksOf (cancel i)) a
+  cancel-used i a l n e = inr (λ w. ⊎-elim (λ x. omega (arith, leb-false slotCount i l)) n w, e)
 
-  pub report-shut : (i : ℕ) (a : Answer) → ((o : Inbound) → v .role i ≡ receiving o → ⊥) → said a ≡ say refused (20 ∷ [])
+  pub report-unopened : (i : ℕ) (a : Answer) → ((o : Inbound) → v .role i ≡ receiving o → ⊥) → said a ≡ say refused (20 ∷ [])
       → GoneFor area limit v (checksOf (report i)) a
-  report-shut i a n e = inl (inr n, e)
+  report-unopened i a n e = inl (inr n, e)
 
-  pub report-open : (i : ℕ) (o : Inbound) (a : Answer) → leb 8 i ≡ false → v .role i ≡ receiving o → Unrefused a
+  pub report-open : (i : ℕ) (o : Inbound) (a : Answer) → leb slotCount i ≡ false → v .role i ≡ receiving o → Unrefused a
       → GoneFor area limit v (checksOf (report i)) a
-  report-open i o a l x e = inr (λ w. ⊎-elim (λ y. omega (arith, leb-false 8 i l)) (λ n. n o x) w, e)
+  report-open i o a l x e = inr (λ w. ⊎-elim (λ y. omega (arith, leb-false slotCount i l)) (λ n. n o x) w, e)

@@ -1,4 +1,4 @@
--- A packet that was read is formed: an RTM's segment lies in its message, and a long message begins at its start.
+-- A packet that was read is formed: an RTM's segment lies in its message, and a long message begins at its start and is never empty.
 use Prim.Native.Nat.{ℕ, _+_, _-_, _≤_}
 use borrow.Author.Tests.{leb-true, eqb-true, not-true}
 use lib.Dec.{leb, eqb}
@@ -25,7 +25,7 @@ use Rattle.protocol.specs.declared.types.Read.{Read}
 use Rattle.peer.specs.Formed.{Formed}
 use Rattle.peer.specs.Incomings.{incomingOf, isEager, isLong, isRtm}
 use Rattle.wire.specs.LittleEndian.{leAt}
-use Rattle.laws.proofs.Choosing.{and-right, clashing, or-cases, pick-false, pick-true}
+use Rattle.laws.proofs.Choosing.{and-left, and-right, clashing, or-cases, pick-false, pick-true}
 use Rattle.laws.proofs.Storing.{length-part}
 use Rattle.protocol.proofs.Accepted.{ReadAs, as-read, dataFrom, packetOf}
 use Rattle.protocol.proofs.RowLaws.{number-none}
@@ -60,6 +60,7 @@ module _ (limit : ℕ) (bs : List ℕ) (r : TypeRow) (a : ReadAs limit bs r) whe
         size = sym (length-part bs at n (omega (arith, a .inside)));
         inside = λ rtm. within s e rtm;
         start = λ long. from s e long;
+        some = λ long. never-empty s e long;
       }
     where
       at : ℕ
@@ -92,8 +93,17 @@ module _ (limit : ℕ) (bs : List ℕ) (r : TypeRow) (a : ReadAs limit bs r) whe
           let fit : (leb 1 n && leb (v .«seg_offset» + n) (v .«msg_length»)) ≡ true = unfold lengthsFit in rule Medium e in
           rw (len Medium e refl) (leb-true _ _ (and-right (leb 1 n) _ fit))
       within LongCts e rtm =
-          let fit : (leb 1 n && leb n (v .«msg_length»)) ≡ true = unfold lengthsFit in rule LongCts e in
-          rw (len LongCts e refl, offset (ap fromStart e)) (omega (arith, leb-true n (v .«msg_length») (and-right (leb 1 n) _ fit)))
+          let fit : (leb 1 (v .«msg_length») && leb n (v .«msg_length»)) ≡ true = unfold lengthsFit in rule LongCts e in
+          rw (len LongCts e refl, offset (ap fromStart e)) (omega (arith, leb-true n (v .«msg_length») (and-right (leb 1 (v .«msg_length»)) _ fit)))
+
+      never-empty : (s : Shape) → r .shape ≡ s → isLong (r .shape) ≡ true → 1 ≤ pick (isEager (r .shape)) n (v .«msg_length»)
+      never-empty Cts e long = never isLong Cts e refl long
+      never-empty CtsData e long = never isLong CtsData e refl long
+      never-empty Eager e long = never isLong Eager e refl long
+      never-empty Medium e long = never isLong Medium e refl long
+      never-empty LongCts e long =
+          let fit : (leb 1 (v .«msg_length») && leb n (v .«msg_length»)) ≡ true = unfold lengthsFit in rule LongCts e in
+          rw (len LongCts e refl) (leb-true 1 (v .«msg_length») (and-left _ (leb n (v .«msg_length»)) fit))
 
       from : (s : Shape) → r .shape ≡ s → isLong (r .shape) ≡ true → v .«seg_offset» ≡ 0
       from Cts e long = never isLong Cts e refl long

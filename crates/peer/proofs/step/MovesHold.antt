@@ -18,14 +18,14 @@ use Rattle.peer.specs.Calls.{Call, countPosted, missingIn, packet, place
 use Rattle.peer.specs.Coverage.{Segment}
 use Rattle.peer.specs.Effects.{Effect, accept, advance, begun, extended, grantOf, inSlot, opened, progressOf, quiet, settledAs, truncatedAt, withPhase}
 use Rattle.peer.specs.Formed.{Formed}
-use Rattle.peer.specs.Sentences.{NothingFoundIsNoneOpen}
+use Rattle.peer.specs.Sentences.{NothingFoundIsNoneOpen, LongIs68And69}
 use Rattle.peer.specs.Incomings.{incomingOf}
 use Rattle.peer.specs.Matching.{oldest, vacancy}
 use Rattle.peer.specs.Moves.{AllIn, Beginning, GoingOn, Moved, MovesAreAsSaid, SomeMissing, Taking}
 use Rattle.peer.specs.PacketBytes.{offsetIn}
 use Rattle.peer.specs.Plain.{Entry, idle}
 use Rattle.peer.specs.SlotMoves.{Cancelling, Matching, OnlySlot, Posting, Truncating, Untouched, roleAt}
-use Rattle.peer.specs.State.{isFree, phaseAt, slotWith}
+use Rattle.peer.specs.State.{isFree, phaseAt, slotWith, slotCount}
 use Rattle.peer.specs.View.{roleOf, rolesOf, viewOf}
 use Rattle.peer.specs.declared.types.Answer.{Answer}
 use Rattle.peer.specs.declared.types.Fit.{Fit}
@@ -41,7 +41,7 @@ use Rattle.bitmap.proofs.BitLaws.{length-cleared, length-marked}
 use Rattle.laws.proofs.Comparing.{le-or-lt}
 use Rattle.protocol.proofs.CtsRead.{cts-read-back}
 use Rattle.peer.proofs.slots.Ages.{length-renumbered, phase-renumbered}
-use Rattle.peer.proofs.refusals.AnswersChecked.{rtm-of}
+use Rattle.peer.proofs.refusals.AnswersChecked.{medium-of, of-rtm, rtm-of}
 use Rattle.peer.proofs.step.BitMoves.{Reached, count-listed, first-lowest, match-marked, more-marked, reached}
 use Rattle.peer.proofs.sentences.BytesHold.{Says, bytes-told, read-says}
 use Rattle.peer.proofs.plain.EntrySearch.{Foremost, foremost}
@@ -55,11 +55,11 @@ use Rattle.peer.proofs.slots.Slots.{entries-oldest, entriesOf, entryOf,
 use Rattle.peer.proofs.step.StepCases.{StepCase, begins, cancelled, continues, posted, refused, reported, step-case, truncated}
 use Rattle.peer.proofs.slots.Valid.{Valid, fits-valid}
 use Rattle.peer.proofs.step.Verdicts.{Begins, Continues, CutOff, Matched, chosen-at, continued-at}
-use Rattle.peer.proofs.sentences.SentencesHold.{nothing-found-is-none-open}
+use Rattle.peer.proofs.sentences.SentencesHold.{long-is-68-and-69, nothing-found-is-none-open}
 
 -- ---- one slot replaced
 
-module _ (p : Peer) (eight : length (p .slots) ≡ 8) (i : ℕ) (inside : i < length (p .slots)) (f : Phase) where
+module _ (p : Peer) (eight : length (p .slots) ≡ slotCount) (i : ℕ) (inside : i < length (p .slots)) (f : Phase) where
   pub set-now : roleOf (phaseAt (set (p .slots) i (slotWith f)) i) ≡ roleOf f
   set-now = ap roleOf (phase-same (p .slots) i f inside)
 
@@ -81,7 +81,7 @@ used-role Phase.Free e x = true≢false e
 used-role (Phase.Posted r a) e x = let z : _≡_ {A = ℕ} 0 1 = cc in omega arith
 used-role (Phase.Open o) e x = let z : _≡_ {A = ℕ} 0 1 = cc in omega arith
 
-module _ (p : Peer) (ws : List ℕ) (eight : length (p .slots) ≡ 8) where
+module _ (p : Peer) (ws : List ℕ) (eight : length (p .slots) ≡ slotCount) where
   pub placed-moves : (r : Receive) (i : ℕ) → vacancy 0 (p .slots) ≡ Vacancy.Slot i → Posting p ws r i (quiet (placed p r i) ws (Answer.Posted i))
   unfolding placed
   placed-moves r i e =
@@ -108,7 +108,7 @@ module _ (p : Peer) (ws : List ℕ) (eight : length (p .slots) ≡ 8) where
       q : Peer
       q = record { next = p .next; slots = all }
 
-      eight′ : length (q .slots) ≡ 8
+      eight′ : length (q .slots) ≡ slotCount
       eight′ = length-renumbered (p .slots) (p .slots) ∙ eight
 
       at : (i < length (p .slots)) × (phaseAt (p .slots) i ≡ Phase.Free) × ((j : ℕ) → j < i → isFree (phaseAt (p .slots) j) ≡ false)
@@ -176,7 +176,7 @@ module _ (p : Peer) (ws : List ℕ) (eight : length (p .slots) ≡ 8) where
 
 -- ---- all answers
 
-module _ (limit : ℕ) (p : Peer) (ws : List ℕ) (eight : length (p .slots) ≡ 8) where
+module _ (limit : ℕ) (p : Peer) (ws : List ℕ) (eight : length (p .slots) ≡ slotCount) where
   report-moves : (i : ℕ) (o : Inbound) → phaseAt (p .slots) i ≡ Phase.Open o → Moved limit p ws (report i) (quiet p ws (missingIn ws o)) (missingIn ws o)
   report-moves i o e =
       let (os, fall, each, count) = count-listed ws (o .receive .start) (o .message .length) in
@@ -299,6 +299,7 @@ module _ (limit : ℕ) (p : Peer) (ws : List ℕ) (eight : length (p .slots) ≡
           message = begun-by limit bs q e (b .matched .rtm) r;
           granted = says .size;
           fitting = b .inCapacity;
+          some = λ long. form .some (unfold LongIs68And69 in long-is-68-and-69 (h .shape) (h .tagged) .1 long);
           moves = refl;
           bits = match-marked ws bs r (r .start + h .offset) (length bytes) (ap (λ (x : ℕ). r .start + x) (says .offset)) (sym (form .size) ∙ says .size)
               (omega (arith, form .size, form .inside (b .matched .rtm), b .inCapacity))
@@ -324,6 +325,7 @@ module _ (limit : ℕ) (p : Peer) (ws : List ℕ) (eight : length (p .slots) ≡
         (inr (record {
           receives = ap roleOf (continued-at p ws h i o c .1);
           id = found-open (h .id) (p .slots) i o (c .found) .2 ∙ says .id;
+          again = λ rtm. medium-of says (c .again (of-rtm says rtm));
           stays = refl;
           bits = more-marked ws bs (o .receive) (o .receive .start + h .offset) (length bytes) (ap (λ (x : ℕ). o .receive .start + x) (says .offset))
               (sym (form .size) ∙ says .size)

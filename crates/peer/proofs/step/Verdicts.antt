@@ -55,6 +55,7 @@ pub record Continues (p : Peer) (ws : List ℕ) (h : Incoming) (i : ℕ) (o : In
   pub inLength : o .message .granted ≤ o .message .length → h .offset + h .size ≤ o .message .length
   pub inGrant : isLong (o .message .shape) ≡ true → h .offset + h .size ≤ o .message .granted
   pub unmarked : touched ws (o .receive .start + h .offset) (h .size) ≡ false
+  pub again : isRtm (h .shape) ≡ true → isMedium (h .shape) ≡ true
 
 -- the refusal is one of a packet's
 abbrev pub Listed : Refusal → Type 0
@@ -78,6 +79,11 @@ medium-only m h x long = go (m .shape) (and-left (isMedium (m .shape)) _ (and-ri
     go Medium a b = false≢true b
     go LongCts a b = false≢true a
 
+-- a further RTM is a medium one
+again-medium : (m : Message) (h : Incoming) → sameMessage m h ≡ true → isMedium (h .shape) ≡ true
+unfolding sameMessage sameMedium
+again-medium m h x = and-left (isMedium (h .shape)) _ (and-left (sameMedium m h) _ x)
+
 pub found-within : (area : ℕ) (p : Peer) (id i : ℕ) (o : Inbound) → Valid area (p .slots) → findOpen id 0 (p .slots) ≡ FoundOpen.At i o → Within area o
 found-within area p id i o v e =
     open-within area o (ap (phaseFits area) (sym (found-open id (p .slots) i o e .1)) ∙ v .each i)
@@ -96,27 +102,27 @@ module _ (p : Peer) (ws : List ℕ) (h : Incoming) (n : ℕ) (form : Formed h n)
   J = Judged p ws h
 
   judged-more : (i : ℕ) (o : Inbound) → findOpen (h .id) 0 (p .slots) ≡ FoundOpen.At i o → (o .message .granted ≤ o .message .length → h .offset + h .size ≤ o .message .length)
-      → (isLong (o .message .shape) ≡ true → h .offset + h .size ≤ o .message .granted) → J (judgeMore ws i o h)
+      → (isLong (o .message .shape) ≡ true → h .offset + h .size ≤ o .message .granted) → (isRtm (h .shape) ≡ true → isMedium (h .shape) ≡ true) → J (judgeMore ws i o h)
   unfolding J judgeMore
-  judged-more i o e l g =
+  judged-more i o e l g m =
       branch (Judged p ws h) _ _ _ (λ x. refl)
-      (λ x. record { found = e; inLength = l; inGrant = g; unmarked = x })
+      (λ x. record { found = e; inLength = l; inGrant = g; unmarked = x; again = m })
 
   judged-again : (i : ℕ) (o : Inbound) → findOpen (h .id) 0 (p .slots) ≡ FoundOpen.At i o → isRtm (h .shape) ≡ true → J (judgeAgain ws i o h)
   unfolding J judgeAgain
   judged-again i o e rtm =
       branch (Judged p ws h) _ _ _
-      (λ x. let w = again-inside o rtm x in judged-more i o e (λ y. w .0) (λ long. absurd (w .1 long)))
+      (λ x. let w = again-inside o rtm x in judged-more i o e (λ y. w .0) (λ long. absurd (w .1 long)) (λ y. again-medium (o .message) h x))
       (λ x. refl)
 
-  judged-data : (i : ℕ) (o : Inbound) → findOpen (h .id) 0 (p .slots) ≡ FoundOpen.At i o → J (judgeData ws i o h)
+  judged-data : (i : ℕ) (o : Inbound) → findOpen (h .id) 0 (p .slots) ≡ FoundOpen.At i o → isRtm (h .shape) ≡ false → J (judgeData ws i o h)
   unfolding J judgeData
-  judged-data i o e =
+  judged-data i o e other =
       branch (Judged p ws h) _ _ _
       (λ long. branch (Judged p ws h) _ _ _
       (λ x.
       let g : h .offset + h .size ≤ o .message .granted = leb-true _ _ x in
-      judged-more i o e (λ y. omega arith) (λ y. g))
+      judged-more i o e (λ y. omega arith) (λ y. g) (λ rtm. absurd (false≢true (sym other ∙ rtm))))
       (λ x. refl))
       (λ x. refl)
 
@@ -143,7 +149,7 @@ module _ (p : Peer) (ws : List ℕ) (h : Incoming) (n : ℕ) (form : Formed h n)
     where
       go : (f : FoundOpen) → findOpen (h .id) 0 (p .slots) ≡ f → Judged p ws h (judgeFound p ws h f)
       go (FoundOpen.At i o) e =
-          branch (Judged p ws h) _ _ _ (λ x. judged-again i o e x) (λ x. judged-data i o e)
+          branch (Judged p ws h) _ _ _ (λ x. judged-again i o e x) (λ x. judged-data i o e x)
       go FoundOpen.Nothing e =
           branch (Judged p ws h) _ _ _ (λ x. judged-new x e) (λ x. refl)
 

@@ -127,12 +127,18 @@ fn ids_ahead_and_behind() {
     }
 }
 
-/// The long message of the cases: length 200, 40 bytes of data, send_id 7.
-fn long_case(credit_request: u8) -> Vec<u8> {
+/// The long messages of the cases without their data. Their send_id is 7.
+fn long_header(msg_length: u8, credit_request: u8) -> Vec<u8> {
     let mut bytes = vec![68, 4, 4, 0, 0, 0, 0, 0];
-    bytes.extend([200, 0, 0, 0, 0, 0, 0, 0]);
+    bytes.extend([msg_length, 0, 0, 0, 0, 0, 0, 0]);
     bytes.extend([7, 0, 0, 0]);
     bytes.extend([credit_request, 0, 0, 0]);
+    bytes
+}
+
+/// The one of length 200 with 40 bytes of data.
+fn long_case(credit_request: u8) -> Vec<u8> {
+    let mut bytes = long_header(200, credit_request);
     bytes.extend((0..40).collect::<Vec<u8>>());
     bytes
 }
@@ -178,12 +184,97 @@ fn long_with_no_request() {
 }
 
 #[test]
+fn long_that_starts_empty() {
+    let mut r = Receiver::usual();
+    assert_eq!(r.post(0, 0, 200), Posted(0));
+    assert_eq!(r.packet(0, &long_header(200, 2)), Granted(128));
+    assert_eq!(&r.reply[..24], &CTS_128);
+    assert_eq!(
+        r.report(0, 0),
+        Missing {
+            received: 0,
+            first: 0
+        }
+    );
+    assert_eq!(&r.arena, &[0xEE; 512]);
+    assert_eq!(r.packet(0, &ctsdata(0, 0, &[1; 64])), Stored);
+    assert_eq!(r.packet(0, &ctsdata(0, 64, &[2; 64])), Granted(72));
+    let mut cts_72 = CTS_128;
+    cts_72[16] = 72;
+    assert_eq!(&r.reply[..24], &cts_72);
+    assert_eq!(r.packet(0, &ctsdata(0, 128, &[3; 64])), Stored);
+    assert_eq!(r.packet(0, &ctsdata(0, 192, &[4; 8])), done(0, 0, 200));
+    let expected: Vec<u8> = [1; 64]
+        .into_iter()
+        .chain([2; 64])
+        .chain([3; 64])
+        .chain([4; 8])
+        .collect();
+    assert_eq!(&r.arena[..200], &expected);
+    assert_eq!(&r.arena[200..], &[0xEE; 312]);
+}
+
+#[test]
+fn long_that_starts_empty_with_no_request() {
+    let mut r = Receiver::usual();
+    assert_eq!(r.post(0, 0, 200), Posted(0));
+    assert_eq!(r.packet(0, &long_header(200, 0)), Granted(64));
+    assert_eq!(r.packet(0, &ctsdata(0, 0, &[1; 64])), Granted(64));
+    assert_eq!(r.packet(0, &ctsdata(0, 64, &[2; 64])), Granted(64));
+    assert_eq!(r.packet(0, &ctsdata(0, 128, &[3; 64])), Granted(8));
+    assert_eq!(r.packet(0, &ctsdata(0, 192, &[4; 8])), done(0, 0, 200));
+}
+
+#[test]
+fn long_that_starts_empty_and_is_too_long() {
+    let mut r = Receiver::usual();
+    assert_eq!(r.post(0, 0, 199), Posted(0));
+    let before = r.clone();
+    assert_eq!(
+        r.packet(0, &long_header(200, 2)),
+        Truncated {
+            slot: 0,
+            id: 0,
+            length: 200
+        }
+    );
+    assert_eq!(r.engine.peers[0].next, 1);
+    assert_eq!(r.engine.peers[0].slots[0], Slot::Free);
+    assert_eq!(
+        (&r.arena, &r.map, &r.reply),
+        (&before.arena, &before.map, &before.reply)
+    );
+}
+
+#[test]
+fn long_past_its_length_or_of_none() {
+    let mut r = Receiver::usual();
+    assert_eq!(r.post(0, 0, 200), Posted(0));
+    let unchanged = r.clone();
+    assert_eq!(r.packet(0, &long_header(0, 2)), Refused(11));
+    let past = [&long_header(2, 2)[..], b"abc"].concat();
+    assert_eq!(r.packet(0, &past), Refused(11));
+    assert_eq!(r, unchanged);
+    assert_eq!(r.packet(0, &long_header(1, 2)), Granted(1));
+    assert_eq!(r.packet(0, &ctsdata(0, 0, b"a")), done(0, 0, 1));
+}
+
+#[test]
 fn data_up_to_and_beyond_the_grant() {
     let mut r = Receiver::usual();
     assert_eq!(r.post(0, 0, 200), Posted(0));
     assert_eq!(r.packet(0, &long_case(2)), Granted(128));
     assert_eq!(r.packet(0, &ctsdata(0, 167, &[9])), Stored);
     assert_eq!(r.packet(0, &ctsdata(0, 168, &[9])), Refused(17));
+}
+
+#[test]
+fn data_up_to_and_beyond_the_first_grant_of_an_empty_start() {
+    let mut r = Receiver::usual();
+    assert_eq!(r.post(0, 0, 200), Posted(0));
+    assert_eq!(r.packet(0, &long_header(200, 2)), Granted(128));
+    assert_eq!(r.packet(0, &ctsdata(0, 127, &[9])), Stored);
+    assert_eq!(r.packet(0, &ctsdata(0, 128, &[9])), Refused(17));
 }
 
 #[test]

@@ -43,7 +43,10 @@ fn grants_add_up_to_the_length() {
     for _ in 0..2_000 {
         let limit = 64 + random.below(200);
         let length = 1 + random.below(8_192);
-        let first = 1 + random.below(length.min(limit - 24));
+        let first = match random.below(4) {
+            0 => 0,
+            _ => 1 + random.below(length.min(limit - 24)),
+        };
         let credit_request = random.any() as u32;
         let grants = grants(limit, length, first, credit_request);
         assert_eq!(first + grants.iter().sum::<u64>(), length);
@@ -66,6 +69,15 @@ fn the_credit_request_is_bounded() {
     assert_eq!(grants(64, 8_192, 40, 0)[0], 32);
     assert_eq!(grants(64, 41, 40, 5), [1]);
     assert_eq!(grants(64, 40, 40, 5), []);
+}
+
+#[test]
+fn the_first_grant_of_an_empty_start_begins_at_0() {
+    assert_eq!(grants(96, 200, 0, 2), [128, 72]);
+    assert_eq!(grants(96, 200, 0, 0), [64, 64, 64, 8]);
+    assert_eq!(grants(64, 8_192, 0, u32::MAX)[0], 16 * 32);
+    assert_eq!(grants(64, 33, 0, 1), [32, 1]);
+    assert_eq!(grants(64, 1, 0, 5), [1]);
 }
 
 #[test]

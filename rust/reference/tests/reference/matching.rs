@@ -65,10 +65,12 @@ fn too_small_a_receive_is_not_passed_over() {
 fn truncated_messages_of_every_kind() {
     let mut r = Receiver::usual();
     let length = u64::MAX;
-    for (id, bytes) in [medium(0, length, 5, b"ab"), long(1, length, 1, 1, b"ab")]
-        .iter()
-        .enumerate()
-    {
+    let messages = [
+        medium(0, length, 5, b"ab"),
+        long(1, length, 1, 1, b"ab"),
+        long(2, length, 1, 1, b""),
+    ];
+    for (id, bytes) in messages.iter().enumerate() {
         assert_eq!(r.post(0, 0, 100), Posted(0));
         let before = r.clone();
         let id = id as u32;
@@ -87,6 +89,7 @@ fn truncated_messages_of_every_kind() {
         assert_eq!(r.packet(0, bytes), Refused(15), "later segments are late");
     }
     assert_eq!(r.packet(0, &ctsdata(1, 2, b"c")), Refused(15));
+    assert_eq!(r.packet(0, &ctsdata(2, 0, b"c")), Refused(15));
 }
 
 #[test]
@@ -124,6 +127,29 @@ fn an_empty_message_clears_its_receives_whole_range() {
     for byte in 0..512 {
         assert_eq!(r.bit(byte), !(60..70).contains(&byte));
     }
+}
+
+#[test]
+fn an_empty_start_clears_its_receives_whole_range_and_marks_nothing() {
+    let mut r = Receiver::usual();
+    assert_eq!(r.post(0, 60, 100), Posted(0));
+    r.map.fill(u64::MAX);
+    assert_eq!(r.packet(0, &long(0, 80, 1, 1, b"")), Granted(64));
+    for byte in 0..512 {
+        assert_eq!(r.bit(byte), !(60..160).contains(&byte), "byte {byte}");
+    }
+    assert_eq!(r.arena, [0xEE; 512]);
+    let Slot::Open { message, .. } = r.engine.peers[0].slots[0] else {
+        panic!("the message is open");
+    };
+    assert_eq!((message.length, message.granted), (80, 64));
+    assert_eq!(
+        r.report(0, 0),
+        Missing {
+            received: 0,
+            first: 0
+        }
+    );
 }
 
 #[test]

@@ -346,6 +346,22 @@ fn the_values_of_a_packet() {
 }
 
 #[test]
+fn what_an_empty_start_reads_as() {
+    let bytes = long(1, 40, 3, 8, b"");
+    let mut values = [7; VALUE_WORDS];
+    assert_eq!(packed::read(&bytes, &mut values), Ok(()));
+    assert_eq!(
+        values,
+        [68, 1, 0, 3, 40, 0, 0, 0, 8, 0, 0, 0, 0, 0, 0, 0, 0, 24, 0]
+    );
+    let mut out = [0xEE; 24];
+    assert_eq!(packed::write(&values, &[], &[], &mut out), Ok(24));
+    assert_eq!(out[..], bytes);
+    values[4] = 0;
+    assert_eq!(packed::write(&values, &[], &[], &mut out), Err(11));
+}
+
+#[test]
 fn what_a_cts_reads_as() {
     let bytes = written(&Packet {
         kind: packet::CTS,

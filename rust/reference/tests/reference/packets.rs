@@ -163,7 +163,10 @@ fn generated<'a>(random: &mut Random, raw_address: &'a [u8], data: &'a [u8]) -> 
             packet.msg_length = random.any().max(packet.seg_offset + length);
         }
         packet::LONGCTS_MSGRTM | packet::LONGCTS_TAGRTM => {
-            packet.msg_length = random.any().max(length);
+            if random.chance(4) {
+                packet.data = &[];
+            }
+            packet.msg_length = random.any().max(packet.data.len() as u64).max(1);
             packet.send_id = random.any() as u32;
             packet.credit_request = random.any() as u32;
         }
@@ -388,7 +391,13 @@ fn length_rules() {
     assert_eq!(long(2, b"ab"), Ok(2));
     assert_eq!(long(3, b"ab"), Ok(2));
     assert_eq!(long(1, b"ab"), Err(11));
-    assert_eq!(long(5, b""), Err(11));
+    assert_eq!(long(0, b"a"), Err(11));
+
+    // It may start empty, but not be empty.
+    assert_eq!(long(5, b""), Ok(0));
+    assert_eq!(long(1, b""), Ok(0));
+    assert_eq!(long(u64::MAX, b""), Ok(0));
+    assert_eq!(long(0, b""), Err(11));
 
     // CTSDATA: the data has the length given.
     let ctsdata = |length: u64, data: &[u8]| {
@@ -410,6 +419,25 @@ fn length_rules() {
 
     // EAGER has no rule.
     assert_eq!(read(&eager(0, b"")).unwrap().data, b"");
+}
+
+#[test]
+fn the_writer_takes_an_empty_start_but_no_empty_long_message() {
+    for (kind, header) in [(packet::LONGCTS_MSGRTM, 24), (packet::LONGCTS_TAGRTM, 32)] {
+        let mut out = [0xEE; 40];
+        let mut packet = Packet {
+            kind,
+            ..Packet::default()
+        };
+        assert_eq!(write(&packet, &mut out), Err(11), "type {kind}");
+        packet.data = b"a";
+        assert_eq!(write(&packet, &mut out), Err(11), "type {kind}");
+        assert_eq!(out, [0xEE; 40]);
+        packet.data = &[];
+        packet.msg_length = 1;
+        assert_eq!(write(&packet, &mut out), Ok(header), "type {kind}");
+        assert_eq!(read(&out[..header]), Ok(packet), "type {kind}");
+    }
 }
 
 /// A packet with every fault is repaired one fault at a time, in the order of the checks.

@@ -331,6 +331,13 @@ fn every_refusal_of_a_packet_by_the_peers_state() {
         Refused(14),
         "a long RTM again"
     );
+    for (id, length) in [(0, 200), (1, 4)] {
+        assert_eq!(
+            r.packet(0, &long(id, length, 7, 2, b"")),
+            Refused(14),
+            "a long RTM without data is no segment"
+        );
+    }
     assert_eq!(
         r.packet(0, &eager(0, b"a")),
         Refused(14),
@@ -344,6 +351,9 @@ fn every_refusal_of_a_packet_by_the_peers_state() {
     assert_eq!(r.packet(0, &eager(3, b"a")), Refused(12));
     assert_eq!(r.packet(0, &eager(2, b"a")), Refused(13));
     assert_eq!(r.packet(0, &eager_tagged(2, 99, b"a")), Refused(13));
+    for (id, number) in [(u32::MAX, 15), (3, 12), (2, 13)] {
+        assert_eq!(r.packet(0, &long(id, 4, 7, 2, b"")), Refused(number));
+    }
 
     // CTSDATA: 15, 17, 16.
     for id in [1, 2, 3, u32::MAX] {

@@ -221,6 +221,9 @@ impl Call {
                 values.seg_offset = seg_offset;
             }
             68 | 69 => {
+                if random.chance(4) {
+                    values.data = &[];
+                }
                 values.msg_length = msg_length;
                 values.send_id = random.any() as u32;
                 values.credit_request = random.below(3) as u32;
@@ -288,6 +291,7 @@ struct Counts {
     done: u64,
     done_in_segments: u64,
     done_by_many_grants: u64,
+    done_from_an_empty_start: u64,
     truncated: u64,
     refused: [u64; 22],
 }
@@ -297,6 +301,7 @@ impl Counts {
         self.done += other.done;
         self.done_in_segments += other.done_in_segments;
         self.done_by_many_grants += other.done_by_many_grants;
+        self.done_from_an_empty_start += other.done_from_an_empty_start;
         self.truncated += other.truncated;
         for (number, count) in other.refused.iter().enumerate() {
             self.refused[number] += count;
@@ -351,6 +356,7 @@ impl Follower {
                         let room = run.receiver.engine.limit - 32;
                         assert!(grants.len() as u64 <= (*length - seen.rtm_data).div_ceil(room));
                         self.counts.done_by_many_grants += u64::from(grants.len() > 1);
+                        self.counts.done_from_an_empty_start += u64::from(seen.rtm_data == 0);
                     }
                 }
             }
@@ -416,7 +422,7 @@ impl Follower {
 #[test]
 fn runs_are_as_their_calls_and_answers_tell() {
     let mut counts = Counts::default();
-    for seed in 0..150 {
+    for seed in 0..300 {
         let mut random = Random::new(1_000 + seed);
         let mut run = Run::new(3, AREA, 64 + random.below(20));
         for peer in &mut run.receiver.engine.peers {
@@ -441,6 +447,7 @@ fn runs_are_as_their_calls_and_answers_tell() {
         counts.done_by_many_grants > 100 && counts.truncated > 100,
         "{counts:?}"
     );
+    assert!(counts.done_from_an_empty_start > 100, "{counts:?}");
     // All but the calls with a wrong state, wrong lengths, a wrong peer or too long a packet.
     for number in [5, 7, 8, 9, 10, 11, 12, 13, 14, 15, 16, 17, 18, 19, 20] {
         assert!(counts.refused[number] > 10, "{number} in {counts:?}");

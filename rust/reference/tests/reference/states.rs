@@ -301,7 +301,10 @@ fn any_packet(random: &mut Random) -> Vec<u8> {
         1 => eager_tagged(id, tag, &data),
         2 => medium(id, length, offset, &data),
         3 => medium_tagged(id, tag, length, offset, &data),
-        4 => long(id, length, 1, random.any() as u32, &data),
+        4 => {
+            let data = if random.chance(4) { &[] } else { &data[..] };
+            long(id, length, 1, random.any() as u32, data)
+        }
         _ => ctsdata(id, offset, &data),
     }
 }

@@ -36,11 +36,11 @@ returns-7 c = rw (c .before .enum-told4 .given .1, lt-leb _ _ (c .if3 .left))
 
 returns-8 : tie.Need-returns-8
 unfolding lengthsFit
-returns-8 c = rw (c .before .before .enum-told5 .given .1, le-leb _ _ (c .before .if4 .taken))
+returns-8 c = rw (c .before .before .before .enum-told5 .given .1, le-leb 1 _ (c .before .if4 .taken))
 
 returns-9 : tie.Need-returns-9
 unfolding lengthsFit
-returns-9 c = rw (c .before .enum-told5 .given .1, lt-leb _ _ (c .if4 .left))
+returns-9 c = rw (c .before .before .enum-told5 .given .1, lt-leb 1 _ (c .if4 .left))
 
 pub fit-spec : {M : Type 1} → statement M
 fit-spec =
