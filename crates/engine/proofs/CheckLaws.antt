@@ -40,12 +40,12 @@ small n area limit e =
       short = leb-true area areaLimit (and-left _ (eqb (area % 64) 0 && (leb 64 limit && leb limit packetLimit)) d);
     }
 
-pub arena-small : (n area : ℕ) → SmallArena n area → n * area ≤ 65536
+pub arena-small : (n area : ℕ) → SmallArena n area → n * area ≤ peerCount * areaLimit
 arena-small n area s = mul-le-mul (s .few) (s .short)
 
-pub map-small : (n area : ℕ) → SmallArena n area → n * (area / 64) ≤ 1024
+pub map-small : (n area : ℕ) → SmallArena n area → n * (area / 64) ≤ peerCount * (areaLimit / 64)
 map-small n area s =
-    let w : area / 64 ≤ 128 = omega (arith, s .short) in
+    let w : area / 64 ≤ areaLimit / 64 = omega (arith, s .short) in
     mul-le-mul (s .few) w
 
 -- ---- the walk over the peers
@@ -186,12 +186,10 @@ opened {e} {arena} {map} {p} w h =
           whole = z .whole;
           short = s .short;
           inMap = omega (arith, part-inside (e .n) p (e .area / 64) (o .peer));
-          mapSmall = omega (arith, map-small (e .n) (e .area) s);
         };
         low = z .limitLow;
         high = z .limitHigh;
         inArena = omega (arith, part-inside (e .n) p (e .area) (o .peer));
-        arenaSmall = omega (arith, arena-small (e .n) (e .area) s);
       };
     }
 

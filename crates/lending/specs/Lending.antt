@@ -33,7 +33,6 @@ pub record WordsOwned (area p map : ℕ) (q : Peer) : Type 0 where
   pub whole : area % 64 ≡ 0
   pub short : area ≤ areaLimit
   pub inMap : p * (area / 64) + area / 64 ≤ map
-  pub mapSmall : map ≤ 1024
 
 -- and so are its bytes of the arena
 pub record Owned (area limit p arena map : ℕ) (q : Peer) : Type 0 where
@@ -41,4 +40,3 @@ pub record Owned (area limit p arena map : ℕ) (q : Peer) : Type 0 where
   pub low : 64 ≤ limit
   pub high : limit ≤ packetLimit
   pub inArena : p * area + area ≤ arena
-  pub arenaSmall : arena ≤ 65536

@@ -1,5 +1,5 @@
 -- A range of a map that a set-up can have, and that a range is marked, unless one of its bits is set, by the test and the marks in turn.
-use Prim.Native.Nat.{ℕ, _+_, _*_, _^_, _≤_, _<_}
+use Prim.Native.Nat.{ℕ, _+_, _*_, _/_, _^_, _≤_, _<_}
 use borrow.Author.Tests.{leb-true}
 use lib.Dec.{leb}
 use lib.ListN.{length}
@@ -8,6 +8,8 @@ use mathlib.Core.List.{List}
 use mathlib.Core.Path.{_≡_, refl}
 use native.Mathlib.Omega.{arith}
 use Rattle.bitmap.specs.Map.{marked, touched}
+use Rattle.peer.specs.State.{areaLimit}
+use Rattle.engine.specs.SetUp.{peerCount}
 use Rattle.laws.specs.Choose.{pick}
 use Rattle.laws.proofs.Choosing.{and-left, and-right}
 use Rattle.quagfeather.specs.Exported.{Marked, inMap, markOf, markUntestedOf, overlapTestOf}
@@ -15,8 +17,8 @@ use Rattle.quagfeather.specs.Exported.{Marked, inMap, markOf, markUntest
 pub in-map : (words at n : ℕ) → inMap words at n ≡ true → (at + n ≤ 64 * words) × (at + n < 2 ^ 63)
 unfolding inMap
 in-map words at n e =
-    let few = leb-true words 1024 (and-left _ (leb (at + n) (64 * words)) e) in
-    let inside = leb-true (at + n) (64 * words) (and-right (leb words 1024) _ e) in
+    let few = leb-true words (peerCount * (areaLimit / 64)) (and-left _ (leb (at + n) (64 * words)) e) in
+    let inside = leb-true (at + n) (64 * words) (and-right (leb words (peerCount * (areaLimit / 64))) _ e) in
     (inside, omega arith)
 
 module _ (m : List ℕ) (at n : ℕ) where

@@ -1,11 +1,13 @@
 -- What the exported functions answer and leave, by numbers and lists, where no definition below says it.
-use Prim.Native.Nat.{ℕ, _+_, _*_}
+use Prim.Native.Nat.{ℕ, _+_, _*_, _/_}
 use mathlib.Core.List.{List}
 use mathlib.Core.Bool.{Bool, _&&_}
 use lib.ListN.{length}
 use lib.Dec.{leb}
 use Rattle.laws.specs.Choose.{pick}
 use Rattle.bitmap.specs.Map.{marked, touched}
+use Rattle.peer.specs.State.{areaLimit}
+use Rattle.engine.specs.SetUp.{peerCount}
 use Rattle.replay.specs.Replaying.{ReplayLeaves}
 
 -- the length of a replay's text, and what the replay leaves of all that is lent
@@ -21,7 +23,7 @@ texts l = record { written = l .replayed .written; arena = l .arena; map = l .ma
 
 -- the n bits from `at` on lie in a map of so many words, which a set-up can have
 unfoldable pub inMap : ℕ → ℕ → ℕ → Bool
-inMap words at n = leb words 1024 && leb (at + n) (64 * words)
+inMap words at n = leb words (peerCount * (areaLimit / 64)) && leb (at + n) (64 * words)
 
 -- the overlap test by itself: outside the map 3, one of the bits set 16, else 0
 unfoldable pub overlapTestOf : List ℕ → ℕ → ℕ → ℕ

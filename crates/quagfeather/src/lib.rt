@@ -1,6 +1,8 @@
 // The functions that programs in other languages link: numbers and slices, each slice as a pointer and
 // a length. What a `requires` would ask is asked of none of them. Where a function answers 0 or the
 // number of a refusal, a refusal leaves everything as it was.
+use engine::Engine;
+use peer::Peer;
 ghost use mathlib.Core.Path.{_≡_};
 ghost use lib.ListN.{length};
 ghost use Rattle.packet_words.specs.Values.{readInto};
@@ -10,8 +12,8 @@ ghost use Rattle.packed.specs.Starting.{startOf};
 ghost use Rattle.replay.specs.Replaying.{replayOf};
 ghost use Rattle.quagfeather.specs.Exported.{inMap, markOf, markUntestedOf, overlapTestOf, texts};
 
-// The most words of a map, those of eight areas of 8,192 bytes.
-const MAP: usize = 1024;
+// The most words of a map: a bit for each byte of the largest arena.
+const MAP: usize = Engine::PEERS * Peer::AREA_LIMIT / 64;
 
 const BAD_MAP: usize = 3;
 
