@@ -3,7 +3,7 @@ ghost use Rattle.std.specs.Prelude.{◌≡◌, ◌+◌, ◌-◌, ◌^◌, ◌<�
 ghost use Rattle.bitmap.specs.Ranges.{split_of};
 
 // A range in three parts: `head` bits in the word where it begins, the whole words from `first` up to `last`, and `tail` bits of the word `last`.
-#[derive(Drop)]
+#[derive(Clone, Copy)]
 pub(crate) struct ThreeParts {
     pub head: usize,
     pub first: usize,

@@ -22,7 +22,7 @@ use Rattle.engine.proofs.CheckLaws.{fit_numbers, fit_peer, small}
 use Rattle.engine.proofs.Worlds.{Good, kept, lengths, part_inside, parts_apart, sized, words}
 use Rattle.laws.proofs.Choosing.{branch}
 use Rattle.laws.proofs.Reading.{get_d_store_out}
-use Rattle.peer.proofs.Step.Kept.{Kept}
+use Rattle.peer.proofs.PeerSteps.Kept.{Kept}
 use Rattle.peer.proofs.Slots.Valid.{fits_valid}
 
 -- ---- what another peer has

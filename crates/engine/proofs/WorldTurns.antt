@@ -23,7 +23,7 @@ use Rattle.laws.proofs.Choosing.{pick_false, pick_true}
 use Rattle.laws.proofs.Reading.{get_d_store_in, get_d_store_out, part_apart}
 use Rattle.laws.proofs.Storing.{length_store, part_store}
 use Rattle.peer.proofs.Plain.CoverageLaws.{Wrote}
-use Rattle.peer.proofs.Step.Kept.{Kept}
+use Rattle.peer.proofs.PeerSteps.Kept.{Kept}
 use Rattle.peer.proofs.Slots.Valid.{Valid}
 
 abbrev peer_of : ℕ → List Slot → Peer

@@ -18,7 +18,7 @@ use Rattle.peer.specs.State.{fresh_peer, peer_fits, slot_count, area_limit}
 use Rattle.peer.specs.declared.types.Peer.{Peer}
 use Rattle.laws.proofs.Choosing.{and_intro, and_left, and_right}
 use Rattle.laws.proofs.Storing.{length_part}
-use Rattle.peer.proofs.Step.Kept.{Kept, step_kept}
+use Rattle.peer.proofs.PeerSteps.Kept.{Kept, step_kept}
 use Rattle.peer.proofs.Slots.Valid.{Valid, valid_fits}
 use Rattle.protocol.specs.Limits.{packet_limit}
 

@@ -4,7 +4,7 @@ use protocol::Refusal;
 
 // All peers, of which the first n are in use, with the other set-up numbers: bytes of an area,
 // and the longest packet.
-#[derive(Drop)]
+#[derive(Clone, Copy)]
 pub struct Engine {
     pub peers: [Peer; Engine::PEERS],
     pub n: usize,
@@ -12,28 +12,28 @@ pub struct Engine {
     pub limit: usize,
 }
 
-#[derive(Drop)]
+#[derive(Clone, Copy)]
 pub enum Ready {
     Ready,
     Refused(Refusal),
 }
 
 // What a set-up answers, and the engine to start with.
-#[derive(Drop)]
+#[derive(Clone, Copy)]
 pub struct Started {
     pub answer: Ready,
     pub engine: Engine,
 }
 
 // The engine after a call, and the call's answer.
-#[derive(Drop)]
+#[derive(Clone, Copy)]
 pub struct Outcome {
     pub engine: Engine,
     pub answer: Answer,
 }
 
 // Whether a call goes through to its peer.
-#[derive(Drop)]
+#[derive(Clone, Copy)]
 pub enum Gate {
     Open,
     Refused(Refusal),

@@ -28,7 +28,7 @@ const SHOW: u64 = 0x73686f77;
 const NEVER: usize = 8;
 
 // The lengths of arena, map and reply buffer that a call is lent.
-#[derive(Drop)]
+#[derive(Clone, Copy)]
 pub(crate) struct LentLengths {
     pub arena: usize,
     pub map: usize,
@@ -36,7 +36,7 @@ pub(crate) struct LentLengths {
 }
 
 // What a line asks for.
-#[derive(Drop)]
+#[derive(Clone, Copy)]
 pub(crate) enum Command {
     None,
     Bad,
@@ -51,7 +51,7 @@ pub(crate) enum Command {
 }
 
 // A call, and the bytes of its packet.
-#[derive(Drop)]
+#[derive(Clone, Copy)]
 pub(crate) struct Line {
     pub call: Command,
     pub bytes: [u8; 128],

@@ -19,7 +19,7 @@ pub(crate) const REPLY: usize = 26;
 // What the map holds before a set-up clears it.
 const SOILED: u64 = 1;
 
-#[derive(Drop)]
+#[derive(Clone, Copy)]
 pub(crate) struct Run {
     pub engine: Engine,
     pub arena: [u8; ARENA],

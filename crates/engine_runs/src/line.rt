@@ -16,7 +16,7 @@ const ROOM: usize = 128;
 // The digits of a packet where something else is among them: an odd count, and more than there is room for.
 const NO_PACKET: usize = 257;
 
-#[derive(Drop)]
+#[derive(Clone, Copy)]
 pub(crate) struct LineNumbers {
     pub values: [u64; 6],
     pub n: usize,
@@ -24,7 +24,7 @@ pub(crate) struct LineNumbers {
 
 // A number as far as it is read. No digit is below base 0, that of what is no number; `ends` says
 // whether a number may end here.
-#[derive(Drop)]
+#[derive(Clone, Copy)]
 struct Number {
     value: u64,
     base: u64,
@@ -38,7 +38,7 @@ const NO_NUMBER: Number = Number {
 };
 
 // The bytes of a packet, with two digits each.
-#[derive(Drop)]
+#[derive(Clone, Copy)]
 pub(crate) struct HexPacket {
     pub bytes: [u8; 128],
     pub digits: usize,

@@ -33,7 +33,7 @@ use Rattle.engine.proofs.Worlds.{Good, lent_lengths, part_inside}
 use Rattle.guarantees.proofs.SetUps.{fresh_good, good_after}
 use Rattle.laws.proofs.Choosing.{branch, clashing}
 use Rattle.laws.proofs.Storing.{store_nothing, store_own}
-use Rattle.peer.proofs.Step.StepCases.{step_refusing}
+use Rattle.peer.proofs.PeerSteps.StepCases.{step_refusing}
 
 -- a turn that is a refusal leaves all
 abbrev Leaves : World → LentCall → Turn → Type 0

@@ -17,7 +17,7 @@ use Rattle.laws.proofs.Choosing.{pick_either}
 use Rattle.laws.proofs.Storing.{drop_store, length_store, store_nothing}
 use Rattle.peer.specs.Effects.{Effect}
 use Rattle.guarantees.proofs.Tracking.{room_of_lem}
-use Rattle.peer.proofs.Step.AnswerLaws.{granted_or_not}
+use Rattle.peer.proofs.PeerSteps.AnswerLaws.{granted_or_not}
 use Rattle.peer.proofs.Plain.Replies.{Replying, step_replies}
 
 -- what holds of every refusal and of the peer's own turn holds of a call

@@ -30,11 +30,11 @@ use Rattle.engine.proofs.Worlds.{Good, byte_in, kept, lent_lengths, part_inside,
 use Rattle.laws.proofs.Reading.{get_d_part}
 use Rattle.laws.proofs.Storing.{length_part, part_store}
 use Rattle.peer.proofs.Plain.Agreement.{Agrees, meets, mirrors}
-use Rattle.peer.proofs.Step.AnswerLaws.{taken_same}
+use Rattle.peer.proofs.PeerSteps.AnswerLaws.{taken_same}
 use Rattle.peer.proofs.Plain.CoverageLaws.{Wrote, byte_at, length_bytes}
 use Rattle.peer.proofs.Plain.Entered.{agrees_kept}
 use Rattle.peer.proofs.History.Facts.{answer_facts}
-use Rattle.peer.proofs.Step.Kept.{Kept}
+use Rattle.peer.proofs.PeerSteps.Kept.{Kept}
 use Rattle.peer.proofs.History.OriginReplies.{own_claim}
 use Rattle.peer.proofs.History.OriginsHold.{Trace, call_claim}
 use Rattle.peer.proofs.Plain.Replies.{Holds, Replying, Starts, Yielded, met_yields, room_of, starts_stepped, step_replies}

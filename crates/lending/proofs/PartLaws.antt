@@ -14,7 +14,7 @@ use Rattle.receiving.specs.Preconditions.{Limited, Mapped}
 use Rattle.receiving.specs.Leaves.{PacketLeaves, packet_leaves}
 use Rattle.peer.specs.State.{peer_fits, slot_count}
 use Rattle.peer.specs.declared.types.Peer.{Peer}
-use Rattle.peer.proofs.Step.Kept.{Kept, step_kept}
+use Rattle.peer.proofs.PeerSteps.Kept.{Kept, step_kept}
 use Rattle.peer.proofs.Slots.Valid.{fits_valid}
 use Rattle.lending.specs.Lending.{Lent, Owned, leaves_at}
 

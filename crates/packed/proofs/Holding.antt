@@ -31,8 +31,8 @@ use Rattle.peer.specs.declared.types.Progress.{Progress}
 use Rattle.peer.specs.declared.types.Receive.{Receive}
 use Rattle.peer.specs.declared.types.Slot.{Slot}
 use Rattle.peer.proofs.Slots.Ages.{length_renumbered, phase_renumbered}
-use Rattle.peer.proofs.Step.Verdicts.{continued_at}
-use Rattle.peer.proofs.Step.StepCases.{StepCase, begins, cancelled, continues, posted, refused, reported, step_case, truncated}
+use Rattle.peer.proofs.PeerSteps.Verdicts.{continued_at}
+use Rattle.peer.proofs.PeerSteps.StepCases.{StepCase, begins, cancelled, continues, posted, refused, reported, step_case, truncated}
 use Rattle.engine.specs.SetUp.{engine_of, peer_at, peer_count}
 use Rattle.engine.specs.Steps.{Turn, World, call_turn, put_back, words_of}
 use Rattle.engine.proofs.WorldTurns.{good_called, turn_none, turn_own}

@@ -6,14 +6,14 @@ use peer::Request;
 pub(crate) const WORDS: usize = 8;
 
 // A packet lies in the lent bytes, and its reply buffer in the lent replies.
-#[derive(Drop)]
+#[derive(Clone, Copy)]
 pub enum FoundRequest {
     Request(Request),
     Bad,
 }
 
 // The engine after some calls, and how many they were.
-#[derive(Drop)]
+#[derive(Clone, Copy)]
 pub struct Ran {
     pub engine: Engine,
     pub taken: usize,

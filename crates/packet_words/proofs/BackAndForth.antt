@@ -36,7 +36,7 @@ use Rattle.laws.proofs.Comparing.{le_or_lt}
 use Rattle.protocol.proofs.Accepted.{WrittenAs, as_read, as_written}
 use Rattle.protocol.proofs.BytesHold.{read_tells_its_bytes}
 use Rattle.protocol.proofs.FirstFailing.{judged_ap}
-use Rattle.protocol.proofs.FoundRow.{pick_not, row_at, row_out}
+use Rattle.protocol.proofs.FoundRows.{pick_not, row_at, row_out}
 use Rattle.protocol.proofs.ReadNumbers.{read_numbers}
 use Rattle.protocol.proofs.RoundTrips.{length_is_packets, reads_what_was_written, writes_what_was_read}
 use Rattle.protocol.proofs.Sayings.{read_gives, written_gives}

@@ -31,7 +31,7 @@ use Rattle.packet_words.specs.Writing.{Put, connid_fits, connid_number, connid_w
 use Rattle.laws.proofs.Choosing.{and_left, and_right, clashing, or_cases, or_left, or_right, pick_ap, pick_cases, pick_false, pick_true, tested}
 use Rattle.laws.proofs.Comparing.{beyond, not_beyond}
 use Rattle.protocol.proofs.FirstFailing.{FirstIn, all_pass, first_or_none, given_if_none, judged, judged_ap, none_of, of_first, refused_by_first}
-use Rattle.protocol.proofs.FoundRow.{is_unknown_lem, is_unknown, of_row, pick_not, row_in, row_out}
+use Rattle.protocol.proofs.FoundRows.{is_unknown_lem, is_unknown, of_row, pick_not, row_in, row_out}
 use Rattle.protocol.proofs.TypeSentences.{lengths_in_words, unknown_lengths, unknown_type}
 use Rattle.protocol.proofs.SentencesHold.{types_are_the_tables}
 use Rattle.protocol.proofs.WriterHolds.{bytes_as, options_refused, options_taken, refusing, write_failing, write_judged, written}

@@ -1,5 +1,5 @@
 pub mod Slots
-pub mod Step
+pub mod PeerSteps
 pub mod Plain
 pub mod History
 pub mod Refusals

@@ -2,7 +2,7 @@
 use protocol::{CqData, Refusal, Shape, Span};
 
 // What a post asks for: a range of the peer's area, for messages of a kind and a tag.
-#[derive(Drop)]
+#[derive(Clone, Copy)]
 pub struct Receive {
     pub tagged: bool,
     pub tag: u64,
@@ -13,7 +13,7 @@ pub struct Receive {
 
 // What a packet says of its message, and of the segment that it carries: shape and tagged as the
 // table has them for its type.
-#[derive(Drop)]
+#[derive(Clone, Copy)]
 pub struct Incoming {
     pub shape: Shape,
     pub tagged: bool,
@@ -29,7 +29,7 @@ pub struct Incoming {
 
 // An open message, as the matching packet began it: shape and tagged are the type's. CTSDATA may
 // reach up to `granted`.
-#[derive(Drop)]
+#[derive(Clone, Copy)]
 pub struct Message {
     pub shape: Shape,
     pub tagged: bool,
@@ -43,54 +43,54 @@ pub struct Message {
 }
 
 // An open message in its receive.
-#[derive(Drop)]
+#[derive(Clone, Copy)]
 pub struct Inbound {
     pub receive: Receive,
     pub message: Message,
 }
 
 // What a slot is used for. Of two posted receives the one with the lower age was posted first.
-#[derive(Drop)]
+#[derive(Clone, Copy)]
 pub enum Phase {
     Free,
     Posted(Receive, u64),
     Open(Inbound),
 }
 
-#[derive(Drop)]
+#[derive(Clone, Copy)]
 pub struct Slot {
     pub phase: Phase,
 }
 
-#[derive(Drop)]
+#[derive(Clone, Copy)]
 pub struct Peer {
     pub next: u32,
     pub slots: [Slot; Peer::SLOTS],
 }
 
 // The open message that a packet belongs to.
-#[derive(Drop)]
+#[derive(Clone, Copy)]
 pub enum FoundOpen {
     At(usize, Inbound),
     Nothing,
 }
 
 // The oldest receive that a packet fits, with its age.
-#[derive(Drop)]
+#[derive(Clone, Copy)]
 pub enum Fit {
     To(usize, Receive, u64),
     Unfit,
 }
 
 // The lowest free slot.
-#[derive(Drop)]
+#[derive(Clone, Copy)]
 pub enum Vacancy {
     Slot(usize),
     Full,
 }
 
 // What is to be done with a packet.
-#[derive(Drop)]
+#[derive(Clone, Copy)]
 pub enum Verdict {
     Refuse(Refusal),
     Truncate(usize),
@@ -99,14 +99,14 @@ pub enum Verdict {
 }
 
 // How far an open message is: every byte is in, all that was granted is, or neither.
-#[derive(Drop)]
+#[derive(Clone, Copy)]
 pub enum Progress {
     Whole,
     Due,
     Partial,
 }
 
-#[derive(Drop)]
+#[derive(Clone, Copy)]
 pub enum Answer {
     Refused(Refusal),
     Posted(usize),
@@ -131,7 +131,7 @@ pub enum Answer {
 }
 
 // A call of one peer that writes nothing of what is lent.
-#[derive(Drop)]
+#[derive(Clone, Copy)]
 pub enum LocalCall {
     Post(Receive),
     Cancel(usize),
@@ -140,28 +140,28 @@ pub enum LocalCall {
 
 // Any call of one peer. A packet and its reply buffer are told by where they lie in what is lent, since
 // an enum holds no slice.
-#[derive(Drop)]
+#[derive(Clone, Copy)]
 pub enum Call {
     Local(LocalCall),
     Packet(Span, Span),
 }
 
 // A call, with its peer's number.
-#[derive(Drop)]
+#[derive(Clone, Copy)]
 pub struct Request {
     pub peer: usize,
     pub call: Call,
 }
 
 // What a call leaves of one slot, and the call's answer.
-#[derive(Drop)]
+#[derive(Clone, Copy)]
 pub struct SlotStep {
     pub phase: Phase,
     pub answer: Answer,
 }
 
 // The peer after a call, and the call's answer.
-#[derive(Drop)]
+#[derive(Clone, Copy)]
 pub struct Step {
     pub peer: Peer,
     pub answer: Answer,

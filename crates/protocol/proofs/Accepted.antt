@@ -31,7 +31,7 @@ use Rattle.protocol.specs.declared.types.Refusal.{Refusal}
 use Rattle.protocol.specs.declared.types.Written.{Written}
 use Rattle.wire.specs.LittleEndian.{le_at}
 use Rattle.protocol.proofs.FirstFailing.{all_pass, judged_ap, none_of}
-use Rattle.protocol.proofs.FoundRow.{is_unknown, row_at, row_out}
+use Rattle.protocol.proofs.FoundRows.{is_unknown, row_at, row_out}
 use Rattle.protocol.proofs.OrderHolds.{failing, is_judged, passed_as, placed, row_head}
 use Rattle.protocol.proofs.TypeSentences.{fields_in_words}
 pub use Rattle.protocol.proofs.WholePacket.{connid_from, data_from, packet_of}

@@ -13,7 +13,7 @@ pub mod NumberBits
 pub mod SentencesHold
 pub mod FlagSentences
 pub mod TypeSentences
-pub mod FoundRow
+pub mod FoundRows
 pub mod FirstFailing
 pub mod WholePacket
 pub mod OrderHolds

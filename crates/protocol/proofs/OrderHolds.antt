@@ -33,7 +33,7 @@ use Rattle.protocol.specs.declared.types.Read.{Read}
 use Rattle.laws.proofs.Choosing.{clashing, pick_ap, tested}
 use Rattle.protocol.proofs.WholePacket.{data_from, packet_of}
 use Rattle.protocol.proofs.FirstFailing.{given_if_none, judged, judged_ap, refused_by_first}
-use Rattle.protocol.proofs.FoundRow.{is_unknown, of_row, pick_not, row_in, row_out}
+use Rattle.protocol.proofs.FoundRows.{is_unknown, of_row, pick_not, row_in, row_out}
 use Rattle.protocol.proofs.FlagSentences.{flagged_by_flag, flags_in_words}
 use Rattle.protocol.proofs.StepLaws.{extent_in_steps}
 use Rattle.protocol.proofs.TableRule.{no_array}

@@ -33,7 +33,7 @@ use Rattle.protocol.proofs.ArrayLaws.{none_allowed, none_whole}
 use Rattle.protocol.proofs.FirstFailing.{given_if_none, judged, judged_ap, FirstIn, first_or_none, none_of, of_first, refused_by_first}
 use Rattle.protocol.proofs.FlagLaws.{connid_fits_lem, every_option_fits, fits_connid}
 use Rattle.protocol.proofs.OptionLaws.{length_raw}
-use Rattle.protocol.proofs.FoundRow.{is_unknown_lem, is_unknown, of_row, pick_not, row_in, row_out}
+use Rattle.protocol.proofs.FoundRows.{is_unknown_lem, is_unknown, of_row, pick_not, row_in, row_out}
 use Rattle.protocol.proofs.TableRule.{no_array, sound}
 use Rattle.protocol.proofs.TypeSentences.{connid_in_words, header_in_words, lengths_in_words, request_in_words, unknown_lengths, unknown_type}
 use Rattle.protocol.proofs.SentencesHold.{types_are_the_tables}

@@ -2,7 +2,7 @@
 use crate::types::Span;
 
 // The raw address, and where CQ data, connid and data begin.
-#[derive(Drop)]
+#[derive(Clone, Copy)]
 pub struct Sections {
     pub raw: Span,
     pub cq_at: usize,
@@ -10,7 +10,7 @@ pub struct Sections {
     pub data_at: usize,
 }
 
-#[derive(Drop)]
+#[derive(Clone, Copy)]
 pub enum Extent {
     Whole(Sections),
     Cut,

@@ -1,7 +1,7 @@
 // What the table of packet types says of a type.
 
 // The kinds of packets, by which the rules on lengths are told apart.
-#[derive(Drop)]
+#[derive(Clone, Copy)]
 pub enum Shape {
     Cts,
     CtsData,
@@ -10,7 +10,7 @@ pub enum Shape {
     LongCts,
 }
 
-#[derive(Drop)]
+#[derive(Clone, Copy)]
 pub struct TypeRow {
     // the type's number
     pub kind: u8,
@@ -38,7 +38,7 @@ pub struct TypeRow {
     pub places: u64,
 }
 
-#[derive(Drop)]
+#[derive(Clone, Copy)]
 pub enum FoundRow {
     Row(TypeRow),
     Unknown,

@@ -2,7 +2,7 @@
 use crate::table::Shape;
 
 // The numbers of a type's own fields; 0 in a field that the type has not.
-#[derive(Drop)]
+#[derive(Clone, Copy)]
 pub struct Fields {
     pub msg_id: u32,
     pub recv_id: u32,
@@ -15,13 +15,13 @@ pub struct Fields {
     pub tag: u64,
 }
 
-#[derive(Drop)]
+#[derive(Clone, Copy)]
 pub enum CqData {
     Absent,
     Present(u64),
 }
 
-#[derive(Drop)]
+#[derive(Clone, Copy)]
 pub enum Connid {
     Absent,
     Present(u32),
@@ -29,7 +29,7 @@ pub enum Connid {
 
 // The numbers of a packet, and whether it has a raw address. The bytes of raw address and data
 // stand beside it: lent to the writer, in the packet for the reader.
-#[derive(Drop)]
+#[derive(Clone, Copy)]
 pub struct Header {
     pub kind: u8,
     pub fields: Fields,
@@ -39,7 +39,7 @@ pub struct Header {
 }
 
 // Some bytes of a packet: size of them, from at on.
-#[derive(Drop)]
+#[derive(Clone, Copy)]
 pub struct Span {
     pub at: usize,
     pub size: usize,
@@ -47,7 +47,7 @@ pub struct Span {
 
 // A packet that was read: its numbers, what the table says of its type, and where its raw address,
 // which is empty where there is none, and its data lie.
-#[derive(Drop)]
+#[derive(Clone, Copy)]
 pub struct Packet {
     pub header: Header,
     pub shape: Shape,
@@ -57,25 +57,25 @@ pub struct Packet {
 }
 
 // Why a packet is refused: the number of 01's table.
-#[derive(Drop)]
+#[derive(Clone, Copy)]
 pub struct Refusal {
     pub number: u8,
 }
 
-#[derive(Drop)]
+#[derive(Clone, Copy)]
 pub enum Read {
     Packet(Packet),
     Refused(Refusal),
 }
 
-#[derive(Drop)]
+#[derive(Clone, Copy)]
 pub enum Written {
     Length(usize),
     Refused(Refusal),
 }
 
 // A packet's length, if the limit allows it.
-#[derive(Drop)]
+#[derive(Clone, Copy)]
 pub enum Length {
     Bytes(usize),
     Above,

@@ -29,9 +29,9 @@ use Rattle.laws.proofs.Choosing.{pick_first, pick_second}
 use Rattle.laws.proofs.Storing.{store_nothing}
 use Rattle.protocol.proofs.Accepted.{ReadAs, as_read, packet_of}
 use Rattle.protocol.proofs.Served.{any_read}
-use Rattle.peer.proofs.Step.Kept.{begun_beside, continued_beside}
+use Rattle.peer.proofs.PeerSteps.Kept.{begun_beside, continued_beside}
 use Rattle.peer.proofs.Slots.Valid.{Valid, Within, fits_valid}
-use Rattle.peer.proofs.Step.Verdicts.{Judged, again_inside, chosen_at, continued_at, found_within, judged}
+use Rattle.peer.proofs.PeerSteps.Verdicts.{Judged, again_inside, chosen_at, continued_at, found_within, judged}
 use Rattle.protocol.specs.Limits.{packet_limit}
 
 -- ---- a grant

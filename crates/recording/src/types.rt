@@ -1,5 +1,5 @@
 // What the writer answers: the place behind what was written, or that the buffer is too short.
-#[derive(Drop)]
+#[derive(Clone, Copy)]
 pub enum TraceWritten {
     Next(usize),
     Short,

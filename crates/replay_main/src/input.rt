@@ -5,7 +5,7 @@ ghost use Rattle.std.specs.Prelude.{length};
 use libc::STDIN_FILENO;
 
 // How many bytes came, or that a read failed.
-#[derive(Drop)]
+#[derive(Clone, Copy)]
 pub(crate) enum Input {
     Bytes(usize),
     Failed,

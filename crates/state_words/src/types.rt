@@ -10,7 +10,7 @@ pub const PEER: usize = 1 + SLOT * Peer::SLOTS;
 pub const STATE: usize = 3 + PEER * Engine::PEERS;
 
 // The engine that words are read as, and whether they are a state's words.
-#[derive(Drop)]
+#[derive(Clone, Copy)]
 pub struct Loaded {
     pub engine: Engine,
     pub whole: bool,

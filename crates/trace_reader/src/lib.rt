@@ -5,7 +5,7 @@ ghost use Rattle.trace.specs.Entries.{set_up_at, entry_at};
 
 use trace::{FoundEntry, SetUp};
 
-#[derive(Drop)]
+#[derive(Clone, Copy)]
 pub struct Reader<'a> {
     pub trace: &'a [u8],
     pub place: usize,

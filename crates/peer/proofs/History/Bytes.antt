@@ -14,7 +14,7 @@ use Rattle.peer.specs.declared.types.Answer.{Answer}
 use Rattle.peer.specs.declared.types.Inbound.{Inbound}
 use Rattle.peer.specs.declared.types.Incoming.{Incoming}
 use Rattle.laws.proofs.Choosing.{tested, clashing, pick_false, pick_true}
-use Rattle.peer.proofs.Step.AnswerLaws.{claim_from}
+use Rattle.peer.proofs.PeerSteps.AnswerLaws.{claim_from}
 use Rattle.peer.proofs.Plain.CoverageLaws.{all_at, byte_at, inside_end, length_bytes}
 use Rattle.peer.proofs.History.Facts.{Aims, AnswerFacts, Every, Lasting, Partly, answer_facts, begins, bytes_of, every_entry, goes_on, head_of, taken_role}
 use Rattle.peer.proofs.Sentences.OffsetsHold.{some_of_is_some_offset}

@@ -33,10 +33,10 @@ use Rattle.peer.specs.declared.types.Receive.{Receive}
 use Rattle.peer.specs.declared.types.Vacancy.{Vacancy}
 use Rattle.laws.proofs.Choosing.{and_left, and_right, branch}
 use Rattle.laws.proofs.Listing.{replicate_each, set_each}
-use Rattle.peer.proofs.Step.AnswerLaws.{claim_from, claim_taken}
+use Rattle.peer.proofs.PeerSteps.AnswerLaws.{claim_from, claim_taken}
 use Rattle.peer.proofs.Plain.EntrySearch.{Foremost, foremost}
 use Rattle.peer.proofs.Plain.Roles.{role_of_entry}
-use Rattle.peer.proofs.Step.Verdicts.{medium_only}
+use Rattle.peer.proofs.PeerSteps.Verdicts.{medium_only}
 use Rattle.peer.proofs.Sentences.SentencesHold.{found_is_the_lowest_open}
 
 -- the call brings a packet that is read

@@ -15,7 +15,7 @@ use Rattle.peer.specs.declared.types.Inbound.{Inbound}
 use Rattle.peer.specs.declared.types.Incoming.{Incoming}
 use Rattle.peer.specs.declared.types.Receive.{Receive}
 use Rattle.laws.proofs.Choosing.{or_cases}
-use Rattle.peer.proofs.Step.AnswerLaws.{claim_from}
+use Rattle.peer.proofs.PeerSteps.AnswerLaws.{claim_from}
 use Rattle.peer.proofs.Plain.CoverageLaws.{all_at, inside_end}
 use Rattle.peer.proofs.History.Facts.{Aims, AnswerFacts, Every, Lasting, Taken, answer_facts, begins, bytes_of, every_entry, goes_on, head_of, in_grant_lem, same_message_lem, taken_role}
 use Rattle.peer.proofs.Sentences.PacketsRead.{read_formed}

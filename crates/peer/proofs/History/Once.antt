@@ -14,7 +14,7 @@ use Rattle.peer.specs.declared.types.Incoming.{Incoming}
 use Rattle.peer.specs.declared.types.Receive.{Receive}
 use Rattle.laws.proofs.Choosing.{branch, clashing, pick_first, tested}
 use Rattle.laws.proofs.Listing.{replicate_each, set_cases, set_there}
-use Rattle.peer.proofs.Step.AnswerLaws.{untaken_is}
+use Rattle.peer.proofs.PeerSteps.AnswerLaws.{untaken_is}
 use Rattle.peer.proofs.History.Facts.{Aims, Entered, Taken, as_before, begins, entered, goes_on, taken_role, with_cancel, with_end, with_grant, with_post, with_segment}
 
 abbrev pub used : Role → Bool

@@ -17,7 +17,7 @@ use Rattle.peer.specs.declared.types.Answer.{Answer}
 use Rattle.peer.specs.declared.types.Inbound.{Inbound}
 use Rattle.peer.specs.declared.types.Incoming.{Incoming}
 use Rattle.peer.specs.declared.types.Receive.{Receive}
-use Rattle.peer.proofs.Step.AnswerLaws.{claim_from}
+use Rattle.peer.proofs.PeerSteps.AnswerLaws.{claim_from}
 use Rattle.peer.proofs.History.Facts.{Aims, AnswerFacts, Brings, Fitting, Taken, answer_facts, begins, goes_on, head_of, taken_by}
 
 in_order : {l : Plain} {h : Incoming} {bytes : List ℕ} {t : Target} {o : Inbound} (q : Packet) → incoming_of q ≡ h → Aims l h bytes t o

@@ -24,7 +24,7 @@ use Rattle.peer.specs.declared.types.Receive.{Receive}
 use Rattle.wire.specs.LittleEndian.{le_at}
 use Rattle.protocol.proofs.CtsRead.{cts_read_back}
 use Rattle.protocol.proofs.SentencesHold.{numbers_are_little_endian}
-use Rattle.peer.proofs.Step.AnswerLaws.{claim_both, untaken_is}
+use Rattle.peer.proofs.PeerSteps.AnswerLaws.{claim_both, untaken_is}
 use Rattle.peer.proofs.Sentences.BytesHold.{bytes_told, read_says_lem}
 use Rattle.peer.proofs.History.Facts.{Aims, AnswerFacts, GrantFacts, Taken, answer_facts, begins, bytes_of, goes_on, head_of, same_message_lem, taken_role}
 use Rattle.peer.proofs.History.OriginsHold.{accepted_from_origin}

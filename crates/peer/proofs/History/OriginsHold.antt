@@ -20,7 +20,7 @@ use Rattle.peer.specs.declared.types.Incoming.{Incoming}
 use Rattle.peer.specs.declared.types.Receive.{Receive}
 use Rattle.laws.proofs.Listing.{replicate_each, set_cases}
 use Rattle.peer.proofs.Refusals.AnswersChecked.{rtm_of}
-use Rattle.peer.proofs.Step.AnswerLaws.{claim_from}
+use Rattle.peer.proofs.PeerSteps.AnswerLaws.{claim_from}
 use Rattle.peer.proofs.Sentences.BytesHold.{bytes_told, read_says_lem, told}
 use Rattle.peer.proofs.History.Facts.{Aims, AnswerFacts, Entered, Taken, answer_facts, as_before, begins, entered, goes_on, taken_role, with_cancel, with_end, with_grant, with_post, with_segment}
 

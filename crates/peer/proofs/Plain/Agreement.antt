@@ -37,14 +37,14 @@ use Rattle.peer.specs.declared.types.Verdict.{Verdict}
 use Rattle.bitmap.proofs.BitLaws.{first_clear_le, length_cleared}
 use Rattle.bitmap.proofs.CoverLaws.{count_cover, first_cover, touched_cover}
 use Rattle.laws.proofs.Choosing.{and_intro, branch, in_step, pick_false, pick_true}
-use Rattle.peer.proofs.Step.AnswerLaws.{expect_takes, settled_takes}
+use Rattle.peer.proofs.PeerSteps.AnswerLaws.{expect_takes, settled_takes}
 use Rattle.peer.proofs.Plain.CoverageLaws.{Bits, Content, all_before, bits_cleared, bits_marked, first_whole}
 use Rattle.peer.proofs.Sentences.PacketsRead.{read_formed}
 use Rattle.peer.proofs.Plain.Roles.{Ordered, SameFit, fit_same, open_same, overlap_same, role_at, to, unfit, vacancy_same}
 use Rattle.peer.proofs.Slots.Slots.{found_open}
-use Rattle.peer.proofs.Step.StepCases.{Arrives, data_of}
+use Rattle.peer.proofs.PeerSteps.StepCases.{Arrives, data_of}
 use Rattle.peer.proofs.Slots.Valid.{Valid, Within, posted_within}
-use Rattle.peer.proofs.Step.Verdicts.{Begins, Continues, CutOff, Judged, again_inside, found_within, judged}
+use Rattle.peer.proofs.PeerSteps.Verdicts.{Begins, Continues, CutOff, Judged, again_inside, found_within, judged}
 
 -- what the words and the area's bytes have of an open message of which the segments gs are accepted
 pub record Held (ws : List ℕ) (mem : ℕ → ℕ) (o : Inbound) (gs : List Segment) : Type 0 where

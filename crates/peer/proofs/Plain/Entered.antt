@@ -23,11 +23,11 @@ use Rattle.bitmap.proofs.BitLaws.{cleared_out, length_cleared, marked_out}
 use Rattle.laws.proofs.Choosing.{or_cases, or_left}
 use Rattle.peer.proofs.Plain.Agreement.{Agrees, Held, more_bits}
 use Rattle.peer.proofs.Plain.CoverageLaws.{Wrote, bits_cleared, bits_same, content_same, content_written, inside_end}
-use Rattle.peer.proofs.Step.Kept.{FitsBesideOthers, begun_beside, continued_beside}
+use Rattle.peer.proofs.PeerSteps.Kept.{FitsBesideOthers, begun_beside, continued_beside}
 use Rattle.peer.proofs.Plain.Roles.{role_at, role_lengths, roles_set}
 use Rattle.peer.proofs.Slots.Slots.{phase_other, phase_same}
 use Rattle.peer.proofs.Slots.Valid.{Valid, open_within}
-use Rattle.peer.proofs.Step.Verdicts.{Begins, Continues, continued_at}
+use Rattle.peer.proofs.PeerSteps.Verdicts.{Begins, Continues, continued_at}
 
 entry_same : (es : List Entry) (i : ℕ) (e : Entry) → i < length es → slot_entry (set es i e) i ≡ e
 entry_same es i e h = get_or-set_same es i e no_entry h

@@ -33,14 +33,14 @@ use Rattle.laws.proofs.Choosing.{branch, pick_either}
 use Rattle.peer.proofs.Plain.Entered.{Taken, begun_taken, more_taken}
 use Rattle.peer.proofs.Slots.Ages.{length_renumbered, phase_renumbered}
 use Rattle.peer.proofs.Plain.Agreement.{Agrees, Meets, begins, cancelled, continues, posted, refused, reported, taken_answer, truncated}
-use Rattle.peer.proofs.Step.AnswerLaws.{claim_from}
+use Rattle.peer.proofs.PeerSteps.AnswerLaws.{claim_from}
 use Rattle.peer.proofs.Plain.CoverageLaws.{Wrote, all_at}
-use Rattle.peer.proofs.Step.Kept.{continued_beside}
+use Rattle.peer.proofs.PeerSteps.Kept.{continued_beside}
 use Rattle.peer.proofs.Sentences.PacketsRead.{read_formed}
 use Rattle.peer.proofs.Slots.Slots.{phase_other, phase_same, vacant}
-use Rattle.peer.proofs.Step.StepCases.{StepCase, begins, cancelled, continues, data_of, posted, refused, reported, step_case, truncated}
+use Rattle.peer.proofs.PeerSteps.StepCases.{StepCase, begins, cancelled, continues, data_of, posted, refused, reported, step_case, truncated}
 use Rattle.peer.proofs.Slots.Valid.{Valid}
-use Rattle.peer.proofs.Step.Verdicts.{chosen_at, continued_at}
+use Rattle.peer.proofs.PeerSteps.Verdicts.{chosen_at, continued_at}
 
 -- ---- the starts of receives
 

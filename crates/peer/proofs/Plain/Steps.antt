@@ -24,9 +24,9 @@ use Rattle.peer.proofs.Plain.CoverageLaws.{Wrote}
 use Rattle.peer.proofs.Sentences.PacketsRead.{read_formed}
 use Rattle.peer.proofs.Plain.Roles.{role_lengths, roles_renumbered, roles_set}
 use Rattle.peer.proofs.Slots.Slots.{phase_other, phase_same, used_slot, vacant}
-use Rattle.peer.proofs.Step.StepCases.{data_of}
+use Rattle.peer.proofs.PeerSteps.StepCases.{data_of}
 use Rattle.peer.proofs.Slots.Valid.{Valid}
-use Rattle.peer.proofs.Step.Verdicts.{chosen_at}
+use Rattle.peer.proofs.PeerSteps.Verdicts.{chosen_at}
 
 -- ---- a receive is posted
 

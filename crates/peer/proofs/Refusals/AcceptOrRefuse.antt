@@ -25,7 +25,7 @@ use Rattle.bitmap.proofs.Word.{no_bit}
 use Rattle.laws.proofs.Choosing.{branch}
 use Rattle.laws.proofs.Comparing.{le_or_lt}
 use Rattle.peer.proofs.Plain.Agreement.{Alike, Mirrors, meets, same, taken}
-use Rattle.peer.proofs.Step.AnswerLaws.{takes_unrefused}
+use Rattle.peer.proofs.PeerSteps.AnswerLaws.{takes_unrefused}
 use Rattle.peer.proofs.Refusals.AnswersChecked.{answer_checked}
 use Rattle.peer.proofs.Slots.CannotBeLaws.{can_be_if_no_clause_is_broken}
 use Rattle.peer.proofs.Refusals.FirstLaws.{gone_refused, gone_unrefused}

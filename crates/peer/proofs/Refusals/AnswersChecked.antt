@@ -30,7 +30,7 @@ use Rattle.peer.specs.declared.types.Incoming.{Incoming}
 use Rattle.peer.specs.declared.types.Receive.{Receive}
 use Rattle.laws.proofs.Choosing.{branch, clashing}
 use Rattle.protocol.proofs.OrderHolds.{read_if_none_fails, refused_by_first_to_fail}
-use Rattle.peer.proofs.Step.AnswerLaws.{expect_takes, takes_unrefused}
+use Rattle.peer.proofs.PeerSteps.AnswerLaws.{expect_takes, takes_unrefused}
 use Rattle.peer.proofs.Sentences.BytesHold.{Says, read_says_lem}
 use Rattle.peer.proofs.Refusals.FirstLaws.{gone_at, gone_past, gone_refused}
 use Rattle.peer.proofs.History.Facts.{Belongs, Ruled, accepted, again, begins, beyond, behind, cut_off, differing, goes_on, granted, not_long, not_open, repeating, ruled, refusal, too_soon, unmatched}

@@ -19,7 +19,7 @@ use Rattle.peer.proofs.Refusals.AcceptOrRefuse.{one_each}
 use Rattle.peer.proofs.Plain.CoverageLaws.{Wrote}
 use Rattle.peer.proofs.History.Count.{next_after_lem}
 use Rattle.peer.proofs.History.Facts.{Entered, entered}
-use Rattle.peer.proofs.Step.Kept.{step_kept}
+use Rattle.peer.proofs.PeerSteps.Kept.{step_kept}
 use Rattle.peer.proofs.Plain.Roles.{role_at, role_lengths}
 use Rattle.peer.proofs.Plain.Steps.{fresh_agrees, fresh_valid, stepped}
 use Rattle.peer.proofs.Slots.Valid.{Valid, valid_fits}

@@ -1,7 +1,7 @@
 -- `receiving::effects::grant` meets its contract: what is granted is not nothing, and ends in the message.
 use Rattle.std.proofs.Common.{arith, rules}
 use Rattle.receiving.proofs.Asking.{grant_one}
-use Rattle.peer.proofs.Step.Kept.{grant_le}
+use Rattle.peer.proofs.PeerSteps.Kept.{grant_le}
 use Rattle.receiving.proofs.effects.grant.Statement.{statement}
 use Rattle.receiving.proofs.effects.grant.Tie as tie
 

@@ -29,9 +29,9 @@ use Rattle.peer.specs.declared.types.Receive.{Receive}
 use Rattle.peer.specs.declared.types.Vacancy.{Vacancy}
 use Rattle.peer.specs.declared.types.Verdict.{Verdict}
 use Rattle.laws.proofs.Choosing.{branch, clashing}
-use Rattle.peer.proofs.Step.AnswerLaws.{settled_takes}
+use Rattle.peer.proofs.PeerSteps.AnswerLaws.{settled_takes}
 use Rattle.peer.proofs.Sentences.PacketsRead.{read_formed}
-use Rattle.peer.proofs.Step.Verdicts.{Begins, Continues, CutOff, Judged, Listed, judged}
+use Rattle.peer.proofs.PeerSteps.Verdicts.{Begins, Continues, CutOff, Judged, Listed, judged}
 
 -- the packet is read, and its reply buffer has room for a CTS
 pub record Arrives (limit : ℕ) (bs : List ℕ) (room : ℕ) (q : Packet) : Type 0 where

@@ -36,19 +36,19 @@ use Rattle.laws.proofs.Comparing.{le_or_lt}
 use Rattle.protocol.proofs.CtsRead.{cts_read_back}
 use Rattle.peer.proofs.Slots.Ages.{length_renumbered, phase_renumbered}
 use Rattle.peer.proofs.Refusals.AnswersChecked.{medium_of, of_rtm, rtm_of}
-use Rattle.peer.proofs.Step.BitMoves.{Reached, count_listed, first_lowest, match_marked, more_marked, reached}
+use Rattle.peer.proofs.PeerSteps.BitMoves.{Reached, count_listed, first_lowest, match_marked, more_marked, reached}
 use Rattle.peer.proofs.Sentences.BytesHold.{Says, bytes_told, read_says_lem}
 use Rattle.peer.proofs.Plain.EntrySearch.{Foremost, foremost}
-use Rattle.peer.proofs.Step.Kept.{FitsBesideOthers, begun_beside, continued_beside}
+use Rattle.peer.proofs.PeerSteps.Kept.{FitsBesideOthers, begun_beside, continued_beside}
 use Rattle.peer.proofs.History.OriginReplies.{grant_left, grant_some}
 use Rattle.peer.proofs.History.OriginsHold.{begun_by}
 use Rattle.peer.proofs.Refusals.PacketChecked.{fits_words}
 use Rattle.peer.proofs.Sentences.PacketsRead.{read_formed}
 use Rattle.peer.proofs.Plain.Roles.{renumbered_role, open_same, role_of_slot}
 use Rattle.peer.proofs.Slots.Slots.{entries_oldest, entries_of, entry_of, found_open, phase_other, phase_same, slot_entry_lem, vacant}
-use Rattle.peer.proofs.Step.StepCases.{StepCase, begins, cancelled, continues, posted, refused, reported, step_case, truncated}
+use Rattle.peer.proofs.PeerSteps.StepCases.{StepCase, begins, cancelled, continues, posted, refused, reported, step_case, truncated}
 use Rattle.peer.proofs.Slots.Valid.{Valid, fits_valid}
-use Rattle.peer.proofs.Step.Verdicts.{Begins, Continues, CutOff, Matched, chosen_at, continued_at}
+use Rattle.peer.proofs.PeerSteps.Verdicts.{Begins, Continues, CutOff, Matched, chosen_at, continued_at}
 use Rattle.peer.proofs.Sentences.SentencesHold.{long_is_68_and_69, nothing_found_is_none_open}
 
 -- ---- one slot replaced

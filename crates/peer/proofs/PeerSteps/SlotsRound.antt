@@ -10,7 +10,7 @@ use Rattle.peer.specs.View.{role_of}
 use Rattle.peer.specs.declared.types.Answer.{Answer}
 use Rattle.peer.specs.declared.types.Inbound.{Inbound}
 use Rattle.peer.specs.declared.types.Peer.{Peer}
-use Rattle.peer.proofs.Step.MovesHold.{moves_are_as_said}
+use Rattle.peer.proofs.PeerSteps.MovesHold.{moves_are_as_said}
 
 module _ (p q : Peer) (i : ℕ) where
   -- slot i goes on so, and the others stay

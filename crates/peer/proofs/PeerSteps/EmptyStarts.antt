@@ -13,7 +13,7 @@ use Rattle.peer.specs.declared.types.Answer.{Answer}
 use Rattle.peer.specs.declared.types.Inbound.{Inbound}
 use Rattle.peer.specs.declared.types.Peer.{Peer}
 use Rattle.peer.specs.declared.types.Receive.{Receive}
-use Rattle.peer.proofs.Step.MovesHold.{moves_are_as_said}
+use Rattle.peer.proofs.PeerSteps.MovesHold.{moves_are_as_said}
 
 module _ (limit : ℕ) (p : Peer) (ws bs : List ℕ) (room : ℕ) (empty : EmptyLong bs) (f : Effect) where
   rtm : RtmIn bs

@@ -25,9 +25,9 @@ use Rattle.laws.proofs.Choosing.{or_left, or_neither}
 use Rattle.peer.proofs.Slots.Ages.{length_renumbered, older_below, phase_renumbered, valid_renumbered}
 use Rattle.peer.proofs.Sentences.PacketsRead.{read_formed}
 use Rattle.peer.proofs.Slots.Slots.{found_nothing, vacant, overlaps_none}
-use Rattle.peer.proofs.Step.StepCases.{StepCase, begins, cancelled, continues, data_of, posted, refused, reported, step_case, truncated}
+use Rattle.peer.proofs.PeerSteps.StepCases.{StepCase, begins, cancelled, continues, data_of, posted, refused, reported, step_case, truncated}
 use Rattle.peer.proofs.Slots.Valid.{Valid, Within, open_within, posted_within, valid_set, within_open}
-use Rattle.peer.proofs.Step.Verdicts.{Begins, Continues, chosen_at, continued_at}
+use Rattle.peer.proofs.PeerSteps.Verdicts.{Begins, Continues, chosen_at, continued_at}
 
 pub record Kept (area : ℕ) (p : Peer) (ws : List ℕ) (f : Effect) : Type 0 where
   pub valid : Valid area f.peer.slots
