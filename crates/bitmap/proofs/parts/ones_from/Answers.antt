@@ -7,21 +7,15 @@ use native.Mathlib.Omega.{arith}
 use Rattle.bitmap.specs.Mask.{set_in}
 use Rattle.bitmap.specs.Offsets.{first_not}
 use Rattle.bitmap.proofs.Runs.{run_word}
-use Rattle.bitmap.proofs.parts.ones_from.Statement.{statement}
-use Rattle.bitmap.proofs.parts.ones_from.Tie as tie
+use Rattle.bitmap.proofs.parts.ones_from.Goals as goal
+use Rattle.bitmap.proofs.parts.ones_from.Goals.{Start}
 
-found : (c : tie.Start) → let a = c.args in
+found : (c : Start) → let a = c.args in
     min (count_trailing_zeros 64 ((18446744073709551615 - a.w) / 2 ^ a.lo)) a.n ≡ first_not (set_in a.w) a.lo a.n
 found c = run_word c.args.w c.args.lo c.args.n c.ranges.w.fits (omega arith)
 
-cast_run : tie.Need-overflow-cast-run
-cast_run c = omega (arith, trailing_le 64 ((18446744073709551615 - c.args.w) / 2 ^ c.args.lo))
+pub returns-then-run-n : goal.returns-then-run-n
+returns-then-run-n c = let r = found (goal.at.returns-then-run-n c).Start in omega arith
 
-returns : tie.Need-returns
-returns c = let r = found c.before in omega arith
-
-returns_2 : tie.Need-returns-2
-returns_2 c = let r = found c.before in omega arith
-
-pub ones_from_spec : {M : Type 1} → statement M
-ones_from_spec = tie.close (tie.spec (λ c. search rules) cast_run returns returns_2)
+pub returns-else-run-n : goal.returns-else-run-n
+returns-else-run-n c = let r = found (goal.at.returns-else-run-n c).Start in omega arith

@@ -1,0 +1,20 @@
+-- `bitmap::clear` meets its contract: the parts of a range are cleared one after the other.
+use borrow.Author.Rules.{rules}
+use lib.Dec.{lit<}
+use lib.ListN.{length}
+use native.Mathlib.Omega.{arith}
+use Rattle.bitmap.specs.Map.{cleared}
+use Rattle.bitmap.proofs.SplitLaws.{Placed, placed}
+use Rattle.bitmap.proofs.Stores.{clear_add, clear_none, clear_whole, fill_range}
+use Rattle.bitmap.proofs.clear.Goals as goal
+use Rattle.bitmap.proofs.clear.Goals.{After-split-range}
+
+pub returns : goal.returns
+returns c =
+    let s = c in
+    let a = s.args in
+    fill_range cleared 0 (lit< tt) clear_none clear_add clear_whole a.map.now _ _ _ a.at a.n s.split-range.result
+    s.split-range.ensures (omega arith) (omega arith) (λ j. (c.slice_known-2-1.given j).fits)
+    c.clear_part.ensures
+    c.fill.ensures
+    c.clear_part-2.ensures

@@ -1,0 +1,40 @@
+-- `bitmap::count_set` meets its contract: the bits of a range are those of its parts.
+use Prim.Native.Nat.{◌+◌, ◌≤◌}
+use lib.Count.{ones}
+use lib.ListN.{length, length-drop, length-take}
+use mathlib.Core.Path.{◌≡◌, sym}
+use native.Mathlib.Omega.{arith}
+use Rattle.bitmap.specs.Map.{count_set}
+use Rattle.bitmap.proofs.Counts.{count_le, part_count, range_count}
+use Rattle.bitmap.proofs.SplitLaws.{Placed, placed}
+use Rattle.bitmap.proofs.count_set.Goals as goal
+use Rattle.bitmap.proofs.count_set.Goals.{After-part, After-part-2, After-split-range}
+
+-- where the parts of the range lie
+lies : (c : After-split-range) → let a = c.args in Placed a.at a.n (length a.map.now) c.split-range.result
+lies c = placed c.split-range.ensures (omega arith)
+
+-- the ones of all parts are the range's
+all_count : (c : After-part-2) → let a = c.args in
+    count_set a.map.now a.at a.n ≡ ones c.part.result + c.ones_of-between.result + ones c.part-2.result
+all_count c =
+    let s = c in
+    let a = s.args in
+    let p = c.part in
+    let t = c.part-2 in
+    rw c.ones_of-between.ensures
+    (range_count a.map.now a.at a.n p.result t.result s.split-range.result s.split-range.ensures (omega arith)
+    (λ j. (s.shared_slice_known-1.given j).fits) p.ensures t.ensures)
+
+-- and no more than its length
+few : (c : After-part-2) → let a = c.args in count_set a.map.now a.at a.n ≤ a.n
+few c = let a = c.args in count_le a.map.now a.at a.n
+
+pub overflow_add-result : goal.overflow_add-result
+overflow_add-result c = omega (arith, all_count (goal.at.overflow_add-result c).After-part-2, few (goal.at.overflow_add-result c).After-part-2)
+
+pub overflow_add-result-2 : goal.overflow_add-result-2
+overflow_add-result-2 c = omega (arith, all_count (goal.at.overflow_add-result-2 c).After-part-2, few (goal.at.overflow_add-result-2 c).After-part-2)
+
+pub returns : goal.returns
+returns c = sym (all_count (goal.at.returns c).After-part-2)

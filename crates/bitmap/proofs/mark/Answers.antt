@@ -1,0 +1,20 @@
+-- `bitmap::mark` meets its contract: the parts of a range are marked one after the other.
+use borrow.Author.Rules.{rules}
+use lib.Dec.{lit<}
+use lib.ListN.{length}
+use native.Mathlib.Omega.{arith}
+use Rattle.bitmap.specs.Map.{marked}
+use Rattle.bitmap.proofs.SplitLaws.{Placed, placed}
+use Rattle.bitmap.proofs.Stores.{mark_add, mark_none, mark_whole, fill_range}
+use Rattle.bitmap.proofs.mark.Goals as goal
+use Rattle.bitmap.proofs.mark.Goals.{After-split-range}
+
+pub returns : goal.returns
+returns c =
+    let s = c in
+    let a = s.args in
+    fill_range marked 18446744073709551615 (lit< tt) mark_none mark_add mark_whole a.map.now _ _ _ a.at a.n s.split-range.result
+    s.split-range.ensures (omega arith) (omega arith) (λ j. (c.slice_known-2-1.given j).fits)
+    c.mark_part.ensures
+    c.fill.ensures
+    c.mark_part-2.ensures

@@ -1,0 +1,18 @@
+-- `bitmap::whole_words::full_run` meets its contract. The loop's invariant: the words passed are full, so that the run of those to come is what is left.
+use Prim.Native.Nat.{◌+◌, ◌-◌, ◌≤◌}
+use lib.ListN.{length, drop}
+use mathlib.Core.Path.{◌≡◌, sym}
+use native.Mathlib.Nat.{zero-add}
+use native.Mathlib.Omega.{arith}
+use Rattle.bitmap.specs.WholeWords.{full_run}
+use Rattle.bitmap.proofs.WordFolds.{run_end, run_stop, run_turn}
+use Rattle.bitmap.proofs.whole_words.full_run.Goals as goal
+
+pub returns-then-words-k : goal.returns-then-words-k
+returns-then-words-k c = let l = c.loop-k in sym (run_stop _ l.k (omega arith) _ l.invariant.1 c.if-words-k.true)
+
+pub loop-k-preserved : goal.loop-k-preserved
+loop-k-preserved c = let l = c.loop-k in (omega arith, run_turn _ l.k (omega arith) _ l.invariant.1 c.if-words-k.false)
+
+pub returns : goal.returns
+returns c = let l = c.loop-k in sym (run_end _ l.k (omega arith) _ l.invariant.1)

@@ -1,0 +1,18 @@
+-- `text::put_decimal` meets its contract. The loop's invariant: the digits passed stand at the array's end, and those of the rest go before
+-- them.
+use Prim.Native.Nat.{suc, ◌+◌, ◌-◌, ◌^◌, ◌≤◌, ◌<◌}
+use borrow.Author.Rules.{rules}
+use lib.ListN.{length, take, drop, set, length-set}
+use mathlib.Core.List.{◌++◌, append-nil}
+use mathlib.Core.Path.{◌≡◌, refl, sym, ◌∙◌}
+use native.Mathlib.Omega.{arith}
+use Rattle.text.specs.Decimals.{digits, decimal}
+use Rattle.text.proofs.DecimalLaws.{more_places, tenth, set_last, set_all}
+use Rattle.text.proofs.put_decimal.Given as goal
+
+abbrev pub invariant-loop-rest : goal.invariant-loop-rest
+invariant-loop-rest l =
+    (l.first ≤ 19) × (length l.ds ≡ 20) × (l.rest < 10 ^ suc l.first) × (decimal l.v ≡ digits l.first l.rest ++ drop (suc l.first) l.ds)
+
+abbrev pub decreases-loop-rest : goal.decreases-loop-rest
+decreases-loop-rest l = l.first

@@ -1,0 +1,90 @@
+-- `text::put_line` meets its contract. The loop's invariant: with the numbers that are left, the line is whole.
+use Prim.Native.Nat.{ℕ, suc, ◌+◌, ◌-◌, ◌≤◌}
+use borrow.Author.Rules.{rules}
+use lib.ListN.{length, get_or, drop, length-append, length-set}
+use mathlib.Core.List.{List, [], ◌∷◌, ◌++◌}
+use mathlib.Core.Path.{◌≡◌, refl, sym, ap, ◌∙◌}
+use native.Mathlib.Numerals.{add-one}
+use native.Mathlib.Omega.{arith}
+use Rattle.laws.specs.Parts.{store_at}
+use Rattle.laws.proofs.Storing.{set_store, store_next}
+use Rattle.text.specs.Decimals.{decimal}
+use Rattle.text.specs.Lines.{numbers_line}
+use Rattle.text.proofs.LineLaws.{numbers_turn, length_turn, numbers_end}
+use Rattle.text.proofs.put_line.Goals as goal
+use Rattle.text.proofs.put_line.Goals.{After-loop-k, In-loop-k}
+
+-- the number that is put now, and those behind it
+turn : (c : In-loop-k)
+    → let k = c.loop-k.k in
+    numbers_line (drop k (numbers c)) ≡ (32 ∷ decimal (get_or (numbers c) k 0)) ++ numbers_line (drop (suc k) (numbers c))
+turn c = numbers_turn (numbers c) c.loop-k.k (omega arith)
+
+-- they have room
+room : (c : In-loop-k)
+    → let l = c.loop-k in l.next + length (numbers_line (drop l.k (numbers c))) ≤ length l.text
+room c =
+    let a = c.args in
+    let w = c.write_bytes-next in
+    let n = length-append a.word.now (numbers_line a.numbers.now) in
+    let k : length w.new.0 ≡ length a.text.now = w.auto.0 in
+    omega arith
+
+-- the line's end, and its room
+last : (c : After-loop-k)
+    → let a = c.args in
+    numbers_line (drop c.loop-k.k a.numbers.now) ≡ 10 ∷ []
+last c = numbers_end _ c.loop-k.k (omega arith)
+
+room_left : (c : After-loop-k)
+    → let l = c.loop-k in
+    let a = c.args in
+    l.next + length (numbers_line (drop l.k a.numbers.now)) ≤ length l.text
+room_left c =
+    let a = c.args in
+    let w = c.write_bytes-next in
+    let n = length-append a.word.now (numbers_line a.numbers.now) in
+    let k : length w.new.0 ≡ length a.text.now = w.auto.0 in
+    omega arith
+
+pub put_number-next-requires : goal.put_number-next-requires
+put_number-next-requires c =
+    let s = c in
+    let p = room s in
+    let n = length_turn (numbers s) s.loop-k.k (omega arith) in
+    omega arith
+
+pub loop-k-preserved : goal.loop-k-preserved
+loop-k-preserved c =
+    let s = c in
+    let l = s.loop-k in
+    let d : List ℕ = 32 ∷ decimal (get_or (numbers s) l.k 0) in
+    let rest = numbers_line (drop (suc l.k) (numbers s)) in
+    let w = c.put_number-next in
+    let n = length_turn (numbers s) s.loop-k.k (omega arith) in
+    let p = room s in (
+      omega arith,
+      w.auto.0 ∙ l.invariant.1,
+      rw add-one (omega arith),
+      rw (add-one, l.invariant.3, turn s, w.ensures.1) (sym (store_next l.text l.next d rest w.result w.ensures.0 (omega arith))),
+    )
+
+pub bounds-text-next : goal.bounds-text-next
+bounds-text-next c =
+    let e = ap length (last (goal.at.bounds-text-next c).After-loop-k) in
+    let p = room_left (goal.at.bounds-text-next c).After-loop-k in
+    omega arith
+
+pub returns : goal.returns
+returns c =
+    let w = c.write_bytes-next in
+    let l = c.loop-k in
+    let a = c.args in
+    let n = length-append a.word.now (numbers_line a.numbers.now) in
+    let e = ap length (last (goal.at.returns c).After-loop-k) in
+    let p = room_left (goal.at.returns c).After-loop-k in (
+      omega arith,
+      set_store l.text l.next 10 (omega arith)
+          ∙ sym (rw (last (goal.at.returns c).After-loop-k) at l.invariant.3)
+          ∙ rw w.ensures.1 (store_next a.text.now a.at a.word.now (numbers_line a.numbers.now) w.result w.ensures.0 (omega arith)),
+    )

@@ -1,0 +1,11 @@
+-- `wire::read_u64` meets its contract.
+use borrow.Author.Rules.{rules}
+use mathlib.Core.Path.{sym}
+use native.Mathlib.Omega.{arith}
+use Rattle.wire.proofs.Laws.{le_halves}
+use Rattle.wire.proofs.read_u64.Goals as goal
+
+pub returns : goal.returns
+returns c =
+    let a = c.args in
+    rw (c.read_u32.ensures, c.read_u32-2.ensures) (sym (le_halves 4 4 a.s.now a.at (omega arith)))
