@@ -27,11 +27,11 @@ use Rattle.wire.specs.LittleEndian.{le_at, le_bytes, le_of}
 use Rattle.protocol.proofs.RoundTrips.{reads_what_was_written}
 use Rattle.protocol.specs.Limits.{packet_limit}
 
-module _ (send_id recv_id recv_length : ℕ) (s : send_id < 2 ^ 32) (r : recv_id < 2 ^ 32) (some : 1 ≤ recv_length) (n : recv_length < 2 ^ 64) where
+module _ (sender receiver amount : ℕ) (s : sender < 2 ^ 32) (r : receiver < 2 ^ 32) (some : 1 ≤ amount) (n : amount < 2 ^ 64) where
   bytes : List ℕ
-  bytes = cts_bytes send_id recv_id recv_length
+  bytes = cts_bytes sender receiver amount
 
-  numbers : Numbers (cts_header send_id recv_id recv_length)
+  numbers : Numbers (cts_header sender receiver amount)
   numbers =
       record {
         fields = λ f. go f;
@@ -39,7 +39,7 @@ module _ (send_id recv_id recv_length : ℕ) (s : send_id < 2 ^ 32) (r : recv_id
         connid = unfold connid_or_zero in omega arith;
       }
     where
-      go : (f : Field) → number_in (cts_header send_id recv_id recv_length).fields f < 256 ^ width f
+      go : (f : Field) → number_in (cts_header sender receiver amount).fields f < 256 ^ width f
       go msg_id = omega arith
       go recv_id = omega arith
       go send_id = omega arith
@@ -54,17 +54,17 @@ module _ (send_id recv_id recv_length : ℕ) (s : send_id < 2 ^ 32) (r : recv_id
       go count = omega arith
 
   -- as the writer writes it into 24 bytes
-  written : write_of (cts_header send_id recv_id recv_length) [] [] (replicate 24 0) ≡ record { answer = Written.Length 24; out = bytes }
+  written : write_of (cts_header sender receiver amount) [] [] (replicate 24 0) ≡ record { answer = Written.Length 24; out = bytes }
   unfolding bytes cts_bytes write_of write_typed write_as write_bytes row_of row_in options_fit array_allowed array_whole array_count flags_of lengths_fit pick store_at packet_bytes mandatory_bytes base_bytes field_bytes layout sections_of connid_or_zero le_bytes
-  written = rw (le-leb 1 recv_length some)
+  written = rw (le-leb 1 amount some)
 
-  read_back : read_says bytes (read_of every_row packet_limit bytes) ≡ gives (values (cts_header send_id recv_id recv_length) [] [])
+  read_back : read_says bytes (read_of every_row packet_limit bytes) ≡ gives (values (cts_header sender receiver amount) [] [])
   unfolding bytes cts_bytes packet_bytes mandatory_bytes base_bytes le_bytes field_bytes layout pick sections_of
   read_back =
-      subst (λ (o : WriteLeaves). read_says (take 24 o.out) (read_of every_row packet_limit (take 24 o.out)) ≡ gives (values (cts_header send_id recv_id recv_length) [] [])) written
-      (reads_what_was_written (cts_header send_id recv_id recv_length) [] [] (replicate 24 0) packet_limit 24 numbers (omega arith) (ap (λ (o : WriteLeaves). written_says o.answer) written))
+      subst (λ (o : WriteLeaves). read_says (take 24 o.out) (read_of every_row packet_limit (take 24 o.out)) ≡ gives (values (cts_header sender receiver amount) [] [])) written
+      (reads_what_was_written (cts_header sender receiver amount) [] [] (replicate 24 0) packet_limit 24 numbers (omega arith) (ap (λ (o : WriteLeaves). written_says o.answer) written))
 
-  cts_read : ReadsAsCts bytes send_id recv_id recv_length
+  cts_read : ReadsAsCts bytes sender receiver amount
   unfolding bytes cts_bytes packet_bytes mandatory_bytes base_bytes le_bytes field_bytes layout pick sections_of values own_numbers own_fields row_of row_in le_at le_of part flags_of connid_or_zero
   cts_read = record { size = refl; says = read_back; flags = refl; multiuse = refl }
 

@@ -6,7 +6,7 @@ use lib.ListN.{length, length-append}
 use mathlib.Core.Bool.{Bool, true, false, not, ◌||◌, true≢false}
 use mathlib.Core.List.{List, [], ◌∷◌, ◌++◌}
 use mathlib.Core.Logic.{⊎_elim}
-use mathlib.Core.Path.{◌≡◌, refl, sym, ap, ap₂, ◌∙◌}
+use mathlib.Core.Path.{◌≡◌, refl, sym, ap, ap₂, ◌∙◌, subst}
 use native.Mathlib.Nat.{div-eq_of_lt}
 use native.Mathlib.Omega.{arith}
 use Rattle.laws.specs.Choose.{pick}
@@ -82,7 +82,10 @@ module _ (told : ℕ) (h : Header) (o : List ℕ) where
       ⊎_elim (λ x.
       ap (λ (i : ℕ). put_there i (width f) (field_number told h f) (store_at l at (mixed ds (g ∷ gs) at))) (pick_true _ _ x)
       ∙ pick_false _ _ (ne_eqb at 0 (λ z. omega arith))
-      ∙ rw (← same_field_lem g f x) (put_here ds gs g at l n (omega arith) (omega arith)))
+      ∙ subst
+        (λ (y : Field). store_at (store_at l at (mixed ds (g ∷ gs) at)) at (le_bytes (width y) (field_number told h y)) ≡ store_at l at (mixed (y ∷ ds) (g ∷ gs) at))
+        (same_field_lem g f x)
+        (put_here ds gs g at l n (omega arith) (omega arith)))
       (λ x.
       let a = one ds g at in
       let size : length a ≡ width g = length_one ds g at (omega arith) in

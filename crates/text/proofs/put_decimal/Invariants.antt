@@ -12,7 +12,7 @@ use Rattle.text.proofs.put_decimal.Given as goal
 
 abbrev pub invariant-loop-rest : goal.invariant-loop-rest
 invariant-loop-rest l =
-    (l.first ≤ 19) × (length l.ds ≡ 20) × (l.rest < 10 ^ suc l.first) × (decimal l.v ≡ digits l.first l.rest ++ drop (suc l.first) l.ds)
+    (l.first ≤ 19) × (length l.digits ≡ 20) × (l.rest < 10 ^ suc l.first) × (decimal l.v ≡ digits l.first l.rest ++ drop (suc l.first) l.digits)
 
 abbrev pub decreases-loop-rest : goal.decreases-loop-rest
 decreases-loop-rest l = l.first

@@ -14,6 +14,10 @@ use Rattle.text.proofs.LineLaws.{numbers_turn, length_turn, numbers_end}
 use Rattle.text.proofs.put_line.Goals as goal
 use Rattle.text.proofs.put_line.Goals.{After-loop-k, In-loop-k}
 
+-- the numbers of the line
+abbrev numbers : In-loop-k → List ℕ
+numbers c = c.args.numbers.now
+
 -- the number that is put now, and those behind it
 turn : (c : In-loop-k)
     → let k = c.loop-k.k in
@@ -27,7 +31,7 @@ room c =
     let a = c.args in
     let w = c.write_bytes-next in
     let n = length-append a.word.now (numbers_line a.numbers.now) in
-    let k : length w.new.0 ≡ length a.text.now = w.auto.0 in
+    let k : length w.new.s ≡ length a.text.now = w.auto.s in
     omega arith
 
 -- the line's end, and its room
@@ -44,29 +48,29 @@ room_left c =
     let a = c.args in
     let w = c.write_bytes-next in
     let n = length-append a.word.now (numbers_line a.numbers.now) in
-    let k : length w.new.0 ≡ length a.text.now = w.auto.0 in
+    let k : length w.new.s ≡ length a.text.now = w.auto.s in
     omega arith
 
 pub put_number-next-requires : goal.put_number-next-requires
 put_number-next-requires c =
     let s = c in
-    let p = room s in
-    let n = length_turn (numbers s) s.loop-k.k (omega arith) in
+    let p = room (goal.at.put_number-next-requires c).In-loop-k in
+    let n = length_turn (numbers (goal.at.put_number-next-requires c).In-loop-k) s.loop-k.k (omega arith) in
     omega arith
 
 pub loop-k-preserved : goal.loop-k-preserved
 loop-k-preserved c =
     let s = c in
     let l = s.loop-k in
-    let d : List ℕ = 32 ∷ decimal (get_or (numbers s) l.k 0) in
-    let rest = numbers_line (drop (suc l.k) (numbers s)) in
+    let d : List ℕ = 32 ∷ decimal (get_or (numbers (goal.at.loop-k-preserved c).In-loop-k) l.k 0) in
+    let rest = numbers_line (drop (suc l.k) (numbers (goal.at.loop-k-preserved c).In-loop-k)) in
     let w = c.put_number-next in
-    let n = length_turn (numbers s) s.loop-k.k (omega arith) in
-    let p = room s in (
+    let n = length_turn (numbers (goal.at.loop-k-preserved c).In-loop-k) s.loop-k.k (omega arith) in
+    let p = room (goal.at.loop-k-preserved c).In-loop-k in (
       omega arith,
-      w.auto.0 ∙ l.invariant.1,
+      w.auto.text ∙ l.invariant.1,
       rw add-one (omega arith),
-      rw (add-one, l.invariant.3, turn s, w.ensures.1) (sym (store_next l.text l.next d rest w.result w.ensures.0 (omega arith))),
+      rw (add-one, l.invariant.3, turn (goal.at.loop-k-preserved c).In-loop-k, w.ensures.1) (sym (store_next l.text l.next d rest w.result w.ensures.0 (omega arith))),
     )
 
 pub bounds-text-next : goal.bounds-text-next
