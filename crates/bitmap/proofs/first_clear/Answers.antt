@@ -10,7 +10,7 @@ use Rattle.bitmap.specs.Map.{first_clear}
 use Rattle.bitmap.proofs.BitLaws.{first_clear_le}
 use Rattle.bitmap.proofs.Runs.{first_pass, first_run, full_run_lem}
 use Rattle.bitmap.proofs.first_clear.Goals as goal
-use Rattle.bitmap.proofs.first_clear.Goals.{After-full_run, After-ones_from-run, Left-words}
+use Rattle.bitmap.proofs.first_clear.Goals.{else-words-test, then-words-test+else-w+then-loop-i-test+then-run-eq0, After-full_run, After-ones_from-run, Left-words}
 
 -- the run of set bits at i, as far as the word goes
 run : (c : After-ones_from-run)
@@ -65,16 +65,16 @@ at_end : (c : Left-words) → let a = c.args in
 at_end c =
     let s = c in
     let a = s.args in
-    ⊎_elim
-    (λ w.
-    let r = first_clear_le a.map.now s.words.i (a.at + a.n - s.words.i) in
-    rw w.1 (s.words.invariant.0, omega arith))
-    (λ w.
-    let r =
-    first_run a.map.now s.words.i w.4.i w.2.result (a.at + a.n) w.6.result
-    w.4.invariant.0 w.5.taken w.2.ensures w.6.ensures in
-    rw w.8 (omega arith, sym (w.4.invariant.2 ∙ rw (r.2 w.7.taken, add-zero))))
-    c.words-test.branch
+    elim c.words-test.branch [
+      | else-words-test w ↦
+        let r = first_clear_le a.map.now s.words.i (a.at + a.n - s.words.i) in
+        rw w.i-is (s.words.invariant.0, omega arith)
+      | then-words-test+else-w+then-loop-i-test+then-run-eq0 w ↦
+        let r =
+        first_run a.map.now s.words.i w.loop-i.i w.in_word.result (a.at + a.n) w.ones_from-run.result
+        w.loop-i.invariant.0 w.loop-i-test.true w.in_word.ensures w.ones_from-run.ensures in
+        rw w.i-is (omega arith, sym (w.loop-i.invariant.2 ∙ rw (r.2 w.if-run-eq0.true, add-zero)))
+    ]
 
 pub returns : goal.returns
 returns c = (at_end (goal.at.returns c).Left-words).1
@@ -86,4 +86,4 @@ pub overflow_add-i : goal.overflow_add-i
 overflow_add-i c = omega (arith, (passed (goal.at.overflow_add-i c).After-full_run).0)
 
 pub overflow_add-i-in-loop-i : goal.overflow_add-i-in-loop-i
-overflow_add-i-in-loop-i c = ?
+overflow_add-i-in-loop-i c = omega (arith, (run (goal.at.overflow_add-i-in-loop-i c).After-ones_from-run).0)

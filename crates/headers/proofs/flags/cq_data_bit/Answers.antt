@@ -1,0 +1,12 @@
+-- `headers::flags::cq_data_bit` meets its contract.
+use borrow.Author.Rules.{rules}
+use Rattle.laws.specs.Choose.{pick}
+use Rattle.headers.proofs.flags.cq_data_bit.Goals as goal
+
+pub returns-in-Absent : goal.returns-in-Absent
+unfolding pick
+returns-in-Absent c = rw c.enum_told-1.given.1
+
+pub returns-in-Present : goal.returns-in-Present
+unfolding pick
+returns-in-Present c = rw c.enum_told-in-Present-1.given.1

@@ -1,0 +1,24 @@
+-- `headers::flags::options_fit` meets its contract.
+use borrow.Author.Rules.{rules}
+use Rattle.protocol.proofs.FlagLaws.{options_tested}
+use Rattle.headers.proofs.flags.options_fit.Goals as goal
+
+pub returns-then-row : goal.returns-then-row
+returns-then-row c =
+    let s = c in
+    rw (options_tested s.args.row s.args.header s.requires, c.if-row.true)
+
+pub returns-then-header : goal.returns-then-header
+returns-then-header c =
+    let s = c in
+    rw (options_tested s.args.row s.args.header s.requires, c.if-row.false, c.if-header.true)
+
+pub returns-in-Absent : goal.returns-in-Absent
+returns-in-Absent c =
+    let s = c in
+    rw (options_tested s.args.row s.args.header s.requires, c.if-row.false, c.if-header.false, c.enum_told-1.given.1)
+
+pub returns-in-Present : goal.returns-in-Present
+returns-in-Present c =
+    let s = c in
+    rw (options_tested s.args.row s.args.header s.requires, c.if-row.false, c.if-header.false, c.enum_told-in-Present-1.given.1)

@@ -1,0 +1,28 @@
+-- `headers::flags::written` meets its contract. The sum does not wrap: the rule of the table leaves room for the flags of all optional headers.
+use borrow.Author.Rules.{rules}
+use native.Mathlib.Omega.{arith}
+use Rattle.protocol.specs.Optional.{flags_of}
+use Rattle.protocol.proofs.FlagLaws.{flags_small}
+use Rattle.headers.proofs.flags.written.Goals as goal
+
+pub overflow_add-result : goal.overflow_add-result
+unfolding flags_of
+overflow_add-result c = let s = c in omega (arith, flags_small s.args.row s.args.header s.requires)
+
+pub overflow_add-result-2 : goal.overflow_add-result-2
+unfolding flags_of
+overflow_add-result-2 c = let s = c in omega (arith, flags_small s.args.row s.args.header s.requires)
+
+pub overflow_add-result-3 : goal.overflow_add-result-3
+unfolding flags_of
+overflow_add-result-3 c = let s = c in omega (arith, flags_small s.args.row s.args.header s.requires)
+
+pub returns : goal.returns
+unfolding flags_of
+returns c =
+    rw (
+      c.connid_bit-id.ensures,
+      c.cq_data_bit-cq.ensures,
+      c.raw_address_bit-raw.ensures,
+    )
+    (omega arith)

@@ -1,0 +1,12 @@
+-- `headers::layout::count` meets its contract.
+use Rattle.protocol.specs.FieldNumbers.{count_in}
+use Rattle.protocol.specs.Layout as fields
+use native.Mathlib.Omega.{arith}
+use Rattle.headers.proofs.layout.count.Goals as goal
+
+pub returns : goal.returns
+unfolding count_in
+returns c = c.number_u32.ensures
+
+pub number_u32-requires-clause-unit_in_bounds : goal.number_u32-requires-clause-unit_in_bounds
+number_u32-requires-clause-unit_in_bounds c = ?

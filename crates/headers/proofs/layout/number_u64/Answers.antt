@@ -1,0 +1,14 @@
+-- `headers::layout::number_u64` meets its contract.
+use borrow.Author.Rules.{rules}
+use borrow.Author.Tests.{eq-eqb, ne_eqb}
+use Rattle.laws.specs.Choose.{pick}
+use Rattle.protocol.specs.FieldNumbers.{number_there}
+use Rattle.headers.proofs.layout.number_u64.Goals as goal
+
+pub returns-then-at-eq0 : goal.returns-then-at-eq0
+unfolding number_there pick
+returns-then-at-eq0 c = rw (← c.place-at.ensures, eq-eqb _ _ c.if-at-eq0.true)
+
+pub returns : goal.returns
+unfolding number_there pick
+returns c = rw (← c.place-at.ensures, ne_eqb _ _ c.if-at-eq0.false, c.read_u64.ensures)

