@@ -9,7 +9,7 @@ use Rattle.protocol.specs.Types.{served_row}
 use Rattle.peer.specs.Calls.{Call}
 use Rattle.peer.specs.Claims.{history, plain_after, takes}
 use Rattle.peer.specs.Effects.{opened}
-use Rattle.peer.specs.Expected.{enter, expected, target_of_call}
+use Rattle.peer.specs.Expected.{enter, expected, plain_step, target_of_call}
 use Rattle.peer.specs.Incomings.{incoming_of, is_rtm}
 use Rattle.peer.specs.Origins.{AcceptedFromOrigin, BegunBy, Comes, ComparedWithTheMatchingPacket, FromOrigin, OpenIsTheMatchingPackets, Origin, OriginClaim, no_origin, no_origins, note_origin, origin_at, origin_of_call, origins_from, origins_of}
 use Rattle.peer.specs.Plain.{Entry, Plain, Role, Target, extended_role, fresh_plain, granted_entry, idle, no_entry, posted, put, receiving, settle, slot_entry, waiting}
@@ -86,7 +86,7 @@ module _ (limit : ℕ) (l : Plain) (gs : List Origin) (from : Trace l gs) where
       (used_inside l.entries i (λ x. absurd (let y : waiting r ≡ idle = sym e ∙ x in let z : ◌≡◌ {A = ℕ} 0 1 = cc in omega arith)))
 
   -- of a packet that is taken: its entry's origin
-  aimed : {bytes : List ℕ} {t : Target} {o : Inbound} (bs : List ℕ) (q : Packet) → read_of served_row limit bs ≡ Read.Packet q → Aims l (incoming_of q) bytes t o
+  aimed : {bytes : List ℕ} (bs : List ℕ) (q : Packet) {t : Target} {o : Inbound} → read_of served_row limit bs ≡ Read.Packet q → Aims l (incoming_of q) bytes t o
       → FromOrigin (origin_at (after t bs) t.index) (receiving o)
   unfolding pick
   aimed bs q e (goes_on i o g) = subst (FromOrigin (origin_at gs i)) g.role (from.1 i)
@@ -180,7 +180,7 @@ traced_from : (area limit : ℕ) (l : Plain) (gs : List Origin) (calls : List Ca
     → Trace (plain_after area limit l calls) (origins_from area limit l gs calls)
 unfolding plain_after origins_from
 traced_from area limit l gs [] from = from
-traced_from area limit l gs (c ∷ cs) from = traced_from area limit _ _ cs (call_traced limit l gs from area c)
+traced_from area limit l gs (c ∷ cs) from = traced_from area limit (plain_step area limit l c).after _ cs (call_traced limit l gs from area c)
 
 pub traced : (area limit : ℕ) (calls : List Call) → Trace (history area limit calls) (origins_of area limit calls)
 traced area limit calls = traced_from area limit fresh_plain no_origins calls fresh_traced

@@ -16,9 +16,9 @@ returns-then-header c =
 pub returns-in-Absent : goal.returns-in-Absent
 returns-in-Absent c =
     let s = c in
-    rw (options_tested s.args.row s.args.header s.requires, c.if-row.false, c.if-header.false, c.enum_told-1.given.1)
+    rw (options_tested s.args.row s.args.header s.requires, c.if-row.false, c.if-header.false, c.in-Absent.is)
 
 pub returns-in-Present : goal.returns-in-Present
 returns-in-Present c =
     let s = c in
-    rw (options_tested s.args.row s.args.header s.requires, c.if-row.false, c.if-header.false, c.enum_told-in-Present-1.given.1)
+    rw (options_tested s.args.row s.args.header s.requires, c.if-row.false, c.if-header.false, c.in-Present.is)

@@ -4,9 +4,10 @@ use Rattle.protocol.specs.Layout as fields
 use native.Mathlib.Omega.{arith}
 use Rattle.headers.proofs.layout.count.Goals as goal
 
+pub number_u32-requires-clause-unit_in_bounds : goal.number_u32-requires-clause-unit_in_bounds
+number_u32-requires-clause-unit_in_bounds c =
+    let s = c in omega (arith, s.requires.sound.inside fields.count)
+
 pub returns : goal.returns
 unfolding count_in
 returns c = c.number_u32.ensures
-
-pub number_u32-requires-clause-unit_in_bounds : goal.number_u32-requires-clause-unit_in_bounds
-number_u32-requires-clause-unit_in_bounds c = ?

@@ -14,4 +14,4 @@ unfolding put_there pick
 returns c =
     let w = c in
     let t = w in
-    rw (← t.place.ensures, ne_eqb _ _ t.if1.false, w.write_u32.ensures)
+    rw (← t.place-at.ensures, ne_eqb _ _ t.if-at-eq0.false, w.write_u32.ensures)

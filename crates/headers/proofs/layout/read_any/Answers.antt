@@ -6,6 +6,42 @@ use Rattle.protocol.specs.Layout.{Field, credit_request, layout, msg_id, msg_len
 use Rattle.protocol.proofs.LayoutLaws.{read_there}
 use Rattle.headers.proofs.layout.read_any.Goals as goal
 
+pub number_u32-requires-clause-unit_in_bounds : goal.number_u32-requires-clause-unit_in_bounds
+number_u32-requires-clause-unit_in_bounds c =
+    let s = c in omega (arith, s.requires.sound.inside msg_id)
+
+pub number_u32-requires-2-clause-unit_in_bounds : goal.number_u32-requires-2-clause-unit_in_bounds
+number_u32-requires-2-clause-unit_in_bounds c =
+    let s = c in omega (arith, s.requires.sound.inside recv_id)
+
+pub number_u32-requires-3-clause-unit_in_bounds : goal.number_u32-requires-3-clause-unit_in_bounds
+number_u32-requires-3-clause-unit_in_bounds c =
+    let s = c in omega (arith, s.requires.sound.inside send_id)
+
+pub number_u64-requires-clause-unit_in_bounds : goal.number_u64-requires-clause-unit_in_bounds
+number_u64-requires-clause-unit_in_bounds c =
+    let s = c in omega (arith, s.requires.sound.inside msg_length)
+
+pub number_u64-requires-2-clause-unit_in_bounds : goal.number_u64-requires-2-clause-unit_in_bounds
+number_u64-requires-2-clause-unit_in_bounds c =
+    let s = c in omega (arith, s.requires.sound.inside seg_length)
+
+pub number_u64-requires-3-clause-unit_in_bounds : goal.number_u64-requires-3-clause-unit_in_bounds
+number_u64-requires-3-clause-unit_in_bounds c =
+    let s = c in omega (arith, s.requires.sound.inside recv_length)
+
+pub number_u64-requires-4-clause-unit_in_bounds : goal.number_u64-requires-4-clause-unit_in_bounds
+number_u64-requires-4-clause-unit_in_bounds c =
+    let s = c in omega (arith, s.requires.sound.inside seg_offset)
+
+pub number_u32-requires-4-clause-unit_in_bounds : goal.number_u32-requires-4-clause-unit_in_bounds
+number_u32-requires-4-clause-unit_in_bounds c =
+    let s = c in omega (arith, s.requires.sound.inside credit_request)
+
+pub number_u64-requires-5-clause-unit_in_bounds : goal.number_u64-requires-5-clause-unit_in_bounds
+number_u64-requires-5-clause-unit_in_bounds c =
+    let s = c in omega (arith, s.requires.sound.inside tag)
+
 pub returns : goal.returns
 unfolding fields_in
 returns c =
@@ -23,30 +59,3 @@ returns c =
       credit_request = (c.number_u32-4.ensures ∙ there credit_request) i;
       tag = (c.number_u64-5.ensures ∙ there tag) i;
     }
-
-pub number_u32-requires-clause-unit_in_bounds : goal.number_u32-requires-clause-unit_in_bounds
-number_u32-requires-clause-unit_in_bounds c = ?
-
-pub number_u32-requires-2-clause-unit_in_bounds : goal.number_u32-requires-2-clause-unit_in_bounds
-number_u32-requires-2-clause-unit_in_bounds c = ?
-
-pub number_u32-requires-3-clause-unit_in_bounds : goal.number_u32-requires-3-clause-unit_in_bounds
-number_u32-requires-3-clause-unit_in_bounds c = ?
-
-pub number_u64-requires-clause-unit_in_bounds : goal.number_u64-requires-clause-unit_in_bounds
-number_u64-requires-clause-unit_in_bounds c = ?
-
-pub number_u64-requires-2-clause-unit_in_bounds : goal.number_u64-requires-2-clause-unit_in_bounds
-number_u64-requires-2-clause-unit_in_bounds c = ?
-
-pub number_u64-requires-3-clause-unit_in_bounds : goal.number_u64-requires-3-clause-unit_in_bounds
-number_u64-requires-3-clause-unit_in_bounds c = ?
-
-pub number_u64-requires-4-clause-unit_in_bounds : goal.number_u64-requires-4-clause-unit_in_bounds
-number_u64-requires-4-clause-unit_in_bounds c = ?
-
-pub number_u32-requires-4-clause-unit_in_bounds : goal.number_u32-requires-4-clause-unit_in_bounds
-number_u32-requires-4-clause-unit_in_bounds c = ?
-
-pub number_u64-requires-5-clause-unit_in_bounds : goal.number_u64-requires-5-clause-unit_in_bounds
-number_u64-requires-5-clause-unit_in_bounds c = ?

@@ -12,5 +12,5 @@ returns c =
     let w2 = w3 in
     let w1 = w2 in
     let s = w1 in
-    rw (w4.write_valueless.ensures, w3.write-others.ensures, w2.write-lengths.ensures, w1.write-ids.ensures)
+    rw (w4.write_valueless.ensures, w3.write_others.ensures, w2.write_lengths.ensures, w1.write_ids.ensures)
     (fields_put s.args.count s.args.header s.args.out.now s.args.row s.requires.sound s.requires.header_in_bounds)

@@ -5,6 +5,22 @@ use Rattle.laws.specs.Choose.{pick}
 use Rattle.protocol.specs.Layout.{msg_length, recv_length, seg_length, seg_offset}
 use Rattle.headers.proofs.layout.write_lengths.Goals as goal
 
+pub put_u64-requires-clause-unit_in_bounds : goal.put_u64-requires-clause-unit_in_bounds
+put_u64-requires-clause-unit_in_bounds c =
+    let s = c in omega (arith, s.requires.sound.inside msg_length)
+
+pub put_u64-requires-2-clause-unit_in_bounds : goal.put_u64-requires-2-clause-unit_in_bounds
+put_u64-requires-2-clause-unit_in_bounds c =
+    let s = c in omega (arith, s.requires.sound.inside seg_length)
+
+pub put_u64-requires-3-clause-unit_in_bounds : goal.put_u64-requires-3-clause-unit_in_bounds
+put_u64-requires-3-clause-unit_in_bounds c =
+    let s = c in omega (arith, s.requires.sound.inside recv_length)
+
+pub put_u64-requires-4-clause-unit_in_bounds : goal.put_u64-requires-4-clause-unit_in_bounds
+put_u64-requires-4-clause-unit_in_bounds c =
+    let s = c in omega (arith, s.requires.sound.inside seg_offset)
+
 pub returns : goal.returns
 unfolding pick
 returns c =
@@ -12,16 +28,4 @@ returns c =
     let w3 = w4 in
     let w2 = w3 in
     let w1 = w2 in
-    rw (w4.put_u64-4.ensures, w3.put-u643.ensures, w2.put-u642.ensures, w1.put-u64.ensures)
-
-pub put_u64-requires-clause-unit_in_bounds : goal.put_u64-requires-clause-unit_in_bounds
-put_u64-requires-clause-unit_in_bounds c = ?
-
-pub put_u64-requires-2-clause-unit_in_bounds : goal.put_u64-requires-2-clause-unit_in_bounds
-put_u64-requires-2-clause-unit_in_bounds c = ?
-
-pub put_u64-requires-3-clause-unit_in_bounds : goal.put_u64-requires-3-clause-unit_in_bounds
-put_u64-requires-3-clause-unit_in_bounds c = ?
-
-pub put_u64-requires-4-clause-unit_in_bounds : goal.put_u64-requires-4-clause-unit_in_bounds
-put_u64-requires-4-clause-unit_in_bounds c = ?
+    rw (w4.put_u64-4.ensures, w3.put_u64-3.ensures, w2.put_u64-2.ensures, w1.put_u64.ensures)

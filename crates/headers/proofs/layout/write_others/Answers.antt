@@ -5,15 +5,17 @@ use Rattle.laws.specs.Choose.{pick}
 use Rattle.protocol.specs.Layout.{credit_request, tag}
 use Rattle.headers.proofs.layout.write_others.Goals as goal
 
+pub put_u32-requires-clause-unit_in_bounds : goal.put_u32-requires-clause-unit_in_bounds
+put_u32-requires-clause-unit_in_bounds c =
+    let s = c in omega (arith, s.requires.sound.inside credit_request)
+
+pub put_u64-requires-clause-unit_in_bounds : goal.put_u64-requires-clause-unit_in_bounds
+put_u64-requires-clause-unit_in_bounds c =
+    let s = c in omega (arith, s.requires.sound.inside tag)
+
 pub returns : goal.returns
 unfolding pick
 returns c =
     let w2 = c in
     let w1 = w2 in
-    rw (w2.put_u64.ensures, w1.put-u32.ensures)
-
-pub put_u32-requires-clause-unit_in_bounds : goal.put_u32-requires-clause-unit_in_bounds
-put_u32-requires-clause-unit_in_bounds c = ?
-
-pub put_u64-requires-clause-unit_in_bounds : goal.put_u64-requires-clause-unit_in_bounds
-put_u64-requires-clause-unit_in_bounds c = ?
+    rw (w2.put_u64.ensures, w1.put_u32.ensures)

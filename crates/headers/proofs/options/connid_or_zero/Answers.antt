@@ -5,8 +5,8 @@ use Rattle.headers.proofs.options.connid_or_zero.Goals as goal
 
 pub returns-in-Absent : goal.returns-in-Absent
 unfolding connid_or_zero
-returns-in-Absent c = rw c.enum_told-1.given.1
+returns-in-Absent c = rw c.in-Absent.is
 
 pub returns-in-Present : goal.returns-in-Present
 unfolding connid_or_zero
-returns-in-Present c = rw c.connid-1.given.1
+returns-in-Present c = rw c.in-Present.is

@@ -7,13 +7,15 @@ use Rattle.laws.proofs.Storing.{store_nothing}
 use Rattle.wire.proofs.Laws.{length_le}
 use Rattle.headers.proofs.options.write_connid.Goals as goal
 
+pub write_number-requires-clause-width_in_bounds : goal.write_number-requires-clause-width_in_bounds
+unfolding connid_bytes
+write_number-requires-clause-width_in_bounds c =
+    let p = c.requires in rw (c.in-Present.is, length_le) at p.connid_in_bounds
+
 pub returns-in-Absent : goal.returns-in-Absent
 unfolding connid_bytes
-returns-in-Absent c = rw c.enum_told-1.given.1 (omega arith, sym (store_nothing _ _))
+returns-in-Absent c = rw c.in-Absent.is (omega arith, sym (store_nothing _ _))
 
 pub returns-in-Present : goal.returns-in-Present
 unfolding connid_bytes
-returns-in-Present c = rw (c.connid-1.given.1, length_le) c.write_number.ensures
-
-pub write_number-requires-clause-width_in_bounds : goal.write_number-requires-clause-width_in_bounds
-write_number-requires-clause-width_in_bounds c = ?
+returns-in-Present c = rw (c.in-Present.is, length_le) c.write_number.ensures

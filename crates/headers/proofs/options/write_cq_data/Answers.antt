@@ -9,12 +9,12 @@ use Rattle.headers.proofs.options.write_cq_data.Goals as goal
 
 pub write_u64-requires : goal.write_u64-requires
 unfolding cq_data_bytes
-write_u64-requires c = rw (c.cq_data-1.given.1, length_le) at c.requires
+write_u64-requires c = rw (c.in-Present.is, length_le) at c.requires
 
 pub returns-in-Absent : goal.returns-in-Absent
 unfolding cq_data_bytes
-returns-in-Absent c = rw c.enum_told-1.given.1 (omega arith, sym (store_nothing _ _))
+returns-in-Absent c = rw c.in-Absent.is (omega arith, sym (store_nothing _ _))
 
 pub returns-in-Present : goal.returns-in-Present
 unfolding cq_data_bytes
-returns-in-Present c = rw (c.cq_data-1.given.1, length_le, c.write_u64.ensures) (refl, refl)
+returns-in-Present c = rw (c.in-Present.is, length_le, c.write_u64.ensures) (refl, refl)

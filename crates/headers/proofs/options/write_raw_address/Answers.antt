@@ -20,12 +20,12 @@ room : (c : Else-not-there) → let a = c.args in a.at + (4 + length a.raw.now) 
 unfolding pick
 room c =
     let s = c in
-    rw (not-false s.args.there c.if-not-there.false, length_raw true s.args.raw.now) at s.requires.raw_in_bounds
+    rw (c.if-not-there.false, length_raw true s.args.raw.now) at s.requires.raw_in_bounds
 
 pub returns-then-not-there : goal.returns-then-not-there
 unfolding raw_address_bytes pick
 returns-then-not-there c =
-    rw (not-true c.args.there c.if-not-there.true) (omega arith, sym (store_nothing _ _))
+    rw (c.if-not-there.true) (omega arith, sym (store_nothing _ _))
 
 pub write_u32-requires : goal.write_u32-requires
 write_u32-requires c = omega (arith, room (goal.at.write_u32-requires c).Else-not-there)
@@ -44,5 +44,5 @@ returns c =
     let p = room (goal.at.returns c).Else-not-there in
     let w = c.write_bytes.ensures in
     let e = store_next a.out.now a.at size raw (a.at + 4) (omega arith) (omega arith) in
-    rw (not-false a.there t.if-not-there.false, length-append)
+    rw (t.if-not-there.false, length-append)
     (omega arith, w.1 ∙ rw c.write_u32.ensures e)

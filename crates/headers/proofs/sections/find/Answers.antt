@@ -13,6 +13,14 @@ use native.Mathlib.Omega.{arith}
 use Rattle.headers.proofs.sections.find.Goals as goal
 use Rattle.headers.proofs.sections.find.Goals.{After-length-size}
 
+-- an array has less than 2^40 bytes
+array_short : (c : After-length-size) → c.length-size.result < 2 ^ 40
+array_short c =
+    let n = c in
+    let s = n in
+    let l : n.count.result < 2 ^ 32 = omega arith in
+    rw c.length-size.ensures (array_small s.args.row n.count.result s.requires l)
+
 pub returns-then-bytes-at : goal.returns-then-bytes-at
 unfolding sections_behind after_array
 returns-then-bytes-at c =
@@ -24,6 +32,10 @@ returns-then-row-eq0 c =
     let a = c.args in
     rw (c.behind.ensures, extent_in_steps a.row a.flags a.bytes.now, after_no_array a.row a.bytes.now c.if-row-eq0.true)
 
+pub behind-requires-2-clause-at_bound : goal.behind-requires-2-clause-at_bound
+behind-requires-2-clause-at_bound c =
+    let s = c in omega (arith, header_bounds s.args.row s.requires, array_short (goal.at.behind-requires-2-clause-at_bound c).After-length-size)
+
 pub returns : goal.returns
 unfolding after_array pick
 returns c =
@@ -33,7 +45,4 @@ returns c =
     rw (c.behind-2.ensures, c.length-size.ensures, n.count.ensures, extent_in_steps a.row a.flags a.bytes.now, e)
 
 pub overflow_add-at : goal.overflow_add-at
-overflow_add-at c = ?
-
-pub behind-requires-2-clause-at_bound : goal.behind-requires-2-clause-at_bound
-behind-requires-2-clause-at_bound c = ?
+overflow_add-at c = omega (arith, header_bounds c.args.row c.requires, array_short (goal.at.overflow_add-at c).After-length-size)

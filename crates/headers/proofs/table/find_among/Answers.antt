@@ -8,20 +8,20 @@ pub returns-then-all : goal.returns-then-all
 unfolding admit pick
 returns-then-all c =
     let r = c in
-    rw (← r.find.ensures, r.row-1.given.1, c.if-all.true)
+    rw (← r.find.ensures, r.in-Row.is, c.if-all.true)
 
 pub returns-then-row : goal.returns-then-row
 unfolding admit pick
 returns-then-row c =
     let r = c in
-    rw (← r.find.ensures, r.row-1.given.1, c.if-all.false, c.if-row.true)
+    rw (← r.find.ensures, r.in-Row.is, c.if-all.false, c.if-row.true)
 
 pub returns-in-Unknown : goal.returns-in-Unknown
 unfolding admit
-returns-in-Unknown c = rw (← c.find.ensures, c.enum_told-1.given.1)
+returns-in-Unknown c = rw (← c.find.ensures, c.in-Unknown.is)
 
 pub returns-else-row : goal.returns-else-row
 unfolding admit pick
 returns-else-row c =
     let r = c in
-    rw (← r.find.ensures, r.row-1.given.1, c.if-all.false, c.if-row.false)
+    rw (← r.find.ensures, r.in-Row.is, c.if-all.false, c.if-row.false)
