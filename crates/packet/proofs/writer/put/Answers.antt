@@ -1,0 +1,98 @@
+-- `packet::writer::put` meets its contract: the parts of a packet are stored side by side.
+use Prim.Native.Nat.{◌+◌, ◌≤◌}
+use borrow.Author.Rules.{rules}
+use lib.ListN.{length, length-append}
+use mathlib.Core.List.{◌++◌}
+use native.Mathlib.Omega.{arith}
+use Rattle.protocol.specs.Options.{connid_bytes, cq_data_bytes, raw_address_bytes}
+use Rattle.protocol.specs.Writing.{mandatory_bytes}
+use Rattle.laws.proofs.Storing.{store_next}
+use Rattle.protocol.proofs.StepLaws.{packet_in_steps}
+use Rattle.protocol.proofs.WritingLaws.{length_mandatory, length_packet, raw_fits}
+use Rattle.protocol.specs.Limits.{packet_limit}
+use Rattle.packet.proofs.writer.put.Goals as goal
+use Rattle.packet.proofs.writer.put.Goals.{Start}
+
+-- the parts have room
+room : (c : Start) → let a = c.args in
+    a.row.header
+    + length a.array.now
+    + length (raw_address_bytes a.header.raw_address a.raw.now)
+    + length (cq_data_bytes a.header.cq_data)
+    + length (connid_bytes a.row a.header.connid)
+    + length a.«data».now
+    ≤ length a.out.now
+room c =
+    let a = c.args in
+    let p = c.requires.1.1 in
+    rw (← length_packet a.row a.header a.array.now a.raw.now a.«data».now c.requires.sound p.0 p.1.0) p.1.1.1
+
+pub write_bytes-after_array-requires : goal.write_bytes-after_array-requires
+write_bytes-after_array-requires c = omega (arith, room (goal.at.write_bytes-after_array-requires c).Start)
+
+pub write_cq_data-after_cq-requires : goal.write_cq_data-after_cq-requires
+write_cq_data-after_cq-requires c =
+    omega (arith, room (goal.at.write_cq_data-after_cq-requires c).Start)
+
+pub write_bytes-requires : goal.write_bytes-requires
+write_bytes-requires c =
+    let w5 = c in
+    let w4 = w5 in
+    let w3 = w4 in
+    let w2 = w3 in
+    let w1 = w2 in
+    omega (arith, w5.write_connid-data_at, w4.write_cq_data-after_cq, w3.write_raw_address-after_raw, w2.write_bytes-after_array, w1.put_mandatory.auto, room (goal.at.write_bytes-requires c).Start)
+
+pub returns : goal.returns
+returns c =
+    let w6 = c in
+    let w5 = w6 in
+    let w4 = w5 in
+    let w3 = w4 in
+    let w2 = w3 in
+    let w1 = w2 in
+    let s = w1 in
+    let r = s.args.row in
+    let h = s.args.header in
+    let l = s.args.out.now in
+    let arr = s.args.array.now in
+    let head = mandatory_bytes r h (length arr) in
+    let raw = raw_address_bytes h.raw_address s.args.raw.now in
+    let cq = cq_data_bytes h.cq_data in
+    let id = connid_bytes r h.connid in
+    let n1 = length_mandatory r h (length arr) s.requires.sound in
+    let n2 = length-append head arr in
+    let n3 = length-append (head ++ arr) raw in
+    let n4 = length-append (head ++ arr ++ raw) cq in
+    let n5 = length-append (head ++ arr ++ raw ++ cq) id in
+    let n6 = room (goal.at.returns c).Start in
+    let p = s.requires.1.1 in
+    rw (
+      packet_in_steps r h arr s.args.raw.now s.args.«data».now s.requires.sound p.0 p.1.0,
+      w6.write_bytes.ensures.1,
+      w5.write_connid-data_at.ensures.1,
+      w4.write_cq_data-after_cq.ensures.1,
+      w3.write_raw_address-after_raw.ensures.1,
+      w2.write_bytes-after_array.ensures.1,
+      w1.put_mandatory.ensures,
+      store_next l 0 head arr r.header (omega arith) (omega arith),
+      store_next l 0 (head ++ arr) raw w2.write_bytes-after_array.result (omega arith) (omega arith),
+      store_next l 0 (head ++ arr ++ raw) cq w3.write_raw_address-after_raw.result (omega arith) (omega arith),
+      store_next l 0 (head ++ arr ++ raw ++ cq) id w4.write_cq_data-after_cq.result (omega arith) (omega arith),
+    )
+    (store_next l 0 (head ++ arr ++ raw ++ cq ++ id) s.args.«data».now w5.write_connid-data_at.result (omega arith) (omega arith))
+
+pub put_mandatory-requires-clause-header_in_bounds : goal.put_mandatory-requires-clause-header_in_bounds
+put_mandatory-requires-clause-header_in_bounds c = ?
+
+pub put_mandatory-requires-clause-n_le_packet_limit : goal.put_mandatory-requires-clause-n_le_packet_limit
+put_mandatory-requires-clause-n_le_packet_limit c = ?
+
+pub write_raw_address-after_raw-requires-clause-raw_in_bounds : goal.write_raw_address-after_raw-requires-clause-raw_in_bounds
+write_raw_address-after_raw-requires-clause-raw_in_bounds c = ?
+
+pub write_raw_address-after_raw-requires-clause-raw_len_bound : goal.write_raw_address-after_raw-requires-clause-raw_len_bound
+write_raw_address-after_raw-requires-clause-raw_len_bound c = ?
+
+pub write_connid-data_at-requires-clause-connid_in_bounds : goal.write_connid-data_at-requires-clause-connid_in_bounds
+write_connid-data_at-requires-clause-connid_in_bounds c = ?

@@ -1,0 +1,33 @@
+-- `posting::ages::count_older` meets its contract. The loop's invariant: the slots passed are counted, one each at most.
+use Prim.Native.Nat.{◌+◌, ◌-◌, ◌≤◌}
+use borrow.Author.Rules.{rules}
+use lib.ListN.{length, drop}
+use mathlib.Core.Path.{◌≡◌, sym}
+use native.Mathlib.Nat.{add_assoc}
+use native.Mathlib.Omega.{arith}
+use Rattle.laws.proofs.Listing.{length_mapped}
+use Rattle.peer.specs.Calls.{count_older}
+use Rattle.peer.specs.State.{phase_at, slot_count}
+use Rattle.peer.proofs.Slots.SlotTurns.{older_end, older_turn, one_older_le}
+use Rattle.posting.proofs.ages.count_older.Goals as goal
+
+pub overflow_add-n : goal.overflow_add-n
+overflow_add-n c =
+    let l = c in
+    let one : c.one_older-n.result ≤ 1 = rw c.one_older-n.ensures (one_older_le l.args.age (phase_at l.args.peer.slots l.loop-i.i)) in
+    omega arith
+
+pub loop-i-preserved : goal.loop-i-preserved
+loop-i-preserved c =
+    let l = c in
+    let ss = l.args.peer.slots in
+    let len : length ss ≡ slot_count = search length_mapped in
+    let one : c.one_older-n.result ≤ 1 = rw c.one_older-n.ensures (one_older_le l.args.age (phase_at ss l.loop-i.i)) in
+    (omega arith, omega arith, rw (l.loop-i.invariant.2, older_turn ss l.loop-i.i (omega (arith, len)) l.args.age, ← c.one_older-n.ensures) (sym (add_assoc l.loop-i.n _ _)))
+
+pub returns : goal.returns
+returns c =
+    let l = c in
+    let ss = l.args.peer.slots in
+    let len : length ss ≡ slot_count = search length_mapped in
+    omega (arith, l.loop-i.invariant.2, older_end ss l.loop-i.i (omega (arith, len)) l.args.age)

@@ -1,0 +1,29 @@
+-- `posting::ages::renumbered` meets its contract. The loop's invariant: the slots passed have their new ages.
+use Prim.Native.Nat.{ℕ, ◌-◌, ◌≤◌}
+use borrow.Author.Rules.{rules}
+use lib.ListN.{length}
+use lib.Seq.{paste, paste-zero}
+use mathlib.Core.List.{List}
+use mathlib.Core.Path.{◌≡◌, refl, ap₂, ◌∙◌}
+use native.Mathlib.Omega.{arith}
+use Rattle.laws.proofs.Listing.{length_mapped}
+use Rattle.peer.specs.Calls.{renumbered}
+use Rattle.peer.specs.declared.types.Slot.{Slot}
+use Rattle.posting.proofs.Renumbering.{all_renumbered, renumbered_turn}
+use Rattle.peer.specs.State.{slot_count}
+use Rattle.posting.proofs.ages.renumbered.Goals as goal
+
+pub loop-i-preserved : goal.loop-i-preserved
+loop-i-preserved c =
+    let l = c in
+    let ss = l.args.all.slots in
+    let len : length ss ≡ slot_count = search length_mapped in
+    (omega arith, l.loop-i.invariant.1, rw c.renumbered_slot.ensures (renumbered_turn ss l.loop-i.peer.slots l.loop-i.i (omega (arith, len)) l.loop-i.invariant.2))
+
+pub returns : goal.returns
+returns c =
+    let l = c in
+    let ss = l.args.all.slots in
+    let len : length ss ≡ slot_count = search length_mapped in
+    let all : l.loop-i.i ≡ length ss = omega (arith, len) in
+    ap₂ (λ (n : ℕ) (s : List Slot). record { next = n; slots = s }) l.loop-i.invariant.1 (rw all at l.loop-i.invariant.2 ∙ all_renumbered ss)

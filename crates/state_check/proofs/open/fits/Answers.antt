@@ -1,0 +1,23 @@
+-- `state_check::open::fits` meets its contract.
+use borrow.Author.Rules.{rules}
+use borrow.Author.Tests.{not-true, not-false, le-leb, lt-leb}
+use Rattle.peer.specs.State.{phase_fits}
+use Rattle.state_check.proofs.open.fits.Goals as goal
+
+pub returns-then-not-ends_by : goal.returns-then-not-ends_by
+unfolding phase_fits
+returns-then-not-ends_by c = rw (← c.ends_by.ensures, c.if-not-ends_by.true)
+
+pub returns-then-receive-message : goal.returns-then-receive-message
+unfolding phase_fits
+returns-then-receive-message c =
+    let e = c in
+    let o = e.args.inbound in
+    rw (← e.ends_by.ensures, c.if-not-ends_by.false, lt-leb o.message.length o.receive.capacity c.if-receive-message.true)
+
+pub returns : goal.returns
+unfolding phase_fits
+returns c =
+    let e = c in
+    let o = e.args.inbound in
+    rw (← e.ends_by.ensures, c.if-not-ends_by.false, le-leb o.message.length o.receive.capacity c.if-receive-message.false)

@@ -1,0 +1,32 @@
+-- `state_check::slots_fit` meets its contract. The loop's invariant: the slots passed fit.
+use Prim.Native.Nat.{◌-◌, ◌≤◌}
+use borrow.Author.Rules.{rules}
+use borrow.Author.Tests.{not-true, not-false}
+use lib.ListN.{length, drop}
+use mathlib.Core.Path.{◌≡◌, sym, ◌∙◌}
+use native.Mathlib.Omega.{arith}
+use Rattle.laws.proofs.Listing.{length_mapped}
+use Rattle.peer.specs.State.{all_fit, slot_count}
+use Rattle.peer.proofs.Slots.SlotTurns.{fit_end, fit_turn}
+use Rattle.state_check.proofs.slots_fit.Goals as goal
+
+pub returns-then-not-fits : goal.returns-then-not-fits
+returns-then-not-fits c =
+    let l = c in
+    let ss = l.args.peer.slots in
+    let len : length ss ≡ slot_count = search length_mapped in
+    rw (l.loop-i.invariant.1, fit_turn ss l.loop-i.i (omega (arith, len)) l.args.area, ← c.fits.ensures, c.if-not-fits.true)
+
+pub loop-i-preserved : goal.loop-i-preserved
+loop-i-preserved c =
+    let l = c in
+    let ss = l.args.peer.slots in
+    let len : length ss ≡ slot_count = search length_mapped in
+    (omega arith, rw (l.loop-i.invariant.1, fit_turn ss l.loop-i.i (omega (arith, len)) l.args.area, ← c.fits.ensures, c.if-not-fits.false))
+
+pub returns : goal.returns
+returns c =
+    let l = c in
+    let ss = l.args.peer.slots in
+    let len : length ss ≡ slot_count = search length_mapped in
+    sym (l.loop-i.invariant.1 ∙ fit_end ss l.loop-i.i (omega (arith, len)) l.args.area)
