@@ -24,8 +24,8 @@ room : (c : Start) → let a = c.args in
     ≤ length a.out.now
 room c =
     let a = c.args in
-    let p = c.requires.1.1 in
-    rw (← length_packet a.row a.header a.array.now a.raw.now a.«data».now c.requires.sound p.0 p.1.0) p.1.1.1
+    let p = c.requires in
+    rw (← length_packet a.row a.header a.array.now a.raw.now a.«data».now p.sound p.header_value p.array_value) p.data_in_bounds
 
 pub write_bytes-after_array-requires : goal.write_bytes-after_array-requires
 write_bytes-after_array-requires c = omega (arith, room (goal.at.write_bytes-after_array-requires c).Start)
@@ -66,9 +66,9 @@ returns c =
     let n4 = length-append (head ++ arr ++ raw) cq in
     let n5 = length-append (head ++ arr ++ raw ++ cq) id in
     let n6 = room (goal.at.returns c).Start in
-    let p = s.requires.1.1 in
+    let p = s.requires in
     rw (
-      packet_in_steps r h arr s.args.raw.now s.args.«data».now s.requires.sound p.0 p.1.0,
+      packet_in_steps r h arr s.args.raw.now s.args.«data».now p.sound p.header_value p.array_value,
       w6.write_bytes.ensures.1,
       w5.write_connid-data_at.ensures.1,
       w4.write_cq_data-after_cq.ensures.1,
@@ -83,16 +83,30 @@ returns c =
     (store_next l 0 (head ++ arr ++ raw ++ cq ++ id) s.args.«data».now w5.write_connid-data_at.result (omega arith) (omega arith))
 
 pub put_mandatory-requires-clause-header_in_bounds : goal.put_mandatory-requires-clause-header_in_bounds
-put_mandatory-requires-clause-header_in_bounds c = ?
+put_mandatory-requires-clause-header_in_bounds c = omega (arith, room (goal.at.put_mandatory-requires-clause-header_in_bounds c).Start)
 
 pub put_mandatory-requires-clause-n_le_packet_limit : goal.put_mandatory-requires-clause-n_le_packet_limit
-put_mandatory-requires-clause-n_le_packet_limit c = ?
+put_mandatory-requires-clause-n_le_packet_limit c =
+    let a = c.args in
+    let p = c.requires in
+    omega (arith, length_packet a.row a.header a.array.now a.raw.now a.«data».now p.sound p.header_value p.array_value, p.data_len_bound)
 
 pub write_raw_address-after_raw-requires-clause-raw_in_bounds : goal.write_raw_address-after_raw-requires-clause-raw_in_bounds
-write_raw_address-after_raw-requires-clause-raw_in_bounds c = ?
+write_raw_address-after_raw-requires-clause-raw_in_bounds c = omega (arith, room (goal.at.write_raw_address-after_raw-requires-clause-raw_in_bounds c).Start)
 
 pub write_raw_address-after_raw-requires-clause-raw_len_bound : goal.write_raw_address-after_raw-requires-clause-raw_len_bound
-write_raw_address-after_raw-requires-clause-raw_len_bound c = ?
+write_raw_address-after_raw-requires-clause-raw_len_bound c =
+    let a = c.args in
+    let p = c.requires in
+    raw_fits a.row a.header a.array.now a.raw.now a.«data».now p.sound p.header_value p.array_value p.data_len_bound
 
 pub write_connid-data_at-requires-clause-connid_in_bounds : goal.write_connid-data_at-requires-clause-connid_in_bounds
-write_connid-data_at-requires-clause-connid_in_bounds c = ?
+write_connid-data_at-requires-clause-connid_in_bounds c =
+    omega (
+      arith,
+      c.write_cq_data-after_cq,
+      c.write_raw_address-after_raw,
+      c.write_bytes-after_array,
+      c.put_mandatory.auto,
+      room (goal.at.write_connid-data_at-requires-clause-connid_in_bounds c).Start,
+    )

@@ -8,6 +8,10 @@ use native.Mathlib.Omega.{arith}
 use Rattle.packet.proofs.writer.total.Goals as goal
 use Rattle.packet.proofs.writer.total.Goals.{After-head_length-head}
 
+-- the headers without the raw address are short
+head : (c : After-head_length-head) → c.head_length-head.result ≤ 80
+head c = rw c.head_length-head.ensures (head_small c.args.row c.args.flags c.requires.sound)
+
 pub returns-then-size-gt-PACKET_LIMIT : goal.returns-then-size-gt-PACKET_LIMIT
 returns-then-size-gt-PACKET_LIMIT c =
     let s = c in
@@ -47,19 +51,19 @@ returns c =
     rw (c.limited-2.ensures, k.head_length-head.ensures) (sym (total_with a.row a.flags a.array a.raw a.size s.requires.array_value e))
 
 pub overflow_add-head : goal.overflow_add-head
-overflow_add-head c = ?
+overflow_add-head c = omega (arith, head (goal.at.overflow_add-head c).After-head_length-head)
 
 pub overflow_add-head-then-not-raw_address : goal.overflow_add-head-then-not-raw_address
-overflow_add-head-then-not-raw_address c = ?
+overflow_add-head-then-not-raw_address c = omega (arith, head (goal.at.overflow_add-head-then-not-raw_address c).After-head_length-head)
 
 pub overflow_add-head-2 : goal.overflow_add-head-2
-overflow_add-head-2 c = ?
+overflow_add-head-2 c = omega (arith, head (goal.at.overflow_add-head-2 c).After-head_length-head)
 
 pub overflow_add-head-3 : goal.overflow_add-head-3
-overflow_add-head-3 c = ?
+overflow_add-head-3 c = omega (arith, head (goal.at.overflow_add-head-3 c).After-head_length-head)
 
 pub overflow_add-head-4 : goal.overflow_add-head-4
-overflow_add-head-4 c = ?
+overflow_add-head-4 c = omega (arith, head (goal.at.overflow_add-head-4 c).After-head_length-head)
 
 pub overflow_add-head-5 : goal.overflow_add-head-5
-overflow_add-head-5 c = ?
+overflow_add-head-5 c = omega (arith, head (goal.at.overflow_add-head-5 c).After-head_length-head)

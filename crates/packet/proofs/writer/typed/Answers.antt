@@ -1,21 +1,26 @@
 -- `packet::writer::typed` meets its contract. The length that `total` answers is the packet's.
-use Prim.Native.Nat.{◌≤◌}
+use Prim.Native.Nat.{ℕ, ◌≤◌}
 use borrow.Author.Rules.{rules}
 use borrow.Author.Tests.{not-true, not-false, lt-ltb, le-ltb}
 use lib.ListN.{length}
-use mathlib.Core.Bool.{true}
+use mathlib.Core.Bool.{Bool, true, ◌&&◌}
+use mathlib.Core.List.{List}
 use mathlib.Core.Path.{◌≡◌, sym, ◌∙◌}
 use native.Mathlib.Omega.{arith}
 use Rattle.laws.specs.Choose.{pick}
 use Rattle.protocol.specs.Arrays.{array_allowed}
-use Rattle.protocol.specs.Optional.{options_fit}
-use Rattle.protocol.specs.Totals.{limited_to}
+use Rattle.protocol.specs.Optional.{flags_of, options_fit}
+use Rattle.protocol.specs.Rules.{Sound}
+use Rattle.protocol.specs.declared.table.TypeRow.{TypeRow}
+use Rattle.protocol.specs.declared.types.Header.{Header}
+use Rattle.protocol.specs.declared.types.Length.{Length}
+use Rattle.protocol.specs.Totals.{limited_to, total_of}
 use Rattle.protocol.specs.Writing.{packet_bytes, write_as, write_bytes}
 use Rattle.laws.proofs.Choosing.{and_left, and_right}
 use Rattle.protocol.proofs.WritingLaws.{limited_above, limited_bytes, total_is}
 use Rattle.protocol.specs.Limits.{packet_limit}
 use Rattle.packet.proofs.writer.typed.Goals as goal
-use Rattle.packet.proofs.writer.typed.Goals.{After-total, Else-not-lengths_fit, In-Bytes}
+use Rattle.packet.proofs.writer.typed.Goals.{Else-not-lengths_fit, In-Bytes}
 
 -- past the tests of optional headers, array and lengths, the bytes are written
 passed : (c : Else-not-lengths_fit) → let a = c.args in
@@ -30,29 +35,29 @@ passed c =
     rw (← f1.may_have.ensures, e1, ← f2.lengths_fit.ensures, e2)
 
 -- the type may have the optional headers and the array
-fitting : (c : Else-not-lengths_fit) → let a = c.args in
-    (options_fit a.row a.header ≡ true) × (array_allowed a.row (length a.array.now) ≡ true)
-fitting c =
-    let f = c in
-    let a = f.args in
-    let e = sym f.may_have.ensures ∙ c.if-not-may_have.false in
-    (and_left _ (array_allowed a.row (length a.array.now)) e, and_right (options_fit a.row a.header) _ e)
+fitting : (r : TypeRow) (h : Header) (n : ℕ) {m : Bool} → m ≡ (options_fit r h && array_allowed r n) → m ≡ true
+    → (options_fit r h ≡ true) × (array_allowed r n ≡ true)
+fitting r h n e x =
+    let w = sym e ∙ x in
+    (and_left _ (array_allowed r n) w, and_right (options_fit r h) _ w)
 
 -- `total` answers the packet's length, if the limit allows it
-answered : (c : After-total) → let a = c.args in
-    limited_to (length (packet_bytes a.row a.header a.array.now a.raw.now a.«data».now)) ≡ c.total.result
-answered c =
-    let w = c in
-    let s = w in
-    let a = s.args in
-    let (t, u) = fitting c.before.before in
-    sym (total_is a.row a.header a.array.now a.raw.now a.«data».now s.requires t u) ∙ sym (rw w.written-flags.ensures at c.total.ensures)
+answered : (r : TypeRow) (h : Header) (array raw body : List ℕ) {m : Bool} {flags : ℕ} {x : Length} → Sound r
+    → m ≡ (options_fit r h && array_allowed r (length array)) → m ≡ true → flags ≡ flags_of r h
+    → x ≡ total_of r flags (length array) (length raw) (length body) → limited_to (length (packet_bytes r h array raw body)) ≡ x
+answered r h array raw body s e m f x =
+    let (t, u) = fitting r h (length array) e m in
+    sym (total_is r h array raw body s t u) ∙ sym (rw f at x)
 
 measured : (c : In-Bytes) →
     let a = c.args in
     let bytes = packet_bytes a.row a.header a.array.now a.raw.now a.«data».now in
     (length bytes ≡ c.in-Bytes.n) × (length bytes ≤ packet_limit)
-measured c = limited_bytes _ _ (answered c.before.before.before ∙ c.in-Bytes.is)
+measured c =
+    let a = c.args in
+    limited_bytes _ _
+    (answered a.row a.header a.array.now a.raw.now a.«data».now c.requires c.may_have.ensures c.if-not-may_have.false c.written-flags.ensures c.total.ensures
+    ∙ c.in-Bytes.is)
 
 pub returns-then-not-may_have : goal.returns-then-not-may_have
 unfolding write_as pick
@@ -82,7 +87,8 @@ pub returns-in-Above : goal.returns-in-Above
 unfolding write_bytes pick
 returns-in-Above c =
     let t = c in
-    let e = limited_above _ (answered (goal.at.returns-in-Above c).After-total ∙ c.in-Above.is) in
+    let e = limited_above _ (answered c.args.row c.args.header c.args.array.now c.args.raw.now c.args.«data».now c.requires c.may_have.ensures c.if-not-may_have.false c.written-flags.ensures c.total.ensures
+    ∙ c.in-Above.is) in
     rw (passed (goal.at.returns-in-Above c).Else-not-lengths_fit, lt-ltb packet_limit _ e, c.refused-in-Above.ensures)
 
 pub returns-else-out-n : goal.returns-else-out-n
@@ -95,7 +101,7 @@ returns-else-out-n c =
     rw (passed (goal.at.returns-else-out-n c).Else-not-lengths_fit, le-ltb packet_limit _ m.1, le-ltb _ _ k, w.put.ensures, m.0)
 
 pub put-requires-clause-data_len_bound : goal.put-requires-clause-data_len_bound
-put-requires-clause-data_len_bound c = ?
+put-requires-clause-data_len_bound c = (measured (goal.at.put-requires-clause-data_len_bound c).In-Bytes).1
 
 pub put-requires-clause-data_in_bounds : goal.put-requires-clause-data_in_bounds
-put-requires-clause-data_in_bounds c = ?
+put-requires-clause-data_in_bounds c = omega (arith, measured (goal.at.put-requires-clause-data_in_bounds c).In-Bytes)
