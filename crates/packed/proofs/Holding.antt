@@ -116,9 +116,9 @@ read_held limit bs q b e =
     let there = any_read served_row limit bs q e in
     let numbers = read_numbers bs b limit q there in
     record {
-      id = pick_either (λ (n : ℕ). n < 2 ^ 32) _ (numbers.fields Field.msg-id) (numbers.fields Field.recv-id);
-      send_id = numbers.fields Field.send-id;
-      credit_request = numbers.fields Field.credit-request;
+      id = pick_either (λ (n : ℕ). n < 2 ^ 32) _ (numbers.fields Field.msg_id) (numbers.fields Field.recv_id);
+      send_id = numbers.fields Field.send_id;
+      credit_request = numbers.fields Field.credit_request;
     }
 
 settled_held : (limit : ℕ) (p : Peer) (i : ℕ) (o : Inbound) (g : Progress) → PeerHeld p → MessageHeld o.message → PeerHeld (with_phase p i (settled_as limit i o g).phase)

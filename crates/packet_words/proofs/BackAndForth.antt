@@ -55,14 +55,14 @@ use Rattle.protocol.specs.Limits.{packet_limit}
 
 -- a field that holds its number says it
 number_said : (v : List ℕ) (f : Field) → field_word v f < 256 ^ width f → number_in (words_fields v) f ≡ field_word v f
-number_said v Field.msg-id h = mod-eq_of_lt h
-number_said v Field.recv-id h = mod-eq_of_lt h
-number_said v Field.send-id h = mod-eq_of_lt h
-number_said v Field.msg-length h = refl
-number_said v Field.seg-length h = refl
-number_said v Field.recv-length h = refl
-number_said v Field.seg-offset h = refl
-number_said v Field.credit-request h = mod-eq_of_lt h
+number_said v Field.msg_id h = mod-eq_of_lt h
+number_said v Field.recv_id h = mod-eq_of_lt h
+number_said v Field.send_id h = mod-eq_of_lt h
+number_said v Field.msg_length h = refl
+number_said v Field.seg_length h = refl
+number_said v Field.recv_length h = refl
+number_said v Field.seg_offset h = refl
+number_said v Field.credit_request h = mod-eq_of_lt h
 number_said v Field.tag h = refl
 number_said v Field.multiuse h = refl
 number_said v Field.padding h = refl
@@ -103,14 +103,14 @@ numbers_said v words =
     }
   where
     small : (f : Field) → number_in (words_fields v) f < 256 ^ width f
-    small Field.msg-id = mod-lt (get_or v 1 0) (lit< tt)
-    small Field.recv-id = mod-lt (get_or v 2 0) (lit< tt)
-    small Field.send-id = mod-lt (get_or v 3 0) (lit< tt)
-    small Field.msg-length = words 4
-    small Field.seg-length = words 5
-    small Field.recv-length = words 6
-    small Field.seg-offset = words 7
-    small Field.credit-request = mod-lt (get_or v 8 0) (lit< tt)
+    small Field.msg_id = mod-lt (get_or v 1 0) (lit< tt)
+    small Field.recv_id = mod-lt (get_or v 2 0) (lit< tt)
+    small Field.send_id = mod-lt (get_or v 3 0) (lit< tt)
+    small Field.msg_length = words 4
+    small Field.seg_length = words 5
+    small Field.recv_length = words 6
+    small Field.seg_offset = words 7
+    small Field.credit_request = mod-lt (get_or v 8 0) (lit< tt)
     small Field.tag = words 9
     small Field.multiuse = lit< tt
     small Field.padding = lit< tt

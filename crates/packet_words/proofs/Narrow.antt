@@ -41,10 +41,10 @@ module _ (v : List ℕ) (words : (i : ℕ) → get_or v i 0 < 2 ^ 64) (narrow : 
   fits padding = refl
   fits count = refl
 
-  fields_fit : (fs : List Field) → fields_fit v fs ≡ true
+  fields_fit_lem : (fs : List Field) → fields_fit v fs ≡ true
   unfolding fields_fit
-  fields_fit [] = refl
-  fields_fit (f ∷ fs) = and_intro _ _ (fits f) (fields_fit fs)
+  fields_fit_lem [] = refl
+  fields_fit_lem (f ∷ fs) = and_intro _ _ (fits f) (fields_fit_lem fs)
 
   connid_fits_lem : connid_fits v ≡ true
   unfolding all_narrow
@@ -55,7 +55,7 @@ module _ (v : List ℕ) (words : (i : ℕ) → get_or v i 0 < 2 ^ 64) (narrow : 
 
   words_fit_lem : (r : TypeRow) → words_fit r v ≡ true
   unfolding words_fit
-  words_fit_lem r = and_intro _ _ (fields_fit _) connid_fits_lem
+  words_fit_lem r = and_intro _ _ (fields_fit_lem _) connid_fits_lem
 
   pub written_at_once : (raw body out : List ℕ) (size : ℕ) → type_word v ≤ 255
       → put_typed (row_of (type_word v)) v raw body out size ≡ put_of size (write_of (words_header v) raw body out)

@@ -87,14 +87,14 @@ module _ (values : List ℕ) (p : Packet) where
 
   field_word_lem : (f : Field) → field_word words_of f ≡ number_in p.header.fields f
   unfolding value_words
-  field_word_lem Field.msg-id = word_at 1 (lit< tt)
-  field_word_lem Field.recv-id = word_at 2 (lit< tt)
-  field_word_lem Field.send-id = word_at 3 (lit< tt)
-  field_word_lem Field.msg-length = word_at 4 (lit< tt)
-  field_word_lem Field.seg-length = word_at 5 (lit< tt)
-  field_word_lem Field.recv-length = word_at 6 (lit< tt)
-  field_word_lem Field.seg-offset = word_at 7 (lit< tt)
-  field_word_lem Field.credit-request = word_at 8 (lit< tt)
+  field_word_lem Field.msg_id = word_at 1 (lit< tt)
+  field_word_lem Field.recv_id = word_at 2 (lit< tt)
+  field_word_lem Field.send_id = word_at 3 (lit< tt)
+  field_word_lem Field.msg_length = word_at 4 (lit< tt)
+  field_word_lem Field.seg_length = word_at 5 (lit< tt)
+  field_word_lem Field.recv_length = word_at 6 (lit< tt)
+  field_word_lem Field.seg_offset = word_at 7 (lit< tt)
+  field_word_lem Field.credit_request = word_at 8 (lit< tt)
   field_word_lem Field.tag = word_at 9 (lit< tt)
   field_word_lem Field.multiuse = refl
   field_word_lem Field.padding = refl

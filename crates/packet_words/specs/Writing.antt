@@ -21,14 +21,14 @@ use Rattle.packet_words.specs.Values.{value_count}
 
 -- the number that the words give an own field; padding, multiuse and count have none
 abbrev pub field_word : List ℕ → Field → ℕ
-field_word v Field.msg-id = get_or v 1 0
-field_word v Field.recv-id = get_or v 2 0
-field_word v Field.send-id = get_or v 3 0
-field_word v Field.msg-length = get_or v 4 0
-field_word v Field.seg-length = get_or v 5 0
-field_word v Field.recv-length = get_or v 6 0
-field_word v Field.seg-offset = get_or v 7 0
-field_word v Field.credit-request = get_or v 8 0
+field_word v Field.msg_id = get_or v 1 0
+field_word v Field.recv_id = get_or v 2 0
+field_word v Field.send_id = get_or v 3 0
+field_word v Field.msg_length = get_or v 4 0
+field_word v Field.seg_length = get_or v 5 0
+field_word v Field.recv_length = get_or v 6 0
+field_word v Field.seg_offset = get_or v 7 0
+field_word v Field.credit_request = get_or v 8 0
 field_word v Field.tag = get_or v 9 0
 field_word v Field.multiuse = 0
 field_word v Field.padding = 0
@@ -59,14 +59,14 @@ connid_number v = get_or v 16 0
 abbrev pub words_fields : List ℕ → Fields
 words_fields v =
     record {
-      msg_id = field_word v Field.msg-id % 2 ^ 32;
-      recv_id = field_word v Field.recv-id % 2 ^ 32;
-      send_id = field_word v Field.send-id % 2 ^ 32;
-      msg_length = field_word v Field.msg-length;
-      seg_length = field_word v Field.seg-length;
-      recv_length = field_word v Field.recv-length;
-      seg_offset = field_word v Field.seg-offset;
-      credit_request = field_word v Field.credit-request % 2 ^ 32;
+      msg_id = field_word v Field.msg_id % 2 ^ 32;
+      recv_id = field_word v Field.recv_id % 2 ^ 32;
+      send_id = field_word v Field.send_id % 2 ^ 32;
+      msg_length = field_word v Field.msg_length;
+      seg_length = field_word v Field.seg_length;
+      recv_length = field_word v Field.recv_length;
+      seg_offset = field_word v Field.seg_offset;
+      credit_request = field_word v Field.credit_request % 2 ^ 32;
       tag = field_word v Field.tag;
     }
 
@@ -103,9 +103,9 @@ connid_fits v = holds (connid_word v) (connid_number v)
 -- every number of 32 bits is one, whatever fields the type has
 unfoldable pub all_narrow : List ℕ → Bool
 all_narrow v =
-    ltb (field_word v Field.msg-id) (2 ^ 32)
-    && (ltb (field_word v Field.recv-id) (2 ^ 32)
-    && (ltb (field_word v Field.send-id) (2 ^ 32) && (ltb (field_word v Field.credit-request) (2 ^ 32) && ltb (connid_number v) (2 ^ 32))))
+    ltb (field_word v Field.msg_id) (2 ^ 32)
+    && (ltb (field_word v Field.recv_id) (2 ^ 32)
+    && (ltb (field_word v Field.send_id) (2 ^ 32) && (ltb (field_word v Field.credit_request) (2 ^ 32) && ltb (connid_number v) (2 ^ 32))))
 
 -- the type's own fields, and a connid that is there
 unfoldable pub words_fit : TypeRow → List ℕ → Bool

@@ -1,0 +1,35 @@
+-- `packet_words::writing::write_as` meets its contract: its two refusals come before the packet writer's own.
+use borrow.Author.Rules.{rules}
+use borrow.Author.Tests.{not-true, not-false}
+use Rattle.laws.specs.Choose.{pick}
+use Rattle.packet_words.specs.Writing.{put_typed}
+use Rattle.packet_words.proofs.writing.write_as.Goals as goal
+
+pub returns-then-not-options_fit : goal.returns-then-not-options_fit
+unfolding put_typed pick
+returns-then-not-options_fit c = rw (← c.options_fit.ensures, c.if-not-options_fit.true)
+
+pub returns-then-not-numbers_fit : goal.returns-then-not-numbers_fit
+unfolding put_typed pick
+returns-then-not-numbers_fit c =
+    let o = c in
+    rw (
+      ← o.options_fit.ensures,
+      o.if-not-options_fit.false,
+      ← c.numbers_fit.ensures,
+      c.if-not-numbers_fit.true,
+    )
+
+pub returns : goal.returns
+unfolding put_typed pick
+returns c =
+    let w = c in
+    let m = w in
+    let o = m in
+    rw (
+      ← o.options_fit.ensures,
+      o.if-not-options_fit.false,
+      ← m.numbers_fit.ensures,
+      m.if-not-numbers_fit.false,
+    )
+    w.write_header.ensures

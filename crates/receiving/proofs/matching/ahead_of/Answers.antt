@@ -1,0 +1,8 @@
+-- `receiving::matching::ahead_of` meets its contract.
+use Rattle.std.proofs.Common.{arith, rules}
+use Rattle.peer.specs.Matching.{ahead}
+use Rattle.receiving.proofs.matching.ahead_of.Goals as goal
+
+pub returns : goal.returns
+unfolding ahead
+returns c = omega arith

@@ -1,0 +1,22 @@
+-- `receiving::matching::find_oldest` meets its contract. The loop's invariant: the rest, with the best so far, has the oldest of all.
+use Rattle.std.proofs.Common.{◌≡◌, ◌-◌, ◌≤◌, length, drop, sym, ◌∙◌, arith, rules}
+use Rattle.laws.proofs.Listing.{length_mapped}
+use Rattle.peer.specs.Matching.{oldest}
+use Rattle.peer.specs.declared.types.Fit.{Fit}
+use Rattle.peer.proofs.Slots.SlotTurns.{oldest_end, oldest_turn}
+use Rattle.peer.specs.State.{slot_count}
+use Rattle.receiving.proofs.matching.find_oldest.Goals as goal
+
+pub loop-i-preserved : goal.loop-i-preserved
+loop-i-preserved c =
+    let l = c in
+    let ss = l.args.peer.slots in
+    let len : length ss ≡ slot_count = search length_mapped in
+    (omega arith, rw (l.loop-i.invariant.1, oldest_turn ss l.loop-i.i (omega (arith, len)) l.args.h l.loop-i.best, c.older_here-best.ensures))
+
+pub returns : goal.returns
+returns c =
+    let l = c in
+    let ss = l.args.peer.slots in
+    let len : length ss ≡ slot_count = search length_mapped in
+    sym (l.loop-i.invariant.1 ∙ oldest_end ss l.loop-i.i (omega (arith, len)) l.args.h l.loop-i.best)

@@ -1,0 +1,28 @@
+-- `receiving::matching::find_open` meets its contract. The loop's invariant: no slot passed is open under the id, so that it is looked for in the rest.
+use Rattle.std.proofs.Common.{◌≡◌, ◌-◌, ◌≤◌, length, drop, sym, ◌∙◌, arith, rules}
+use Rattle.laws.proofs.Listing.{length_mapped}
+use Rattle.peer.specs.Matching.{find_open}
+use Rattle.peer.proofs.Slots.SlotTurns.{open_end, open_turn}
+use Rattle.peer.specs.State.{slot_count}
+use Rattle.receiving.proofs.matching.find_open.Goals as goal
+
+pub returns-in-At : goal.returns-in-At
+returns-in-At c =
+    let l = c in
+    let ss = l.args.peer.slots in
+    let len : length ss ≡ slot_count = search length_mapped in
+    rw (l.loop-i.invariant.1, open_turn ss l.loop-i.i (omega (arith, len)) l.args.id, ← c.open_under-found.ensures, c.in-At.is)
+
+pub loop-i-preserved : goal.loop-i-preserved
+loop-i-preserved c =
+    let l = c in
+    let ss = l.args.peer.slots in
+    let len : length ss ≡ slot_count = search length_mapped in
+    (omega arith, rw (l.loop-i.invariant.1, open_turn ss l.loop-i.i (omega (arith, len)) l.args.id, ← c.open_under-found.ensures, c.in_default.is))
+
+pub returns : goal.returns
+returns c =
+    let l = c in
+    let ss = l.args.peer.slots in
+    let len : length ss ≡ slot_count = search length_mapped in
+    sym (l.loop-i.invariant.1 ∙ open_end ss l.loop-i.i (omega (arith, len)) l.args.id)
