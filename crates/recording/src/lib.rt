@@ -1,4 +1,6 @@
 // A recorded run as bytes: its set-up numbers and entries, written to a place of a slice.
+#![tactic(auto)]
+
 mod number;
 mod types;
 mod writing;

@@ -92,6 +92,7 @@ call_read_back s at peer (Call.Packet sent reply) next (hp, hc, e, none, h) =
     let (y, w) = pair hp hc w in
     let b : behind at ns ≡ place = omega (arith, behind_is ns at, length-append (numbers_bytes ns) bytes, h.place) in
     rw (x, y, b, le-leb (place + count) (length s) (omega (arith, h.inside)), e, none)
+call_read_back s at peer (Call.Local (LocalCall.Report _)) next h = elim h [ ]
 call_read_back s at peer (Call.Local (LocalCall.Cancel slot)) next (hp, hs, h) =
     let (w, b) = start s at next (3 ∷ peer ∷ slot ∷ []) h in
     let (x, w) = number (omega arith) w in

@@ -1,4 +1,6 @@
 // A recorded run as bytes: its numbers and entries, read at a place of a slice.
+#![tactic(auto)]
+
 mod number;
 mod reading;
 mod types;

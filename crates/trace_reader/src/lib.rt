@@ -1,5 +1,7 @@
-// A trace reader: the bytes of a trace, and a place in them. The borrow checker covers no function over
-// such a struct, so each takes it apart and calls the function of `trace` on a slice and a number.
+// A trace reader: the bytes of a trace, and a place in them. Each function over it takes it apart and
+// calls the function of `trace` on a slice and a number.
+#![tactic(auto)]
+
 ghost use Rattle.std.specs.Prelude.{◌≡◌};
 ghost use Rattle.trace.specs.Entries.{set_up_at, entry_at};
 

@@ -1,5 +1,4 @@
--- `trace::reading::cancel_at` meets its contract: each arm is a case of `cancelAt`, by what `pair_at` answers.
-use borrow.Author.Rules.{rules}
+-- `trace::reading::cancel_at` meets its contract: each arm is a case of `cancel_at`, by what `pair_at` answers.
 use Rattle.trace.specs.Entries.{cancel_at}
 use Rattle.trace.proofs.reading.cancel_at.Goals as goal
 

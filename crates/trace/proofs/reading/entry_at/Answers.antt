@@ -1,5 +1,4 @@
--- `trace::reading::entry_at` meets its contract: each arm is a case of `entryAt`, by what `number_at` answers and the tests of the first number.
-use borrow.Author.Rules.{rules}
+-- `trace::reading::entry_at` meets its contract: each arm is a case of `entry_at`, by what `number_at` answers and the tests of the first number.
 use borrow.Author.Tests.{eq-eqb, ne_eqb}
 use Rattle.laws.specs.Choose.{pick}
 use Rattle.trace.specs.Entries.{entry_at}

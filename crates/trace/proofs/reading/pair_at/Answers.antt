@@ -1,5 +1,4 @@
 -- `trace::reading::pair_at` meets its contract: each arm is a case of `pair_at`, by what `number_at` answers.
-use borrow.Author.Rules.{rules}
 use Rattle.trace.specs.Entries.{pair_at}
 use Rattle.trace.proofs.reading.pair_at.Goals as goal
 

@@ -1,5 +1,4 @@
--- `trace::reading::post_at` meets its contract: each arm is a case of `postAt`, by what `pair_at` and `receive_at` answer and the test of the kind.
-use borrow.Author.Rules.{rules}
+-- `trace::reading::post_at` meets its contract: each arm is a case of `post_at`, by what `pair_at` and `receive_at` answer and the test of the kind.
 use borrow.Author.Tests.{le-leb, lt-leb}
 use Rattle.laws.specs.Choose.{pick}
 use Rattle.trace.specs.Entries.{post_at}

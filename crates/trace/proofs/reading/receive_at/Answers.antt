@@ -1,5 +1,4 @@
--- `trace::reading::receive_at` meets its contract: each arm is a case of `receiveAt`, by what `pair_at` answers twice.
-use borrow.Author.Rules.{rules}
+-- `trace::reading::receive_at` meets its contract: each arm is a case of `receive_at`, by what `pair_at` answers twice.
 use Rattle.trace.specs.Entries.{receive_at}
 use Rattle.trace.proofs.reading.receive_at.Goals as goal
 

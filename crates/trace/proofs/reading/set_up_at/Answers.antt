@@ -1,5 +1,4 @@
--- `trace::reading::set_up_at` meets its contract: each arm is a case of `setUpAt`, by what `pair_at` and `number_at` answer.
-use borrow.Author.Rules.{rules}
+-- `trace::reading::set_up_at` meets its contract: each arm is a case of `set_up_at`, by what `pair_at` and `number_at` answer.
 use mathlib.Core.Path.{refl}
 use Rattle.trace.specs.Entries.{set_up_at}
 use Rattle.trace.proofs.reading.set_up_at.Goals as goal

@@ -1,0 +1,27 @@
+-- `lending::dispatch::step` meets its contract: a call of a peer leaves, of what is lent whole, what its own step leaves of its parts.
+use borrow.Author.Rules.{rules}
+use mathlib.Core.Path.{ap, ◌∙◌}
+use native.Mathlib.Omega.{arith}
+use Rattle.peer.specs.Calls.{peer_step}
+use Rattle.laws.proofs.Storing.{lent_part}
+use Rattle.lending.proofs.StepLaws.{local_call, packet_leaves_lem, quiet_leaves}
+use Rattle.lending.proofs.dispatch.step.Goals as goal
+
+pub returns-in-Local : goal.returns-in-Local
+returns-in-Local c =
+    let s = c in
+    let k = c.call-1.given in
+    let a = s.args in
+    let q = ap (peer_step a.area a.limit a.there _) (local_call k.0.0) in
+    rw k.1 (quiet_leaves _ _ _ _ _ _ _ _ s.requires.owned.mapped.in_map (c.local.ensures a.limit ∙ q))
+
+pub returns-in-Packet : goal.returns-in-Packet
+unfolding peer_step
+returns-in-Packet c =
+    let q = c.packet_at in
+    let k = c in
+    let sent = k.in-Packet.sent in
+    let s = k in
+    let i = rw k.in-Packet.is at s.requires.lies_within in
+    rw k.in-Packet.is
+    (packet_leaves_lem _ _ _ _ _ _ _ _ _ _ _ _ i.1 q.auto.map.1.1.1.1.1.1.0 (rw (lent_part s.args.bytes.now sent.at sent.size) at q.ensures))

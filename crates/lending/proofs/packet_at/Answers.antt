@@ -1,0 +1,18 @@
+-- `lending::packet_at` meets its contract: what the peer stores in its own part is stored in the whole.
+use Prim.Native.Nat.{◌*◌, ◌/◌}
+use borrow.Author.Rules.{rules}
+use lib.ListN.{length}
+use mathlib.Core.Path.{◌≡◌}
+use Rattle.laws.proofs.Storing.{length_lent}
+use Rattle.laws.proofs.Listing.{length_mapped}
+use Rattle.lending.proofs.PartLaws.{own_part, packet_put}
+use Rattle.peer.specs.State.{slot_count}
+use Rattle.lending.proofs.packet_at.Goals as goal
+
+pub returns : goal.returns
+returns c =
+    let s = c in
+    let a = s.args in
+    let m = s.requires in
+    let len : length a.there.slots ≡ slot_count = search length_mapped in
+    packet_put a.area a.limit a.p a.there a.arena.now a.map.now a.reply.now a.bytes.now m len _ c.packet.ensures
