@@ -10,10 +10,9 @@ use Rattle.lending.proofs.dispatch.step.Goals as goal
 pub returns-in-Local : goal.returns-in-Local
 returns-in-Local c =
     let s = c in
-    let k = c.call-1.given in
     let a = s.args in
-    let q = ap (peer_step a.area a.limit a.there _) (local_call k.0.0) in
-    rw k.1 (quiet_leaves _ _ _ _ _ _ _ _ s.requires.owned.mapped.in_map (c.local.ensures a.limit ∙ q))
+    let q = ap (peer_step a.area a.limit a.there _) (local_call c.in-Local.local_call) in
+    rw c.in-Local.is (quiet_leaves _ _ _ _ _ _ _ _ s.requires.owned.mapped.in_map (c.local.ensures a.limit ∙ q))
 
 pub returns-in-Packet : goal.returns-in-Packet
 unfolding peer_step
@@ -24,4 +23,4 @@ returns-in-Packet c =
     let s = k in
     let i = rw k.in-Packet.is at s.requires.lies_within in
     rw k.in-Packet.is
-    (packet_leaves_lem _ _ _ _ _ _ _ _ _ _ _ _ i.1 q.auto.map.1.1.1.1.1.1.0 (rw (lent_part s.args.bytes.now sent.at sent.size) at q.ensures))
+    (packet_leaves_lem _ _ _ _ _ _ _ _ _ _ _ _ i.1 q.auto.reply (rw (lent_part s.args.bytes.now sent.at sent.size) at q.ensures))
