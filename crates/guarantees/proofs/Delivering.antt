@@ -35,7 +35,7 @@ origins_next : (area limit : ℕ) (l : Plain) (gs : List Origin) (before : List 
     ≡ note_origin (target_of_call limit (plain_after area limit l before) c) (origins_from area limit l gs before) c (expected area limit (plain_after area limit l before) c)
 unfolding plain_after origins_from
 origins_next area limit l gs [] c = refl
-origins_next area limit l gs (b ∷ bs) c = origins_next area limit _ _ bs c
+origins_next area limit l gs (b ∷ bs) c = origins_next area limit (enter limit l b (expected area limit l b)) _ bs c
 
 module _ (area limit : ℕ) (low : 64 ≤ limit) where
   delivered : (before : List Call) (c : Call)
@@ -75,7 +75,7 @@ module _ (area limit : ℕ) (low : 64 ≤ limit) where
 answers_seen : (area limit : ℕ) (l : Plain) (cs : List Call) → answers_in (plain_run area limit l cs) ≡ answers_of area limit l cs
 unfolding alone answers_of
 answers_seen area limit l [] = refl
-answers_seen area limit l (c ∷ cs) = ap (λ (rest : List Answer). expected area limit l c ∷ rest) (answers_seen area limit _ cs)
+answers_seen area limit l (c ∷ cs) = ap (λ (rest : List Answer). expected area limit l c ∷ rest) (answers_seen area limit (enter limit l c (expected area limit l c)) cs)
 
 delivered_all : (area limit : ℕ) (calls : List Call) → 64 ≤ limit → DeliveredAll area limit calls (plain_run area limit fresh_plain calls)
 unfolding Once MatchedByCount
