@@ -4,6 +4,7 @@ ghost use Rattle.std.specs.Prelude.{◌≤◌, length};
 use crate::line::LineNumbers;
 use crate::{drive, line, print};
 use peer::{LocalCall, Receive};
+use std::io;
 
 // The names, as numbers in base 256.
 const TITLE: u64 = 0x7469746c65;
@@ -149,19 +150,19 @@ fn named(text: &[u8], name: u64, end: usize) -> Line
 }
 
 // What a line asks for. Comments and blank lines are passed over, and a title is printed at once.
-pub(crate) fn read(text: &[u8]) -> Line {
+pub(crate) fn read(rt: &impl Print, text: &[u8]) -> io::Result<Line> {
     let none = Line {
         call: Command::None,
         bytes: [0; 128],
     };
     if text.len() == 0 || text[0] == b'#' {
-        return none;
+        return Ok(none);
     }
     let end = line::find(text, 0, b' ');
     let name = line::name(text, end);
     if name == TITLE {
-        print::title(&text[end..]);
-        return none;
+        print::title(rt, &text[end..])?;
+        return Ok(none);
     }
-    named(text, name, end)
+    Ok(named(text, name, end))
 }

@@ -5,6 +5,7 @@ use crate::call::{Command, LentLengths};
 use crate::print;
 use engine::{Engine, Outcome};
 use peer::{LocalCall, Peer};
+use std::io;
 
 // What arena and reply buffer hold before a call writes to them.
 pub(crate) const FILL: u8 = 0xEE;
@@ -52,19 +53,19 @@ pub(crate) fn unset() -> Run {
     }
 }
 
-fn set_up(n: usize, area: usize, limit: usize) -> Run {
+fn set_up(rt: &impl Print, n: usize, area: usize, limit: usize) -> io::Result<Run> {
     let arena = [FILL; ARENA];
     let mut map = [SOILED; MAP];
     let started = engine::set_up(n, area, limit, &arena, &mut map);
     let answer = started.answer;
-    print::ready(answer);
+    print::ready(rt, answer)?;
     let engine = started.engine;
-    Run {
+    Ok(Run {
         engine,
         arena,
         map,
         lent: whole(),
-    }
+    })
 }
 
 // How much of a buffer is used. What was read is never more than there is, which is not known here.
@@ -95,15 +96,15 @@ fn answered(
 }
 
 // Makes a call that writes to no buffer, and prints what it answers.
-fn local(mut run: Run, peer: usize, call: LocalCall) -> Run {
+fn local(rt: &impl Print, mut run: Run, peer: usize, call: LocalCall) -> io::Result<Run> {
     let arena = run.arena;
     let map = run.map;
     let outcome = answered(run.engine, peer, call, run.lent, &arena, &map);
     let answer = outcome.answer;
-    print::answer(answer);
+    print::answer(rt, answer)?;
     let engine = outcome.engine;
     run.engine = engine;
-    run
+    Ok(run)
 }
 
 // What a packet is answered.
@@ -130,7 +131,7 @@ fn received(
 }
 
 // Hands a packet in, and prints what it is answered, with the reply buffer if that was written to.
-fn packet(run: Run, peer: usize, bytes: &[u8], length: usize) -> Run {
+fn packet(rt: &impl Print, run: Run, peer: usize, bytes: &[u8], length: usize) -> io::Result<Run> {
     let n = least(length, bytes.len());
     let mut arena = run.arena;
     let mut map = run.map;
@@ -146,40 +147,46 @@ fn packet(run: Run, peer: usize, bytes: &[u8], length: usize) -> Run {
         &mut reply,
     );
     let answer = outcome.answer;
-    print::answer(answer);
-    print::reply(&reply);
+    print::answer(rt, answer)?;
+    print::reply(rt, &reply)?;
     let engine = outcome.engine;
-    Run {
+    Ok(Run {
         engine,
         arena,
         map,
         lent,
-    }
+    })
 }
 
 // Does what a line asks for.
-pub(crate) fn turn(mut run: Run, call: Command, bytes: &[u8], line: usize) -> Run {
+pub(crate) fn turn(
+    rt: &impl Print,
+    mut run: Run,
+    call: Command,
+    bytes: &[u8],
+    line: usize,
+) -> io::Result<Run> {
     match call {
-        Command::None => run,
+        Command::None => Ok(run),
         Command::Bad => {
-            print::bad(line);
-            run
+            print::bad(rt, line)?;
+            Ok(run)
         }
-        Command::SetUp(n, area, limit) => set_up(n, area, limit),
+        Command::SetUp(n, area, limit) => set_up(rt, n, area, limit),
         Command::Lend(lent) => {
             run.lent = lent;
-            run
+            Ok(run)
         }
         Command::Limit(limit) => {
             run.engine.limit = limit;
-            run
+            Ok(run)
         }
         Command::Show => {
             let arena = run.arena;
-            print::arena(&arena);
-            run
+            print::arena(rt, &arena)?;
+            Ok(run)
         }
-        Command::Local(peer, call) => local(run, peer, call),
-        Command::Packet(peer, length) => packet(run, peer, bytes, length),
+        Command::Local(peer, call) => local(rt, run, peer, call),
+        Command::Packet(peer, length) => packet(rt, run, peer, bytes, length),
     }
 }

@@ -1,6 +1,7 @@
 // A vector is read, or values are written, and one line says what came of it.
 use crate::{fields, print};
 use protocol::{Header, PACKET_LIMIT, Packet, Read, Refusal, Span, Written};
+use std::io;
 
 // What a buffer holds before a packet is written to it.
 pub(crate) const FILL: u8 = 0xEE;
@@ -8,38 +9,38 @@ pub(crate) const FILL: u8 = 0xEE;
 // The longest buffer here: it has room for more than a packet may have.
 pub(crate) const LARGE: usize = 8200;
 
-fn refused(refusal: Refusal) {
-    print::number(b" refused ", refusal.number as u64);
+fn refused(rt: &impl Print, refusal: Refusal) -> io::Result<()> {
+    print::number(rt, b" refused ", refusal.number as u64)
 }
 
-fn raw_address(there: bool, span: Span) {
+fn raw_address(rt: &impl Print, there: bool, span: Span) -> io::Result<()> {
     if there {
-        print::span(b" raw_address at ", span);
+        print::span(rt, b" raw_address at ", span)
     } else {
-        print::text(b" raw_address none");
+        print::text(rt, b" raw_address none")
     }
 }
 
-fn values(packet: Packet) {
+fn values(rt: &impl Print, packet: Packet) -> io::Result<()> {
     let header = packet.header;
     let fields = header.fields;
-    print::number(b" type ", header.kind as u64);
-    fields::own(header.kind, fields);
+    print::number(rt, b" type ", header.kind as u64)?;
+    fields::own(rt, header.kind, fields)?;
     let raw = packet.raw_address;
-    raw_address(header.raw_address, raw);
+    raw_address(rt, header.raw_address, raw)?;
     let cq_data = header.cq_data;
-    print::cq_data(cq_data);
+    print::cq_data(rt, cq_data)?;
     let connid = header.connid;
-    print::connid(connid);
+    print::connid(rt, connid)?;
     let data = packet.data;
-    print::span(b" data at ", data);
+    print::span(rt, b" data at ", data)
 }
 
-fn answer(name: &[u8], read: Read) {
-    print::text(name);
+fn answer(rt: &impl Print, name: &[u8], read: Read) -> io::Result<()> {
+    print::text(rt, name)?;
     match read {
-        Read::Refused(refusal) => refused(refusal),
-        Read::Packet(packet) => values(packet),
+        Read::Refused(refusal) => refused(rt, refusal),
+        Read::Packet(packet) => values(rt, packet),
     }
 }
 
@@ -58,104 +59,113 @@ fn part(bytes: &[u8], span: Span) -> &[u8] {
 
 // Prints each byte from `from` on that is not as it was, up to where one of the two ends, and
 // answers whether there is none.
-fn unchanged(was: &[u8], is: &[u8], from: usize) -> bool {
+fn unchanged(rt: &impl Print, was: &[u8], is: &[u8], from: usize) -> io::Result<bool> {
     let mut none = true;
     let mut i = from;
     while i < was.len() {
         if is.len() <= i {
-            return none;
+            return Ok(none);
         }
         let a = was[i];
         let b = is[i];
         if a != b {
             none = false;
-            print::change(i, a, b);
+            print::change(rt, i, a, b)?;
         }
         i += 1;
     }
-    none
+    Ok(none)
 }
 
 // Says that the bytes of the buffer from `from` on still are FILL, or which are not.
-fn kept(out: &[u8], from: usize, words: &[u8]) {
+fn kept(rt: &impl Print, out: &[u8], from: usize, words: &[u8]) -> io::Result<()> {
     let filled = [FILL; LARGE];
-    print::text(b",");
-    if unchanged(&filled, out, from) {
-        print::text(words);
+    print::text(rt, b",")?;
+    if unchanged(rt, &filled, out, from)? {
+        print::text(rt, words)?;
     }
-    print::text(b"\n");
+    print::text(rt, b"\n")
 }
 
-fn write_refused(refusal: Refusal, out: &[u8]) {
-    print::text(b" write");
-    refused(refusal);
-    kept(out, 0, b" buffer kept");
+fn write_refused(rt: &impl Print, refusal: Refusal, out: &[u8]) -> io::Result<()> {
+    print::text(rt, b" write")?;
+    refused(rt, refusal)?;
+    kept(rt, out, 0, b" buffer kept")
 }
 
-fn written(n: usize, bytes: &[u8], out: &[u8]) {
-    print::number(b" written ", n as u64);
-    if unchanged(bytes, out, 0) {
-        print::text(b" same");
+fn written(rt: &impl Print, n: usize, bytes: &[u8], out: &[u8]) -> io::Result<()> {
+    print::number(rt, b" written ", n as u64)?;
+    if unchanged(rt, bytes, out, 0)? {
+        print::text(rt, b" same")?;
     }
-    kept(out, n, b" rest kept");
+    kept(rt, out, n, b" rest kept")
 }
 
 // Writes the values to a buffer full of FILL and compares it with the bytes that are expected.
 pub(crate) fn write(
+    rt: &impl Print,
     name: &[u8],
     header: Header,
     raw: &[u8],
     data: &[u8],
     bytes: &[u8],
     out: &mut [u8],
-) {
-    print::text(name);
+) -> io::Result<()> {
+    print::text(rt, name)?;
     match packet::write(header, raw, data, out) {
-        Written::Refused(refusal) => write_refused(refusal, out),
-        Written::Length(n) => written(n, bytes, out),
+        Written::Refused(refusal) => write_refused(rt, refusal, out),
+        Written::Length(n) => written(rt, n, bytes, out),
     }
 }
 
 // Writes the values that were read from the bytes.
-fn write_back(name: &[u8], bytes: &[u8], packet: Packet) {
+fn write_back(rt: &impl Print, name: &[u8], bytes: &[u8], packet: Packet) -> io::Result<()> {
     let header = packet.header;
     let raw = packet.raw_address;
     let data = packet.data;
     let mut out = [FILL; 128];
     write(
+        rt,
         name,
         header,
         part(bytes, raw),
         part(bytes, data),
         bytes,
         &mut out,
-    );
+    )
 }
 
-fn served(bytes: &[u8]) {
-    print::text(b", served");
+fn served(rt: &impl Print, bytes: &[u8]) -> io::Result<()> {
+    print::text(rt, b", served")?;
     if let Read::Refused(refusal) = packet::read_served(bytes, PACKET_LIMIT) {
-        refused(refusal);
+        refused(rt, refusal)?;
     }
+    Ok(())
 }
 
 // A packet that is read, by the engine's reader too unless it is a CTS, and written back.
-pub(crate) fn good(name: &[u8], bytes: &[u8]) {
+pub(crate) fn good(rt: &impl Print, name: &[u8], bytes: &[u8]) -> io::Result<()> {
     let read = packet::read(bytes);
-    answer(name, read);
-    served(bytes);
-    print::text(b"\n");
+    answer(rt, name, read)?;
+    served(rt, bytes)?;
+    print::text(rt, b"\n")?;
     if let Read::Packet(packet) = read {
-        write_back(name, bytes, packet);
+        write_back(rt, name, bytes, packet)?;
     }
+    Ok(())
 }
 
-pub(crate) fn read(name: &[u8], bytes: &[u8]) {
-    answer(name, packet::read(bytes));
-    print::text(b"\n");
+pub(crate) fn read(rt: &impl Print, name: &[u8], bytes: &[u8]) -> io::Result<()> {
+    answer(rt, name, packet::read(bytes))?;
+    print::text(rt, b"\n")
 }
 
-pub(crate) fn read_served(name: &[u8], bytes: &[u8], limit: usize) {
-    answer(name, packet::read_served(bytes, limit));
-    print::text(b"\n");
+pub(crate) fn read_served(
+    rt: &impl Print,
+    name: &[u8],
+    bytes: &[u8],
+    limit: usize,
+) -> io::Result<()> {
+    answer(rt, name, packet::read_served(bytes, limit))?;
+    print::text(rt, b"\n")
 }

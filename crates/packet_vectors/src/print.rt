@@ -1,67 +1,68 @@
 // Words and numbers of a line on standard output. A name is given with the spaces around it.
 use crate::words::word;
-use libc::STDOUT_FILENO;
 use protocol::{Connid, CqData, Span};
+use std::io;
 
-pub(crate) fn text(bytes: &[u8]) {
-    io::write_all(STDOUT_FILENO, bytes);
+pub(crate) fn text(rt: &impl Print, bytes: &[u8]) -> io::Result<()> {
+    rt.write_all(bytes)
 }
 
-pub(crate) fn number(name: &[u8], x: u64) {
-    text(name);
-    io::print_decimal(STDOUT_FILENO, x);
+pub(crate) fn number(rt: &impl Print, name: &[u8], x: u64) -> io::Result<()> {
+    text(rt, name)?;
+    print!(rt; "{x}")
 }
 
 // A number whose name has no spaces around it.
-fn named(name: &[u8], x: u64) {
-    text(b" ");
-    text(name);
-    number(b" ", x);
+fn named(rt: &impl Print, name: &[u8], x: u64) -> io::Result<()> {
+    text(rt, b" ")?;
+    text(rt, name)?;
+    number(rt, b" ", x)
 }
 
 // Numbers with their names, which are the words of a text.
-pub(crate) fn numbers(names: &[u8], values: &[u64]) {
+pub(crate) fn numbers(rt: &impl Print, names: &[u8], values: &[u64]) -> io::Result<()> {
     let mut i = 0;
     while i < values.len() {
-        named(word(names, i), values[i]);
+        named(rt, word(names, i), values[i])?;
         i += 1;
     }
+    Ok(())
 }
 
-fn byte(name: &[u8], x: u8) {
-    text(name);
-    io::print_hex(STDOUT_FILENO, x as u64, 2);
+fn byte(rt: &impl Print, name: &[u8], x: u8) -> io::Result<()> {
+    text(rt, name)?;
+    print!(rt; "{x:02x}")
 }
 
-pub(crate) fn span(name: &[u8], span: Span) {
-    number(name, span.at as u64);
-    number(b" size ", span.size as u64);
+pub(crate) fn span(rt: &impl Print, name: &[u8], span: Span) -> io::Result<()> {
+    number(rt, name, span.at as u64)?;
+    number(rt, b" size ", span.size as u64)
 }
 
-pub(crate) fn cq_data(cq_data: CqData) {
+pub(crate) fn cq_data(rt: &impl Print, cq_data: CqData) -> io::Result<()> {
     match cq_data {
-        CqData::Absent => text(b" cq_data none"),
-        CqData::Present(value) => number(b" cq_data ", value),
+        CqData::Absent => text(rt, b" cq_data none"),
+        CqData::Present(value) => number(rt, b" cq_data ", value),
     }
 }
 
-pub(crate) fn connid(connid: Connid) {
+pub(crate) fn connid(rt: &impl Print, connid: Connid) -> io::Result<()> {
     match connid {
-        Connid::Absent => text(b" connid none"),
-        Connid::Present(value) => number(b" connid ", value as u64),
+        Connid::Absent => text(rt, b" connid none"),
+        Connid::Present(value) => number(rt, b" connid ", value as u64),
     }
 }
 
 // A byte that was one value and is another: its place, and both values in hexadecimal.
-pub(crate) fn change(at: usize, was: u8, is: u8) {
-    number(b" ", at as u64);
-    byte(b":", was);
-    byte(b">", is);
+pub(crate) fn change(rt: &impl Print, at: usize, was: u8, is: u8) -> io::Result<()> {
+    number(rt, b" ", at as u64)?;
+    byte(rt, b":", was)?;
+    byte(rt, b">", is)
 }
 
 // A line, or the number behind a +, that is not understood.
-pub(crate) fn bad(part: &[u8]) {
-    text(b"bad ");
-    text(part);
-    text(b"\n");
+pub(crate) fn bad(rt: &impl Print, part: &[u8]) -> io::Result<()> {
+    text(rt, b"bad ")?;
+    text(rt, part)?;
+    text(rt, b"\n")
 }

@@ -1,7 +1,8 @@
 // The words of a line, with a space between two, and numbers.
-ghost use Rattle.std.specs.Prelude.{◌≤◌, length};
+ghost use Rattle.std.specs.Prelude.{◌≤◌, length, IfOk};
 
 use crate::print;
+use std::io;
 
 // The place of a byte, from a place on, or the text's end.
 pub(crate) fn find(text: &[u8], from: usize, byte: u8) -> usize
@@ -61,8 +62,8 @@ pub(crate) fn digit(c: u8) -> u64
 }
 
 // The number behind so many words, which is at most `most`.
-pub(crate) fn number(line: &[u8], others: usize, most: u64) -> u64
-    ensures { result ≤ most }
+pub(crate) fn number(rt: &impl Print, line: &[u8], others: usize, most: u64) -> io::Result<u64>
+    ensures { IfOk result (λ n. n ≤ most) }
 {
     let word = word(line, others);
     let mut value: u64 = 0;
@@ -70,20 +71,20 @@ pub(crate) fn number(line: &[u8], others: usize, most: u64) -> u64
     while i < word.len() {
         let last = digit(word[i]);
         if 9 < last {
-            print::bad(line);
-            return 0;
+            print::bad(rt, line)?;
+            return Ok(0);
         }
         if most / 10 < value {
-            print::bad(line);
-            return 0;
+            print::bad(rt, line)?;
+            return Ok(0);
         }
         value *= 10;
         if most - value < last {
-            print::bad(line);
-            return 0;
+            print::bad(rt, line)?;
+            return Ok(0);
         }
         value += last;
         i += 1;
     }
-    value
+    Ok(value)
 }

@@ -2,7 +2,7 @@
 ghost use Rattle.replay_main.specs.Inputs.{Within};
 ghost use Rattle.std.specs.Prelude.{length};
 
-use libc::STDIN_FILENO;
+use std::io::Read;
 
 // How many bytes came, or that a read failed.
 #[derive(Clone, Copy)]
@@ -12,17 +12,14 @@ pub(crate) enum Input {
 }
 
 // Reads to the end of the input, or until the buffer is full.
-pub(crate) fn read(buffer: &mut [u8]) -> Input
+pub(crate) fn read<R: Read>(from: &mut R, buffer: &mut [u8]) -> Input
     ensures { Within result (length buffer.old) }
 {
     let mut n: usize = 0;
     while n < buffer.len() {
-        let rest = &mut buffer[n..];
-        let got = libc::read(STDIN_FILENO, rest);
-        if got < 0 {
+        let Ok(count) = from.read(&mut buffer[n..]) else {
             return Input::Failed;
-        }
-        let count = io::count(got, rest);
+        };
         if count == 0 {
             return Input::Bytes(n);
         }

@@ -1,12 +1,14 @@
 // Replays the trace on standard input and writes the text about it: 01's program. What matters is in
 // the library `replay`: here bytes are read, one call is made, and its text is written.
+#![tactic(auto)]
+
 mod input;
 
 ghost use Rattle.std.specs.Prelude.{◌≡◌, ◌≤◌, length};
 ghost use Rattle.replay_main.specs.Programs.{text_length, program_of};
 
 use input::Input;
-use libc::{STDERR_FILENO, STDOUT_FILENO};
+use std::io;
 
 // The longest trace, in bytes.
 const LONGEST: usize = 65536;
@@ -30,24 +32,22 @@ fn replayed(trace: &[u8], text: &mut [u8]) -> usize
 }
 
 // Replays a trace and writes the text.
-fn show(trace: &[u8]) {
+fn show(rt: &impl Print, trace: &[u8]) -> io::Result<()> {
     let mut text = [0u8; 327744];
     let written = replayed(trace, &mut text);
-    io::write_all(STDOUT_FILENO, &text[..written]);
+    rt.write_all(&text[..written])
 }
 
-fn main() {
+fn main(rt: HostRuntime) -> io::Result<()> {
     // one byte more than the longest trace, so that a longer one is seen
     let mut bytes = [0u8; 65537];
-    match input::read(&mut bytes) {
-        Input::Failed => {
-            io::write_all(STDERR_FILENO, b"standard input cannot be read\n");
-        }
+    match input::read(&mut rt.stdin(), &mut bytes) {
+        Input::Failed => eprintln!(rt; "standard input cannot be read"),
         Input::Bytes(n) => {
             if LONGEST < n {
-                io::write_all(STDOUT_FILENO, b"too long\n");
+                println!(rt; "too long")
             } else {
-                show(&bytes[..n]);
+                show(&rt, &bytes[..n])
             }
         }
     }

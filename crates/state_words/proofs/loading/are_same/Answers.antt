@@ -1,0 +1,30 @@
+-- `state_words::loading::are_same` meets its contract. The loop's invariant: what is left decides whether all is the same.
+use Prim.Native.Nat.{◌-◌, ◌≤◌}
+use borrow.Author.Rules.{rules}
+use lib.ListN.{length, drop}
+use mathlib.Core.Path.{◌≡◌, refl, sym, ◌∙◌}
+use native.Mathlib.Omega.{arith}
+use Rattle.state_words.specs.Flat.{same}
+use Rattle.state_words.proofs.FlatLaws.{same_lengths, same_turn, same_stop, same_end}
+use Rattle.state_words.proofs.loading.are_same.Goals as goal
+
+pub returns-then-a-b : goal.returns-then-a-b
+returns-then-a-b c = sym (same_lengths c.args.a.now c.args.b.now (λ e. omega arith))
+
+pub returns-then-a-i : goal.returns-then-a-i
+returns-then-a-i c =
+    let l = c in
+    let s = l.args in
+    sym (l.loop-i.invariant.1 ∙ same_stop s.a.now s.b.now l.loop-i.i (omega arith) (omega arith) (λ e. omega arith))
+
+pub loop-i-preserved : goal.loop-i-preserved
+loop-i-preserved c =
+    let l = c in
+    let s = l.args in
+    (omega arith, l.loop-i.invariant.1 ∙ same_turn s.a.now s.b.now l.loop-i.i (omega arith) (omega arith) (omega arith))
+
+pub returns : goal.returns
+returns c =
+    let l = c in
+    let s = l.args in
+    sym (l.loop-i.invariant.1 ∙ same_end s.a.now s.b.now l.loop-i.i (omega arith) (omega arith))

@@ -1,0 +1,25 @@
+-- `state_words::loading::engine_in` meets its contract. The loop's invariant: the peers passed are those read.
+use Prim.Native.Nat.{ℕ, ◌+◌, ◌-◌, ◌*◌, ◌≤◌}
+use borrow.Author.Rules.{rules}
+use lib.ListN.{get_or, replicate}
+use lib.Seq.{paste, paste-zero}
+use mathlib.Core.List.{List}
+use mathlib.Core.Path.{◌≡◌, refl, ◌∙◌}
+use native.Mathlib.Omega.{arith}
+use Rattle.peer.specs.State.{fresh_peer}
+use Rattle.peer.specs.declared.types.Peer.{Peer}
+use Rattle.engine.specs.SetUp.{peer_count}
+use Rattle.state_words.specs.Saving.{peer_size}
+use Rattle.state_words.specs.Flat.{tabulate}
+use Rattle.state_words.specs.Loading.{engine_in, peer_in}
+use Rattle.state_words.proofs.FlatLaws.{tabulate_turn, tabulate_all}
+use Rattle.state_words.proofs.loading.engine_in.Given as goal
+
+abbrev read : List ℕ → ℕ → Peer
+read w p = peer_in w (3 + peer_size * p)
+
+abbrev pub invariant-loop-p : goal.invariant-loop-p
+invariant-loop-p l = (l.p ≤ peer_count) × (l.engine.n ≡ get_or l.words 0 0) × (l.engine.area ≡ get_or l.words 1 0) × (l.engine.limit ≡ get_or l.words 2 0) × (l.engine.peers ≡ paste fresh 0 (tabulate (read l.words) peer_count) l.p)
+
+abbrev pub decreases-loop-p : goal.decreases-loop-p
+decreases-loop-p l = peer_count - l.p

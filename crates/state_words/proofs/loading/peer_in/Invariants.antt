@@ -1,0 +1,23 @@
+-- `state_words::loading::peer_in` meets its contract. The loop's invariant: the slots passed are those read.
+use Prim.Native.Nat.{ℕ, ◌+◌, ◌-◌, ◌*◌, ◌%◌, ◌^◌, ◌≤◌}
+use borrow.Author.Rules.{rules}
+use lib.ListN.{get_or, replicate}
+use lib.Seq.{paste, paste-zero}
+use mathlib.Core.List.{List}
+use mathlib.Core.Path.{◌≡◌, refl, ap₂, ◌∙◌}
+use native.Mathlib.Omega.{arith}
+use Rattle.peer.specs.State.{free_slot, fresh_peer, slot_count, slot_with}
+use Rattle.peer.specs.declared.types.Slot.{Slot}
+use Rattle.state_words.specs.Flat.{tabulate}
+use Rattle.state_words.specs.Loading.{peer_in, phase_in}
+use Rattle.state_words.proofs.FlatLaws.{tabulate_turn, tabulate_all}
+use Rattle.state_words.proofs.loading.peer_in.Given as goal
+
+abbrev read : List ℕ → ℕ → ℕ → Slot
+read w at i = slot_with (phase_in w (at + 1 + 16 * i))
+
+abbrev pub invariant-loop-i : goal.invariant-loop-i
+invariant-loop-i l = (l.i ≤ slot_count) × (l.peer.next ≡ get_or l.words l.at 0 % 2 ^ 32) × (l.peer.slots ≡ paste free 0 (tabulate (read l.words l.at) slot_count) l.i)
+
+abbrev pub decreases-loop-i : goal.decreases-loop-i
+decreases-loop-i l = slot_count - l.i

@@ -1,0 +1,8 @@
+-- `state_words::saving::posted_words` meets its contract.
+use borrow.Author.Rules.{rules}
+use Rattle.state_words.specs.Saving.{phase_words}
+use Rattle.state_words.proofs.saving.posted_words.Goals as goal
+
+pub returns : goal.returns
+unfolding phase_words
+returns c = rw c.bit_of.ensures
