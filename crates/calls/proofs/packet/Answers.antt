@@ -47,4 +47,4 @@ pub returns-in-Open : goal.returns-in-Open
 returns-in-Open c = packet_call _ (passed (goal.at.returns-in-Open c).After-admit) c.in-Open.is _ _ _ _ c.step-step.ensures
 
 pub step-step-requires-clause-owned : goal.step-step-requires-clause-owned
-step-step-requires-clause-owned c = ?
+step-step-requires-clause-owned c = (opened (passed (goal.at.step-step-requires-clause-owned c).After-admit) c.in-Open.is).owns _

@@ -15,6 +15,10 @@ use Rattle.state_words.specs.Loading.{engine_in, peer_in}
 use Rattle.state_words.proofs.FlatLaws.{tabulate_turn, tabulate_all}
 use Rattle.state_words.proofs.loading.engine_in.Given as goal
 
+-- the peers as they are fresh, and the peer that is read at each place
+abbrev fresh : List Peer
+fresh = replicate peer_count fresh_peer
+
 abbrev read : List ℕ → ℕ → Peer
 read w p = peer_in w (3 + peer_size * p)
 

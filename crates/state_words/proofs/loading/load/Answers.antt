@@ -8,14 +8,15 @@ use Rattle.state_words.specs.Loading.{is_state, state_of}
 use Rattle.state_words.specs.Saving.{engine_words}
 use Rattle.state_words.proofs.Sizes.{not_state}
 use Rattle.state_words.proofs.loading.load.Goals as goal
+use Rattle.state_words.proofs.loading.load.Goals.{After-are_same}
 
 -- what was compared is whether the words are a state's
-compared : (k : tie.After-are-same) → is_state k.before.before.before.before.before.before.before.before.args.words.now ≡ k.are-same.result
+compared : (c : After-are_same) → is_state c.args.words.now ≡ c.are_same.result
 unfolding is_state
-compared k =
-    let w = k.before.before.before.before.before.before.before.before.args.words.now in
-    ap (λ e. same w (engine_words e)) (sym k.before.before.before.before.before.engine-in.ensures)
-    ∙ ap (same w) (sym k.before.before.before.save.ensures) ∙ sym k.are-same.ensures
+compared c =
+    let w = c.args.words.now in
+    ap (λ e. same w (engine_words e)) (sym c.engine_in-engine.ensures)
+    ∙ ap (same w) (sym c.save.ensures) ∙ sym c.are_same.ensures
 
 pub returns-then-words-ne-STATE : goal.returns-then-words-ne-STATE
 unfolding state_of pick
@@ -25,8 +26,8 @@ returns-then-words-ne-STATE c =
 
 pub returns-then-are_same : goal.returns-then-are_same
 unfolding state_of pick
-returns-then-are_same c = rw (compared c ∙ c.if-are_same.true, c.engine_in-engine.ensures)
+returns-then-are_same c = rw (compared (goal.at.returns-then-are_same c).After-are_same ∙ c.if-are_same.true, c.engine_in-engine.ensures)
 
 pub returns-else-are_same : goal.returns-else-are_same
 unfolding state_of pick
-returns-else-are_same c = rw (c.no_state-else-are_same.ensures, compared c ∙ c.if-are_same.false)
+returns-else-are_same c = rw (c.no_state-else-are_same.ensures, compared (goal.at.returns-else-are_same c).After-are_same ∙ c.if-are_same.false)

@@ -13,6 +13,10 @@ use Rattle.state_words.specs.Loading.{peer_in, phase_in}
 use Rattle.state_words.proofs.FlatLaws.{tabulate_turn, tabulate_all}
 use Rattle.state_words.proofs.loading.peer_in.Given as goal
 
+-- the slots as they are fresh, and the slot that is read at each place
+abbrev free : List Slot
+free = replicate slot_count free_slot
+
 abbrev read : List ℕ → ℕ → ℕ → Slot
 read w at i = slot_with (phase_in w (at + 1 + 16 * i))
 

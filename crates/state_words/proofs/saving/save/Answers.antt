@@ -18,15 +18,16 @@ use Rattle.state_words.proofs.Elements.{slots_each}
 use Rattle.state_words.proofs.FlatLaws.{flat_turn}
 use Rattle.state_words.proofs.Sizes.{length_engine, length_peer}
 use Rattle.state_words.proofs.saving.save.Goals as goal
+use Rattle.state_words.proofs.saving.save.Goals.{Start}
 
 abbrev no_peer : Peer
 no_peer = record { next = 0; slots = [] }
 
-eight : (s : tie.Start invariant_loop decreases_loop) → length s.args.engine.peers ≡ peer_count
-eight s = search length_mapped
+eight : (c : Start) → length c.args.engine.peers ≡ peer_count
+eight c = search length_mapped
 
-slots : (s : tie.Start invariant_loop decreases_loop) (i : ℕ) → i < length s.args.engine.peers → length (get_or s.args.engine.peers i no_peer).slots ≡ slot_count
-slots s i h = slots_each s.args.engine.peers _ s.well-formed.1.0.1.1.0.1.1 i no_peer h
+slots : (c : Start) (i : ℕ) → i < length c.args.engine.peers → length (get_or c.args.engine.peers i no_peer).slots ≡ slot_count
+slots c i h = slots_each c.args.engine.peers _ c.well_formed.1.0.1.1.0.1.1 i no_peer h
 
 pub loop-p-init : goal.loop-p-init
 unfolding flat
@@ -37,14 +38,14 @@ loop-p-preserved c =
     let l = c in
     let s = l in
     let a = s.args in
-    let len = eight s in
+    let len = eight (goal.at.loop-p-preserved c).Start in
     let w = set (set (set a.words.now 0 a.engine.n) 1 a.engine.area) 2 a.engine.limit in
     let fits : 3 + peer_size * length a.engine.peers ≤ length w = simp length-set (omega (arith, len, s.requires)) in (
       omega arith,
       c.put_peer.auto.words ∙ l.loop-p.invariant.1,
       c.put_peer.ensures
           ∙ rw l.loop-p.invariant.2
-          (flat_turn peer_words peer_size a.engine.peers no_peer (λ i h. length_peer (get_or a.engine.peers i no_peer) (slots s i h)) w 3 l.loop-p.p (3 + peer_size * l.loop-p.p) (omega (arith, len)) refl fits),
+          (flat_turn peer_words peer_size a.engine.peers no_peer (λ i h. length_peer (get_or a.engine.peers i no_peer) (slots (goal.at.loop-p-preserved c).Start i h)) w 3 l.loop-p.p (3 + peer_size * l.loop-p.p) (omega (arith, len)) refl fits),
     )
 
 pub returns : goal.returns
@@ -56,9 +57,9 @@ returns c =
     let e = a.engine in
     let w = a.words.now in
     let rest = flat peer_words e.peers in
-    let len = eight s in
+    let len = eight (goal.at.returns c).Start in
     let all : length e.peers ≤ l.loop-p.p = omega (arith, len) in
-    let size = length_engine e no_peer len (slots s) in
+    let size = length_engine e no_peer len (slots (goal.at.returns c).Start) in
     rw (take_all l.loop-p.p e.peers all) at l.loop-p.invariant.2
     ∙ set_next (set (set w 0 e.n) 1 e.area) 2 e.limit rest (simp length-set (omega (arith, size, s.requires)))
     ∙ set_next (set w 0 e.n) 1 e.area (e.limit ∷ rest) (simp length-set (omega (arith, size, s.requires)))

@@ -19,9 +19,6 @@ use Rattle.state_words.proofs.FlatLaws.{flat_turn}
 use Rattle.state_words.proofs.Sizes.{length_engine, length_peer}
 use Rattle.state_words.proofs.saving.save.Given as goal
 
-abbrev no_peer : Peer
-no_peer = record { next = 0; slots = [] }
-
 abbrev pub invariant-loop-p : goal.invariant-loop-p
 invariant-loop-p l = (l.p ≤ peer_count) × (length l.words ≡ length l.initial.words) × (l.words ≡ store_at l.initial.words 3 (flat peer_words (take l.p l.engine.peers)))
 
