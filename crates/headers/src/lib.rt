@@ -1,6 +1,8 @@
 // What a packet's header is made of, by its type's row of the table: the table, the rule on flags,
 // where fields, optional headers and data lie, and how fields and options are read and written. The
 // reader and the writer of `packet` put it together.
+#![tactic(auto)]
+
 pub mod arrays;
 pub mod flags;
 pub mod layout;

@@ -1,1 +1,3 @@
+#![tactic(auto)]
+
 // What every layer's definitions and proofs share. No functions.

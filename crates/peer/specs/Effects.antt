@@ -1,5 +1,5 @@
 -- What a call leaves: the peer, its map words, the answer, the reply packet, and which bytes are put where into its area. No area byte is read.
-use Rattle.std.specs.Prelude.{ℕ, ◌+◌, ◌-◌, ◌*◌, ◌%◌, min, max, List, [], length, set, ◌==◌, nat_le, slice_set}
+use Rattle.std.specs.Prelude.{ℕ, ◌+◌, ◌-◌, ◌*◌, ◌%◌, min, max, List, [], length, ◌==◌, nat_le, slice_set}
 use Rattle.laws.specs.Choose.{pick}
 use Rattle.bitmap.specs.Map.{marked, cleared, first_clear}
 use Rattle.protocol.specs.declared.types.Refusal.{Refusal}

@@ -83,9 +83,9 @@ module _ (told : ℕ) (h : Header) (o : List ℕ) where
       ap (λ (i : ℕ). put_there i (width f) (field_number told h f) (store_at l at (mixed ds (g ∷ gs) at))) (pick_true _ _ x)
       ∙ pick_false _ _ (ne_eqb at 0 (λ z. omega arith))
       ∙ subst
-        (λ (y : Field). store_at (store_at l at (mixed ds (g ∷ gs) at)) at (le_bytes (width y) (field_number told h y)) ≡ store_at l at (mixed (y ∷ ds) (g ∷ gs) at))
-        (same_field_lem g f x)
-        (put_here ds gs g at l n (omega arith) (omega arith)))
+      (λ (y : Field). store_at (store_at l at (mixed ds (g ∷ gs) at)) at (le_bytes (width y) (field_number told h y)) ≡ store_at l at (mixed (y ∷ ds) (g ∷ gs) at))
+      (same_field_lem g f x)
+      (put_here ds gs g at l n (omega arith) (omega arith)))
       (λ x.
       let a = one ds g at in
       let size : length a ≡ width g = length_one ds g at (omega arith) in

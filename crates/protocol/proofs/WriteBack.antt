@@ -22,7 +22,7 @@ use Rattle.protocol.specs.RoundTrip.{blanked, blanked_as}
 use Rattle.protocol.specs.Rules.{ConnidPlace, Sound}
 use Rattle.protocol.specs.Sections.{array_span, connid_at, raw_span, span}
 use Rattle.protocol.specs.SectionsInTurn.{after_array, after_raw, connid_length, cq_data_length, raw_length}
-use Rattle.protocol.specs.Types.{row, row_of}
+use Rattle.protocol.specs.Types.{row_of}
 use Rattle.protocol.specs.Values.{bytes_at}
 use Rattle.protocol.specs.Writing.{base_bytes, mandatory_bytes, packet_bytes, write_of}
 use Rattle.protocol.specs.declared.table.FoundRow.TheVariants.{Row}

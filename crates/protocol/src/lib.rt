@@ -1,5 +1,7 @@
 // What a packet of EFA RDM protocol v4 is: its types here, the definitions of reading and writing in
 // specs/, and what is proved of them in proofs/. There is no function: reader and writer stand in `packet`.
+#![tactic(auto)]
+
 mod flags;
 mod limits;
 mod places;

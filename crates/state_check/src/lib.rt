@@ -1,5 +1,7 @@
 // Whether a peer is one that can be: each slot by itself, then each pair of slots once. It serves
 // `engine`, whose calls refuse 2 where a peer is not.
+#![tactic(auto)]
+
 mod open;
 mod slots;
 

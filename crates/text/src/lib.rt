@@ -1,4 +1,6 @@
 // Lines of text in a lent buffer. Each function answers the place behind what it put there.
+#![tactic(auto)]
+
 ghost use Rattle.std.specs.Prelude.{◌∷◌, ◌≡◌, ◌+◌, ◌≤◌, length};
 ghost use Rattle.laws.specs.Parts.{store_at};
 ghost use Rattle.text.specs.Decimals.{decimal};

@@ -1,5 +1,7 @@
 // Little-endian integers at an offset of a slice, read and written (01: "Integers on the wire are little-endian"), bytes, and
 // where bytes end.
+#![tactic(auto)]
+
 ghost use Rattle.std.specs.Prelude.{◌≡◌, ◌+◌, ◌≤◌, length, leb};
 ghost use Rattle.laws.specs.Parts.{store_at};
 ghost use Rattle.wire.specs.LittleEndian.{le_bytes, le_at};

@@ -1,5 +1,7 @@
 // Numbers as 64-bit words, for callers in other languages: words copied into others; and what may be
 // absent, in two words, whether it is there and its value, or 0.
+#![tactic(auto)]
+
 ghost use Rattle.std.specs.Prelude.{◌≡◌, ◌+◌, ◌≤◌, length};
 ghost use Rattle.laws.specs.Parts.{store_at};
 ghost use Rattle.words.specs.Presence.{bool_bit, cq_bit, cq_value};

@@ -1,10 +1,7 @@
 -- `bitmap::clear` meets its contract: the parts of a range are cleared one after the other.
-use borrow.Author.Rules.{rules}
 use lib.Dec.{lit<}
-use lib.ListN.{length}
 use native.Mathlib.Omega.{arith}
 use Rattle.bitmap.specs.Map.{cleared}
-use Rattle.bitmap.proofs.SplitLaws.{Placed, placed}
 use Rattle.bitmap.proofs.Stores.{clear_add, clear_none, clear_whole, fill_range}
 use Rattle.bitmap.proofs.clear.Goals as goal
 use Rattle.bitmap.proofs.clear.Goals.{After-split-range}

@@ -1,11 +1,11 @@
 -- `bitmap::count_set` meets its contract: the bits of a range are those of its parts.
 use Prim.Native.Nat.{◌+◌, ◌≤◌}
 use lib.Count.{ones}
-use lib.ListN.{length, length-drop, length-take}
+use lib.ListN.{length}
 use mathlib.Core.Path.{◌≡◌, sym}
 use native.Mathlib.Omega.{arith}
 use Rattle.bitmap.specs.Map.{count_set}
-use Rattle.bitmap.proofs.Counts.{count_le, part_count, range_count}
+use Rattle.bitmap.proofs.Counts.{count_le, range_count}
 use Rattle.bitmap.proofs.SplitLaws.{Placed, placed}
 use Rattle.bitmap.proofs.count_set.Goals as goal
 use Rattle.bitmap.proofs.count_set.Goals.{After-part, After-part-2, After-split-range}

@@ -1,8 +1,6 @@
 -- `bitmap::first_clear` meets its contract. The invariant of both loops: the bits before i are set, so that
 -- the search from i on gives what is left of the result. The inner loop stays in the word of the outer loop's i.
-use Prim.Native.Nat.{ℕ, ◌+◌, ◌-◌, ◌*◌, ◌≤◌, ◌<◌}
-use borrow.Author.Rules.{rules}
-use mathlib.Core.Logic.{⊎_elim}
+use Prim.Native.Nat.{◌+◌, ◌-◌, ◌*◌, ◌≤◌}
 use mathlib.Core.Path.{◌≡◌, sym, ◌∙◌}
 use native.Mathlib.Nat.{add_assoc, add-zero}
 use native.Mathlib.Omega.{arith}
@@ -67,13 +65,13 @@ at_end c =
     let a = s.args in
     elim c.words-test.branch [
       | else-words-test w ↦
-        let r = first_clear_le a.map.now s.words.i (a.at + a.n - s.words.i) in
-        rw w.i-is (s.words.invariant.0, omega arith)
+          let r = first_clear_le a.map.now s.words.i (a.at + a.n - s.words.i) in
+          rw w.i-is (s.words.invariant.0, omega arith)
       | then-words-test+else-w+then-loop-i-test+then-run-eq0 w ↦
-        let r =
-        first_run a.map.now s.words.i w.loop-i.i w.in_word.result (a.at + a.n) w.ones_from-run.result
-        w.loop-i.invariant.0 w.loop-i-test.true w.in_word.ensures w.ones_from-run.ensures in
-        rw w.i-is (omega arith, sym (w.loop-i.invariant.2 ∙ rw (r.2 w.if-run-eq0.true, add-zero)))
+          let r =
+          first_run a.map.now s.words.i w.loop-i.i w.in_word.result (a.at + a.n) w.ones_from-run.result
+          w.loop-i.invariant.0 w.loop-i-test.true w.in_word.ensures w.ones_from-run.ensures in
+          rw w.i-is (omega arith, sym (w.loop-i.invariant.2 ∙ rw (r.2 w.if-run-eq0.true, add-zero)))
     ]
 
 pub returns : goal.returns

@@ -1,14 +1,8 @@
 -- `bitmap::first_clear` meets its contract. The invariant of both loops: the bits before i are set, so that
 -- the search from i on gives what is left of the result. The inner loop stays in the word of the outer loop's i.
-use Prim.Native.Nat.{ℕ, ◌+◌, ◌-◌, ◌*◌, ◌≤◌, ◌<◌}
-use borrow.Author.Rules.{rules}
-use mathlib.Core.Logic.{⊎_elim}
-use mathlib.Core.Path.{◌≡◌, sym, ◌∙◌}
-use native.Mathlib.Nat.{add_assoc, add-zero}
-use native.Mathlib.Omega.{arith}
+use Prim.Native.Nat.{◌+◌, ◌-◌, ◌≤◌}
+use mathlib.Core.Path.{◌≡◌}
 use Rattle.bitmap.specs.Map.{first_clear}
-use Rattle.bitmap.proofs.BitLaws.{first_clear_le}
-use Rattle.bitmap.proofs.Runs.{first_pass, first_run, full_run_lem}
 use Rattle.bitmap.proofs.first_clear.Given as goal
 
 abbrev pub invariant-loop-i : goal.invariant-loop-i

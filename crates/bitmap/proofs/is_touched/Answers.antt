@@ -1,10 +1,7 @@
 -- `bitmap::is_touched` meets its contract: a range has no bit if an or of the words of its parts is 0, and only then.
-use borrow.Author.Rules.{rules}
-use lib.ListN.{length}
 use mathlib.Core.Path.{sym}
 use native.Mathlib.Omega.{arith}
 use Rattle.bitmap.proofs.Counts.{range_count, touched_by}
-use Rattle.bitmap.proofs.SplitLaws.{Placed, placed}
 use Rattle.bitmap.proofs.is_touched.Goals as goal
 use Rattle.bitmap.proofs.is_touched.Goals.{After-split-range}
 

@@ -1,10 +1,7 @@
 -- `bitmap::mark` meets its contract: the parts of a range are marked one after the other.
-use borrow.Author.Rules.{rules}
 use lib.Dec.{lit<}
-use lib.ListN.{length}
 use native.Mathlib.Omega.{arith}
 use Rattle.bitmap.specs.Map.{marked}
-use Rattle.bitmap.proofs.SplitLaws.{Placed, placed}
 use Rattle.bitmap.proofs.Stores.{mark_add, mark_none, mark_whole, fill_range}
 use Rattle.bitmap.proofs.mark.Goals as goal
 use Rattle.bitmap.proofs.mark.Goals.{After-split-range}

@@ -8,15 +8,12 @@ use Rattle.peer.specs.Incomings.{incoming_of}
 use Rattle.peer.specs.Matching.{vacancy}
 use Rattle.peer.specs.State.{clash, overlaps_use, overlap, phase_at, phase_fits, slot_count, slot_with}
 use Rattle.peer.specs.declared.types.Answer.{Answer}
-use Rattle.peer.specs.declared.types.Answer.TheVariants.{Cancelled, Refused, Truncated}
 use Rattle.peer.specs.declared.types.Inbound.{Inbound}
 use Rattle.peer.specs.declared.types.Incoming.{Incoming}
 use Rattle.peer.specs.declared.types.Message.{Message}
 use Rattle.peer.specs.declared.types.Peer.{Peer}
 use Rattle.peer.specs.declared.types.Phase.{Phase}
-use Rattle.peer.specs.declared.types.Phase.TheVariants.{Free, Open, Posted}
 use Rattle.peer.specs.declared.types.Progress.{Progress}
-use Rattle.peer.specs.declared.types.Progress.TheVariants.{Due, Partial, Whole}
 use Rattle.peer.specs.declared.types.Receive.{Receive}
 use Rattle.peer.specs.declared.types.Slot.{Slot}
 use Rattle.peer.specs.declared.types.Vacancy.{Vacancy}

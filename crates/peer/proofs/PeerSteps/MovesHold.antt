@@ -14,7 +14,7 @@ use Rattle.peer.specs.Effects.{Effect, accept, advance, begun, extended, grant_o
 use Rattle.peer.specs.Formed.{Formed}
 use Rattle.peer.specs.Sentences.{NothingFoundIsNoneOpen, LongIs68And69}
 use Rattle.peer.specs.Incomings.{incoming_of}
-use Rattle.peer.specs.Matching.{oldest, vacancy}
+use Rattle.peer.specs.Matching.{vacancy}
 use Rattle.peer.specs.Moves.{AllIn, Beginning, GoingOn, Moved, MovesAreAsSaid, SomeMissing, Taking}
 use Rattle.peer.specs.PacketBytes.{offset_in}
 use Rattle.peer.specs.Plain.{Entry, idle}

@@ -10,12 +10,9 @@ use Rattle.peer.specs.Plain.{Entry, Role, first_here, first_posted, idle, open_i
 use Rattle.peer.specs.State.{overlaps_use, is_free, overlap, phase_at, slot_with}
 use Rattle.peer.specs.View.{role_of, roles_of}
 use Rattle.peer.specs.declared.types.Fit.{Fit}
-use Rattle.peer.specs.declared.types.Fit.TheVariants.{To, Unfit}
 use Rattle.peer.specs.declared.types.FoundOpen.{FoundOpen}
-use Rattle.peer.specs.declared.types.FoundOpen.TheVariants.{At, Nothing}
 use Rattle.peer.specs.declared.types.Incoming.{Incoming}
 use Rattle.peer.specs.declared.types.Phase.{Phase}
-use Rattle.peer.specs.declared.types.Phase.TheVariants.{Free, Open, Posted}
 use Rattle.peer.specs.declared.types.Receive.{Receive}
 use Rattle.peer.specs.declared.types.Slot.{Slot}
 use Rattle.peer.specs.declared.types.Vacancy.{Vacancy}

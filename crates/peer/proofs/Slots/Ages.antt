@@ -6,7 +6,6 @@ use Rattle.laws.specs.Choose.{pick}
 use Rattle.peer.specs.Calls.{count_older, count_posted, one_older, one_posted, renumbered, renumbered_phase}
 use Rattle.peer.specs.State.{clash, overlap, phase_at, phase_fits}
 use Rattle.peer.specs.declared.types.Phase.{Phase}
-use Rattle.peer.specs.declared.types.Phase.TheVariants.{Free, Open, Posted}
 use Rattle.peer.specs.declared.types.Receive.{Receive}
 use Rattle.peer.specs.declared.types.Slot.{Slot}
 use Rattle.laws.proofs.Choosing.{branch, or_left, or_neither, or_right, pick_false, pick_true}

@@ -7,7 +7,6 @@ use Rattle.peer.specs.State.{all_fit, clash, none_clash, overlap, pairs_apart, p
 use Rattle.peer.specs.declared.types.Inbound.{Inbound}
 use Rattle.peer.specs.declared.types.Peer.{Peer}
 use Rattle.peer.specs.declared.types.Phase.{Phase}
-use Rattle.peer.specs.declared.types.Phase.TheVariants.{Free, Open, Posted}
 use Rattle.peer.specs.declared.types.Receive.{Receive}
 use Rattle.peer.specs.declared.types.Slot.{Slot}
 use Rattle.laws.proofs.Choosing.{and_intro, and_left, and_right}

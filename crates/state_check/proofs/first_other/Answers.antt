@@ -1,5 +1,4 @@
 -- `state_check::first_other` meets its contract.
-use borrow.Author.Rules.{rules}
 use mathlib.Core.Path.{sym, ◌∙◌}
 use Rattle.laws.proofs.Choosing.{pick_false, pick_true}
 use Rattle.state_check.proofs.first_other.Goals as goal

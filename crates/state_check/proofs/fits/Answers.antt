@@ -1,5 +1,4 @@
 -- `state_check::fits` meets its contract.
-use borrow.Author.Rules.{rules}
 use Rattle.peer.specs.State.{peer_fits}
 use Rattle.state_check.proofs.fits.Goals as goal
 

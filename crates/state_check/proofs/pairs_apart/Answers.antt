@@ -1,8 +1,7 @@
 -- `state_check::pairs_apart` meets its contract. The outer loop's invariant: the slots passed clash with none behind them; the inner one's:
 -- the slot clashes with none passed.
-use Prim.Native.Nat.{ℕ, ◌+◌, ◌-◌, ◌≤◌, ◌<◌}
-use borrow.Author.Rules.{rules}
-use lib.ListN.{length, get_or, drop}
+use Prim.Native.Nat.{ℕ, ◌+◌, ◌≤◌, ◌<◌}
+use lib.ListN.{length, drop}
 use mathlib.Core.Bool.{Bool, true, false}
 use mathlib.Core.List.{List}
 use mathlib.Core.Logic.{⊎_elim}
@@ -11,7 +10,7 @@ use native.Mathlib.Omega.{arith}
 use Rattle.laws.specs.Choose.{pick}
 use Rattle.laws.proofs.Choosing.{pick_false, pick_true, tested}
 use Rattle.laws.proofs.Listing.{length_mapped}
-use Rattle.peer.specs.State.{free_slot, is_free, none_clash, pairs_apart, phase_at, slot_count}
+use Rattle.peer.specs.State.{is_free, none_clash, phase_at, slot_count}
 use Rattle.peer.specs.declared.types.Phase.{Phase}
 use Rattle.peer.specs.declared.types.Slot.{Slot}
 use Rattle.peer.proofs.Slots.SlotTurns.{free_apart, none_end, none_turn, pairs_end, pairs_turn}

@@ -1,12 +1,9 @@
 -- `state_check::slots_fit` meets its contract. The loop's invariant: the slots passed fit.
-use Prim.Native.Nat.{◌-◌, ◌≤◌}
-use borrow.Author.Rules.{rules}
-use borrow.Author.Tests.{not-true, not-false}
-use lib.ListN.{length, drop}
+use lib.ListN.{length}
 use mathlib.Core.Path.{◌≡◌, sym, ◌∙◌}
 use native.Mathlib.Omega.{arith}
 use Rattle.laws.proofs.Listing.{length_mapped}
-use Rattle.peer.specs.State.{all_fit, slot_count}
+use Rattle.peer.specs.State.{slot_count}
 use Rattle.peer.proofs.Slots.SlotTurns.{fit_end, fit_turn}
 use Rattle.state_check.proofs.slots_fit.Goals as goal
 

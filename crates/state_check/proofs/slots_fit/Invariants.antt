@@ -1,13 +1,8 @@
 -- `state_check::slots_fit` meets its contract. The loop's invariant: the slots passed fit.
 use Prim.Native.Nat.{◌-◌, ◌≤◌}
-use borrow.Author.Rules.{rules}
-use borrow.Author.Tests.{not-true, not-false}
-use lib.ListN.{length, drop}
-use mathlib.Core.Path.{◌≡◌, sym, ◌∙◌}
-use native.Mathlib.Omega.{arith}
-use Rattle.laws.proofs.Listing.{length_mapped}
+use lib.ListN.{drop}
+use mathlib.Core.Path.{◌≡◌}
 use Rattle.peer.specs.State.{all_fit, slot_count}
-use Rattle.peer.proofs.Slots.SlotTurns.{fit_end, fit_turn}
 use Rattle.state_check.proofs.slots_fit.Given as goal
 
 abbrev pub invariant-loop-i : goal.invariant-loop-i

@@ -1,12 +1,10 @@
 -- `text::put_decimal` meets its contract. The loop's invariant: the digits passed stand at the array's end, and those of the rest go before
 -- them.
-use Prim.Native.Nat.{suc, ◌+◌, ◌-◌, ◌^◌, ◌≤◌, ◌<◌}
-use borrow.Author.Rules.{rules}
-use lib.ListN.{length, take, drop, set, length-set}
-use mathlib.Core.List.{◌++◌, append-nil}
-use mathlib.Core.Path.{◌≡◌, refl, sym, ◌∙◌}
+use Prim.Native.Nat.{◌+◌, ◌-◌, ◌≤◌}
+use lib.ListN.{take, drop, set, length-set}
+use mathlib.Core.Path.{◌≡◌, ◌∙◌}
 use native.Mathlib.Omega.{arith}
-use Rattle.text.specs.Decimals.{digits, decimal}
+use Rattle.text.specs.Decimals.{decimal}
 use Rattle.text.proofs.DecimalLaws.{more_places, tenth, set_last, set_all}
 use Rattle.text.proofs.put_decimal.Goals as goal
 use Rattle.text.proofs.put_decimal.Goals.{After-loop-rest, In-loop-rest}

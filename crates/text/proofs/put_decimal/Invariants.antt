@@ -1,13 +1,10 @@
 -- `text::put_decimal` meets its contract. The loop's invariant: the digits passed stand at the array's end, and those of the rest go before
 -- them.
-use Prim.Native.Nat.{suc, ◌+◌, ◌-◌, ◌^◌, ◌≤◌, ◌<◌}
-use borrow.Author.Rules.{rules}
-use lib.ListN.{length, take, drop, set, length-set}
-use mathlib.Core.List.{◌++◌, append-nil}
-use mathlib.Core.Path.{◌≡◌, refl, sym, ◌∙◌}
-use native.Mathlib.Omega.{arith}
+use Prim.Native.Nat.{suc, ◌^◌, ◌≤◌, ◌<◌}
+use lib.ListN.{length, drop}
+use mathlib.Core.List.{◌++◌}
+use mathlib.Core.Path.{◌≡◌}
 use Rattle.text.specs.Decimals.{digits, decimal}
-use Rattle.text.proofs.DecimalLaws.{more_places, tenth, set_last, set_all}
 use Rattle.text.proofs.put_decimal.Given as goal
 
 abbrev pub invariant-loop-rest : goal.invariant-loop-rest

@@ -1,12 +1,10 @@
 -- `text::put_line` meets its contract. The loop's invariant: with the numbers that are left, the line is whole.
-use Prim.Native.Nat.{ℕ, suc, ◌+◌, ◌-◌, ◌≤◌}
-use borrow.Author.Rules.{rules}
-use lib.ListN.{length, get_or, drop, length-append, length-set}
+use Prim.Native.Nat.{ℕ, suc, ◌+◌, ◌≤◌}
+use lib.ListN.{length, get_or, drop, length-append}
 use mathlib.Core.List.{List, [], ◌∷◌, ◌++◌}
-use mathlib.Core.Path.{◌≡◌, refl, sym, ap, ◌∙◌}
+use mathlib.Core.Path.{◌≡◌, sym, ap, ◌∙◌}
 use native.Mathlib.Numerals.{add-one}
 use native.Mathlib.Omega.{arith}
-use Rattle.laws.specs.Parts.{store_at}
 use Rattle.laws.proofs.Storing.{set_store, store_next}
 use Rattle.text.specs.Decimals.{decimal}
 use Rattle.text.specs.Lines.{numbers_line}

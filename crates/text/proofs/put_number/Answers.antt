@@ -1,6 +1,4 @@
 -- `text::put_number` meets its contract: a space, and the digits behind it.
-use borrow.Author.Rules.{rules}
-use lib.ListN.{length-set}
 use mathlib.Core.Path.{◌∙◌}
 use native.Mathlib.Omega.{arith}
 use Rattle.laws.proofs.Storing.{set_next}

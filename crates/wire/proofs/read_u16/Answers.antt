@@ -1,6 +1,5 @@
 -- `wire::read_u16` meets its contract.
-use Prim.Native.Nat.{suc, ◌+◌, ◌<◌}
-use borrow.Author.Rules.{rules}
+use Prim.Native.Nat.{suc, ◌<◌}
 use lib.ListN.{length}
 use lib.Seq.{drop-cons}
 use native.Mathlib.Numerals.{add-one}

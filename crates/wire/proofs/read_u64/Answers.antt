@@ -1,5 +1,4 @@
 -- `wire::read_u64` meets its contract.
-use borrow.Author.Rules.{rules}
 use mathlib.Core.Path.{sym}
 use native.Mathlib.Omega.{arith}
 use Rattle.wire.proofs.Laws.{le_halves}

@@ -1,5 +1,4 @@
 -- `wire::write_u64` meets its contract.
-use borrow.Author.Rules.{rules}
 use native.Mathlib.Omega.{arith}
 use Rattle.wire.proofs.Laws.{store_halves}
 use Rattle.wire.proofs.write_u64.Goals as goal

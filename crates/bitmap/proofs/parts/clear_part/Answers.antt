@@ -1,6 +1,5 @@
 -- `bitmap::parts::clear_part` meets its contract: a word and the complement of a mask is the word without the mask's bits, which is its part of the range cleared.
 use Prim.Native.Nat.{◌/◌}
-use borrow.Author.Rules.{rules}
 use lib.ListN.{get_or}
 use native.Mathlib.Omega.{arith}
 use Rattle.bitmap.specs.Map.{cleared}

@@ -1,5 +1,4 @@
 -- `bitmap::parts::mark_part` meets its contract: a word or a mask is the word's part of the range marked.
-use borrow.Author.Rules.{rules}
 use native.Mathlib.Omega.{arith}
 use Rattle.bitmap.specs.Map.{marked}
 use Rattle.bitmap.proofs.Stores.{mark_word}

@@ -1,6 +1,5 @@
 -- `bitmap::parts::mask` meets its contract: of the full word, the upper 64 - n bits are shifted out, and the n that are left are shifted to `lo`.
 use Prim.Native.Nat.{◌+◌, ◌-◌, ◌^◌}
-use borrow.Author.Rules.{rules}
 use lib.Pow.{shl_exact, high, ones_lt, ones_split, high_ones}
 use mathlib.Core.Path.{◌≡◌}
 use native.Mathlib.Omega.{arith}

@@ -1,7 +1,6 @@
 -- `bitmap::parts::ones_from` meets its contract: the law of the trailing zeros of a complement, at the smaller of the run and n.
 use Prim.Native.Nat.{◌-◌, ◌/◌, ◌^◌, min}
-use borrow.Author.Rules.{rules}
-use lib.Count.{count_trailing_zeros, trailing_le}
+use lib.Count.{count_trailing_zeros}
 use mathlib.Core.Path.{◌≡◌}
 use native.Mathlib.Omega.{arith}
 use Rattle.bitmap.specs.Mask.{set_in}

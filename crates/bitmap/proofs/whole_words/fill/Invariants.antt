@@ -1,10 +1,8 @@
 -- `bitmap::whole_words::fill` meets its contract. The loop's invariant: the words passed are w, and the others as they were.
 use Prim.Native.Nat.{◌-◌, ◌≤◌}
-use lib.ListN.{length, length-set, replicate}
-use lib.Seq.{paste-zero}
-use mathlib.Core.Path.{◌≡◌, refl, ◌∙◌}
-use native.Mathlib.Omega.{arith}
-use Rattle.bitmap.proofs.WordFolds.{fill_end, fill_turn, filling}
+use lib.ListN.{length}
+use mathlib.Core.Path.{◌≡◌}
+use Rattle.bitmap.proofs.WordFolds.{filling}
 use Rattle.bitmap.proofs.whole_words.fill.Given as goal
 
 abbrev pub invariant-loop-k : goal.invariant-loop-k

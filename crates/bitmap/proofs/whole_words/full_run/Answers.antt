@@ -1,10 +1,6 @@
 -- `bitmap::whole_words::full_run` meets its contract. The loop's invariant: the words passed are full, so that the run of those to come is what is left.
-use Prim.Native.Nat.{◌+◌, ◌-◌, ◌≤◌}
-use lib.ListN.{length, drop}
-use mathlib.Core.Path.{◌≡◌, sym}
-use native.Mathlib.Nat.{zero-add}
+use mathlib.Core.Path.{sym}
 use native.Mathlib.Omega.{arith}
-use Rattle.bitmap.specs.WholeWords.{full_run}
 use Rattle.bitmap.proofs.WordFolds.{run_end, run_stop, run_turn}
 use Rattle.bitmap.proofs.whole_words.full_run.Goals as goal
 

@@ -1,12 +1,8 @@
 -- `bitmap::whole_words::ones_of` meets its contract. The loop's invariant: the total, with the ones of the words to come, is the whole.
 use Prim.Native.Nat.{◌+◌, ◌*◌, ◌-◌, ◌≤◌}
-use lib.Count.{ones-le}
 use lib.ListN.{length, drop}
-use mathlib.Core.Path.{◌≡◌, sym}
-use native.Mathlib.Nat.{zero-add}
-use native.Mathlib.Omega.{arith}
+use mathlib.Core.Path.{◌≡◌}
 use Rattle.bitmap.specs.WholeWords.{ones_of}
-use Rattle.bitmap.proofs.WordFolds.{ones_end, ones_turn}
 use Rattle.bitmap.proofs.whole_words.ones_of.Given as goal
 
 abbrev pub invariant-loop-k : goal.invariant-loop-k

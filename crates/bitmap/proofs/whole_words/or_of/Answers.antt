@@ -1,10 +1,6 @@
 -- `bitmap::whole_words::or_of` meets its contract. The loop's invariant: what was seen, with what the words to come have, is the whole.
-use Prim.Native.Nat.{◌-◌, ◌≤◌}
-use lib.Bits.{bit_or, or_zero_l}
-use lib.ListN.{length, drop}
-use mathlib.Core.Path.{◌≡◌, sym}
+use mathlib.Core.Path.{sym}
 use native.Mathlib.Omega.{arith}
-use Rattle.bitmap.specs.WholeWords.{or_of}
 use Rattle.bitmap.proofs.WordFolds.{or_end, or_turn}
 use Rattle.bitmap.proofs.whole_words.or_of.Goals as goal
 

@@ -1,10 +1,7 @@
 -- `headers::arrays::count_of` meets its contract. The sum does not wrap: the array has at most 8,192 bytes.
 use Rattle.laws.specs.Choose.{pick}
 use Rattle.protocol.specs.Arrays.{array_count}
-use borrow.Author.Rules.{rules}
 use borrow.Author.Tests.{eq-eqb, ne_eqb}
-use native.Mathlib.Nat.{div-le_self}
-use native.Mathlib.Omega.{arith}
 use Rattle.headers.proofs.arrays.count_of.Goals as goal
 
 pub returns-then-row-eq0 : goal.returns-then-row-eq0

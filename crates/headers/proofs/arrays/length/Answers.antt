@@ -1,8 +1,6 @@
 -- `headers::arrays::length` meets its contract. The product does not wrap: a member has at most 24 bytes.
-use Prim.Native.Nat.{ℕ, ◌-◌, ◌*◌, ◌^◌, ◌<◌}
-use Rattle.protocol.proofs.ArrayLaws.{array_small}
+use Prim.Native.Nat.{ℕ, ◌-◌, ◌*◌}
 use Rattle.protocol.specs.Arrays.{array_length}
-use borrow.Author.Rules.{rules}
 use mathlib.Core.Path.{◌≡◌, refl, sym, ap, ◌∙◌}
 use native.Mathlib.Nat.{zero-mul}
 use native.Mathlib.Omega.{arith}

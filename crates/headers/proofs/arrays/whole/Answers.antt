@@ -1,7 +1,6 @@
 -- `headers::arrays::whole` meets its contract.
 use Rattle.laws.specs.Choose.{pick}
 use Rattle.protocol.specs.Arrays.{array_whole}
-use borrow.Author.Rules.{rules}
 use borrow.Author.Tests.{eq-eqb, ne_eqb}
 use Rattle.headers.proofs.arrays.whole.Goals as goal
 

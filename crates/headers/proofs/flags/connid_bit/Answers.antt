@@ -1,5 +1,4 @@
 -- `headers::flags::connid_bit` meets its contract.
-use borrow.Author.Rules.{rules}
 use Rattle.laws.specs.Choose.{pick}
 use Rattle.headers.proofs.flags.connid_bit.Goals as goal
 

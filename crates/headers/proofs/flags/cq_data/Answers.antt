@@ -1,5 +1,4 @@
 -- `headers::flags::cq_data` meets its contract.
-use borrow.Author.Rules.{rules}
 use Rattle.protocol.specs.Optional.{flagged}
 use Rattle.headers.proofs.flags.cq_data.Goals as goal
 

@@ -1,5 +1,4 @@
 -- `headers::flags::cq_data_bit` meets its contract.
-use borrow.Author.Rules.{rules}
 use Rattle.laws.specs.Choose.{pick}
 use Rattle.headers.proofs.flags.cq_data_bit.Goals as goal
 

@@ -1,5 +1,4 @@
 -- `headers::flags::fit` meets its contract.
-use lib.Bits.{and_le_l}
 use mathlib.Core.Path.{refl}
 use Rattle.protocol.specs.Flags.{flags_fit}
 use Rattle.headers.proofs.flags.fit.Goals as goal

@@ -1,5 +1,4 @@
 -- `headers::flags::has` meets its contract.
-use borrow.Author.Rules.{rules}
 use mathlib.Core.Path.{refl}
 use Rattle.protocol.specs.Flags.{has_flag}
 use Rattle.headers.proofs.flags.has.Goals as goal

@@ -1,5 +1,4 @@
 -- `headers::flags::options_fit` meets its contract.
-use borrow.Author.Rules.{rules}
 use Rattle.protocol.proofs.FlagLaws.{options_tested}
 use Rattle.headers.proofs.flags.options_fit.Goals as goal
 

@@ -1,5 +1,4 @@
 -- `headers::flags::raw_address` meets its contract.
-use borrow.Author.Rules.{rules}
 use Rattle.protocol.specs.Optional.{flagged}
 use Rattle.headers.proofs.flags.raw_address.Goals as goal
 

@@ -1,5 +1,4 @@
 -- `headers::flags::written` meets its contract. The sum does not wrap: the rule of the table leaves room for the flags of all optional headers.
-use borrow.Author.Rules.{rules}
 use native.Mathlib.Omega.{arith}
 use Rattle.protocol.specs.Optional.{flags_of}
 use Rattle.protocol.proofs.FlagLaws.{flags_small}

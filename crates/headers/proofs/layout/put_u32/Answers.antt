@@ -1,5 +1,4 @@
 -- `headers::layout::put_u32` meets its contract.
-use borrow.Author.Rules.{rules}
 use borrow.Author.Tests.{eq-eqb, ne_eqb}
 use Rattle.laws.specs.Choose.{pick}
 use Rattle.protocol.specs.FieldNumbers.{put_there}

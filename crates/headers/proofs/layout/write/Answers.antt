@@ -1,5 +1,4 @@
 -- `headers::layout::write` meets its contract: the fields, put each at its place, stand side by side behind the base header.
-use borrow.Author.Rules.{rules}
 use Rattle.laws.specs.Choose.{pick}
 use Rattle.protocol.proofs.PutLaws.{fields_put}
 use Rattle.headers.proofs.layout.write.Goals as goal

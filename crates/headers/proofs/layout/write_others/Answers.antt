@@ -1,5 +1,4 @@
 -- `headers::layout::write_others` meets its contract: each field is put inside the header.
-use borrow.Author.Rules.{rules}
 use native.Mathlib.Omega.{arith}
 use Rattle.laws.specs.Choose.{pick}
 use Rattle.protocol.specs.Layout.{credit_request, tag}

@@ -1,5 +1,4 @@
 -- `headers::lengths::fit` meets its contract.
-use borrow.Author.Rules.{rules}
 use borrow.Author.Tests.{le-leb, lt-leb, eq-eqb, ne_eqb}
 use mathlib.Core.Path.{refl}
 use Rattle.protocol.specs.Lengths.{lengths_fit}

@@ -1,5 +1,4 @@
 -- `headers::options::connid_or_zero` meets its contract.
-use borrow.Author.Rules.{rules}
 use Rattle.protocol.specs.Options.{connid_or_zero}
 use Rattle.headers.proofs.options.connid_or_zero.Goals as goal
 

@@ -1,5 +1,4 @@
 -- `headers::options::write_connid` meets its contract.
-use borrow.Author.Rules.{rules}
 use mathlib.Core.Path.{sym}
 use native.Mathlib.Omega.{arith}
 use Rattle.protocol.specs.Options.{connid_bytes}

@@ -1,5 +1,4 @@
 -- `headers::options::write_cq_data` meets its contract.
-use borrow.Author.Rules.{rules}
 use mathlib.Core.Path.{refl, sym}
 use native.Mathlib.Omega.{arith}
 use Rattle.protocol.specs.Options.{cq_data_bytes}

@@ -1,10 +1,8 @@
 -- `headers::options::write_number` meets its contract.
-use borrow.Author.Rules.{rules}
-use mathlib.Core.Path.{refl, sym}
+use mathlib.Core.Path.{sym}
 use native.Mathlib.Omega.{arith}
 use Rattle.wire.specs.LittleEndian.{le_bytes}
 use Rattle.laws.proofs.Storing.{store_nothing}
-use Rattle.protocol.proofs.RowLaws.{width_eight}
 use Rattle.headers.proofs.options.write_number.Goals as goal
 
 pub returns-then-width-eq0 : goal.returns-then-width-eq0

@@ -3,8 +3,6 @@ use Rattle.laws.specs.Choose.{pick}
 use Rattle.protocol.proofs.ReadingLaws.{cut_before}
 use Rattle.protocol.specs.Sections.{raw_span}
 use Rattle.protocol.specs.SectionsInTurn.{sections_behind}
-use borrow.Author.Rules.{rules}
-use borrow.Author.Tests.{not-true, not-false}
 use lib.ListN.{length}
 use mathlib.Core.Path.{sym}
 use native.Mathlib.Nat.{add_assoc, add-zero}

@@ -1,5 +1,4 @@
 -- `headers::sections::connid_at` meets its contract.
-use borrow.Author.Rules.{rules}
 use borrow.Author.Tests.{eq-eqb, ne_eqb}
 use Rattle.laws.specs.Choose.{pick}
 use Rattle.protocol.specs.Sections.{connid_at}

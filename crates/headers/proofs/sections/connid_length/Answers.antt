@@ -1,5 +1,4 @@
 -- `headers::sections::connid_length` meets its contract.
-use borrow.Author.Rules.{rules}
 use Rattle.laws.specs.Choose.{pick}
 use Rattle.protocol.specs.Optional.{flagged}
 use Rattle.protocol.specs.SectionsInTurn.{connid_length}

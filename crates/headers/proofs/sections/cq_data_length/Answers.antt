@@ -1,5 +1,4 @@
 -- `headers::sections::cq_data_length` meets its contract.
-use borrow.Author.Rules.{rules}
 use Rattle.laws.specs.Choose.{pick}
 use Rattle.protocol.specs.SectionsInTurn.{cq_data_length}
 use Rattle.headers.proofs.sections.cq_data_length.Goals as goal

@@ -6,7 +6,6 @@ use Rattle.protocol.proofs.RowLaws.{after_no_array, header_bounds}
 use Rattle.protocol.proofs.StepLaws.{extent_in_steps}
 use Rattle.protocol.specs.SectionsInTurn.{after_array, sections_behind}
 use Prim.Native.Nat.{◌^◌, ◌<◌}
-use borrow.Author.Rules.{rules}
 use borrow.Author.Tests.{ne_eqb}
 use mathlib.Core.Path.{sym, ◌∙◌}
 use native.Mathlib.Omega.{arith}

@@ -1,6 +1,5 @@
 -- `headers::sections::from` meets its contract. The sums do not wrap: CQ data and connid have at most 8 bytes each.
 use Prim.Native.Nat.{◌+◌}
-use borrow.Author.Rules.{rules}
 use borrow.Author.Tests.{lt-ltb, le-ltb}
 use native.Mathlib.Omega.{arith}
 use Rattle.laws.specs.Choose.{pick}

@@ -1,5 +1,4 @@
 -- `headers::table::find_among` meets its contract.
-use borrow.Author.Rules.{rules}
 use Rattle.laws.specs.Choose.{pick}
 use Rattle.protocol.specs.Types.{admit}
 use Rattle.headers.proofs.table.find_among.Goals as goal

@@ -1,6 +1,5 @@
 -- `packet::reader::among` meets its contract. What `typed` requires, the rule of the table, holds of a row that is found.
 use Prim.Native.Nat.{ℕ}
-use borrow.Author.Rules.{rules}
 use borrow.Author.Tests.{lt-ltb, le-ltb, eq-eqb, ne_eqb}
 use lib.ListN.{get_or}
 use mathlib.Core.Bool.{Bool}

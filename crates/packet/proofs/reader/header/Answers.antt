@@ -1,5 +1,4 @@
 -- `packet::reader::header` meets its contract.
-use borrow.Author.Rules.{rules}
 use mathlib.Core.Path.{sym, ◌∙◌}
 use Rattle.protocol.specs.Optional.{flagged}
 use Rattle.protocol.specs.Reading.{header_in}

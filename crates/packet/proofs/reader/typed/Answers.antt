@@ -1,6 +1,4 @@
 -- `packet::reader::typed` meets its contract. What `whole` requires, that the sections lie inside the packet, holds of sections that are found.
-use borrow.Author.Rules.{rules}
-use borrow.Author.Tests.{not-true, not-false}
 use mathlib.Core.Path.{◌≡◌, sym, ◌∙◌}
 use Rattle.laws.specs.Choose.{pick}
 use Rattle.protocol.specs.Reading.{read_flags, read_sections}

@@ -1,6 +1,4 @@
 -- `packet::reader::whole` meets its contract.
-use borrow.Author.Rules.{rules}
-use borrow.Author.Tests.{not-true, not-false}
 use Rattle.laws.specs.Choose.{pick}
 use Rattle.protocol.specs.Reading.{packet_in, read_lengths}
 use Rattle.packet.proofs.reader.whole.Goals as goal

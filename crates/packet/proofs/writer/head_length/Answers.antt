@@ -1,5 +1,4 @@
 -- `packet::writer::head_length` meets its contract. The sum does not wrap: headers without the raw address have at most 48 bytes.
-use borrow.Author.Rules.{rules}
 use native.Mathlib.Omega.{arith}
 use Rattle.protocol.specs.SectionsInTurn.{head_length}
 use Rattle.protocol.proofs.WritingLaws.{head_small}

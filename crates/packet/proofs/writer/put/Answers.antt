@@ -1,6 +1,5 @@
 -- `packet::writer::put` meets its contract: the parts of a packet are stored side by side.
 use Prim.Native.Nat.{◌+◌, ◌≤◌}
-use borrow.Author.Rules.{rules}
 use lib.ListN.{length, length-append}
 use mathlib.Core.List.{◌++◌}
 use native.Mathlib.Omega.{arith}
@@ -9,7 +8,6 @@ use Rattle.protocol.specs.Writing.{mandatory_bytes}
 use Rattle.laws.proofs.Storing.{store_next}
 use Rattle.protocol.proofs.StepLaws.{packet_in_steps}
 use Rattle.protocol.proofs.WritingLaws.{length_mandatory, length_packet, raw_fits}
-use Rattle.protocol.specs.Limits.{packet_limit}
 use Rattle.packet.proofs.writer.put.Goals as goal
 use Rattle.packet.proofs.writer.put.Goals.{Start}
 

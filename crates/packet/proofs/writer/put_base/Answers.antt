@@ -1,6 +1,4 @@
 -- `packet::writer::put_base` meets its contract.
-use borrow.Author.Rules.{rules}
-use lib.ListN.{length-set}
 use lib.Seq.{sets}
 use mathlib.Core.List.{[], ◌∷◌}
 use mathlib.Core.Path.{◌≡◌, refl}

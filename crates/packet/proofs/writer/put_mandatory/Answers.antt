@@ -1,5 +1,4 @@
 -- `packet::writer::put_mandatory` meets its contract: its two parts are stored side by side.
-use borrow.Author.Rules.{rules}
 use native.Mathlib.Omega.{arith}
 use Rattle.protocol.specs.Arrays.{array_count}
 use Rattle.protocol.specs.FieldNumbers.{field_bytes}

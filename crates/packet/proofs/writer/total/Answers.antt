@@ -1,8 +1,6 @@
 -- `packet::writer::total` meets its contract.
 use Prim.Native.Nat.{◌≤◌}
 use Rattle.protocol.proofs.WritingLaws.{above_limit_lem, head_small, total_above, total_with, total_without}
-use borrow.Author.Rules.{rules}
-use borrow.Author.Tests.{not-true, not-false}
 use mathlib.Core.Path.{sym, ◌∙◌}
 use native.Mathlib.Omega.{arith}
 use Rattle.packet.proofs.writer.total.Goals as goal

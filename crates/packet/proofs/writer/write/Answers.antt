@@ -1,5 +1,4 @@
 -- `packet::writer::write` meets its contract. What `typed` requires, the rule of the table, holds of a row that is found.
-use borrow.Author.Rules.{rules}
 use mathlib.Core.Path.{sym, ◌∙◌}
 use Rattle.protocol.specs.Writing.{write_of, write_typed}
 use Rattle.protocol.proofs.TableRule.{sound}

@@ -1,5 +1,4 @@
 -- `packet_words::reading::read` meets its contract.
-use borrow.Author.Rules.{rules}
 use borrow.Author.Tests.{lt-leb, le-leb}
 use mathlib.Core.Path.{◌≡◌}
 use Rattle.laws.specs.Choose.{pick}

@@ -1,5 +1,4 @@
 -- `packet_words::reading::value_words` meets its contract.
-use borrow.Author.Rules.{rules}
 use mathlib.Core.Path.{refl}
 use Rattle.packet_words.specs.Values.{value_words}
 use Rattle.packet_words.proofs.reading.value_words.Goals as goal

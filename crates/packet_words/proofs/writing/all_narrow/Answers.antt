@@ -1,5 +1,4 @@
 -- `packet_words::writing::all_narrow` meets its contract: each word is looked at in its turn.
-use borrow.Author.Rules.{rules}
 use borrow.Author.Tests.{le-ltb, lt-ltb}
 use mathlib.Core.Path.{refl}
 use Rattle.packet_words.specs.Writing.{all_narrow}

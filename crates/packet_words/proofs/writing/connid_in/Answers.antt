@@ -1,5 +1,4 @@
 -- `packet_words::writing::connid_in` meets its contract.
-use borrow.Author.Rules.{rules}
 use borrow.Author.Tests.{eq-eqb, ne_eqb}
 use Rattle.laws.specs.Choose.{pick}
 use Rattle.packet_words.proofs.writing.connid_in.Goals as goal

@@ -1,5 +1,4 @@
 -- `packet_words::writing::cq_in` meets its contract.
-use borrow.Author.Rules.{rules}
 use borrow.Author.Tests.{eq-eqb, ne_eqb}
 use lib.ListN.{get_or}
 use Rattle.laws.specs.Choose.{pick}

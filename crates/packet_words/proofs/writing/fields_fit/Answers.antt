@@ -1,7 +1,5 @@
 -- `packet_words::writing::fields_fit` meets its contract: the words of the 32-bit fields are tested where the type has the field.
-use borrow.Author.Tests.{not-true, not-false}
 use Rattle.packet_words.proofs.Fitting.{own_fit}
-use borrow.Author.Rules.{rules}
 use Rattle.packet_words.proofs.writing.fields_fit.Goals as goal
 
 pub returns-then-not-holds : goal.returns-then-not-holds

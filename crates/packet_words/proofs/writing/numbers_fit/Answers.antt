@@ -1,7 +1,5 @@
 -- `packet_words::writing::numbers_fit` meets its contract.
-use borrow.Author.Tests.{not-true, not-false}
 use Rattle.packet_words.specs.Writing.{words_fit}
-use borrow.Author.Rules.{rules}
 use Rattle.packet_words.proofs.writing.numbers_fit.Goals as goal
 
 pub returns-then-not-fields_fit : goal.returns-then-not-fields_fit

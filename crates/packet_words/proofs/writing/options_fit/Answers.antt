@@ -1,5 +1,4 @@
 -- `packet_words::writing::options_fit` meets its contract.
-use borrow.Author.Rules.{rules}
 use borrow.Author.Tests.{ne_eqb}
 use Rattle.packet_words.proofs.Fitting.{options_said}
 use Rattle.packet_words.proofs.writing.options_fit.Goals as goal

@@ -1,6 +1,5 @@
 -- `packet_words::writing::write` meets its contract: no type has a number above 255, and where every number of 32 bits is one the packet
 -- writer's own checks are all.
-use borrow.Author.Rules.{rules}
 use borrow.Author.Tests.{lt-leb, le-leb}
 use mathlib.Core.Path.{sym, ◌∙◌}
 use native.Mathlib.Omega.{arith}

@@ -1,6 +1,4 @@
 -- `packet_words::writing::write_as` meets its contract: its two refusals come before the packet writer's own.
-use borrow.Author.Rules.{rules}
-use borrow.Author.Tests.{not-true, not-false}
 use Rattle.laws.specs.Choose.{pick}
 use Rattle.packet_words.specs.Writing.{put_typed}
 use Rattle.packet_words.proofs.writing.write_as.Goals as goal

@@ -1,14 +1,9 @@
 -- `posting::ages::count_older` meets its contract. The loop's invariant: the slots passed are counted, one each at most.
 use Prim.Native.Nat.{◌+◌, ◌-◌, ◌≤◌}
-use borrow.Author.Rules.{rules}
-use lib.ListN.{length, drop}
-use mathlib.Core.Path.{◌≡◌, sym}
-use native.Mathlib.Nat.{add_assoc}
-use native.Mathlib.Omega.{arith}
-use Rattle.laws.proofs.Listing.{length_mapped}
+use lib.ListN.{drop}
+use mathlib.Core.Path.{◌≡◌}
 use Rattle.peer.specs.Calls.{count_older}
-use Rattle.peer.specs.State.{phase_at, slot_count}
-use Rattle.peer.proofs.Slots.SlotTurns.{older_end, older_turn, one_older_le}
+use Rattle.peer.specs.State.{slot_count}
 use Rattle.posting.proofs.ages.count_older.Given as goal
 
 abbrev pub invariant-loop-i : goal.invariant-loop-i

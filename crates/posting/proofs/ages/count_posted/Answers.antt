@@ -1,12 +1,10 @@
 -- `posting::ages::count_posted` meets its contract. The loop's invariant: the slots passed are counted, one each at most.
-use Prim.Native.Nat.{◌+◌, ◌-◌, ◌≤◌}
-use borrow.Author.Rules.{rules}
-use lib.ListN.{length, drop}
+use Prim.Native.Nat.{◌≤◌}
+use lib.ListN.{length}
 use mathlib.Core.Path.{◌≡◌, sym}
 use native.Mathlib.Nat.{add_assoc}
 use native.Mathlib.Omega.{arith}
 use Rattle.laws.proofs.Listing.{length_mapped}
-use Rattle.peer.specs.Calls.{count_posted}
 use Rattle.peer.specs.State.{phase_at, slot_count}
 use Rattle.peer.proofs.Slots.SlotTurns.{one_posted_le, posted_end, posted_turn}
 use Rattle.posting.proofs.ages.count_posted.Goals as goal

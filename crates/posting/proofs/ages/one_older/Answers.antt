@@ -1,5 +1,4 @@
 -- `posting::ages::one_older` meets its contract.
-use borrow.Author.Rules.{rules}
 use borrow.Author.Tests.{lt-ltb, le-ltb}
 use Rattle.laws.specs.Choose.{pick}
 use Rattle.posting.proofs.ages.one_older.Goals as goal

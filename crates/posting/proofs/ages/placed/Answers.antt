@@ -1,5 +1,4 @@
 -- `posting::ages::placed` meets its contract.
-use borrow.Author.Rules.{rules}
 use Rattle.peer.specs.Calls.{placed}
 use Rattle.posting.proofs.ages.placed.Goals as goal
 

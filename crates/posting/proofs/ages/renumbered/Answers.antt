@@ -1,13 +1,10 @@
 -- `posting::ages::renumbered` meets its contract. The loop's invariant: the slots passed have their new ages.
-use Prim.Native.Nat.{ℕ, ◌-◌, ◌≤◌}
-use borrow.Author.Rules.{rules}
+use Prim.Native.Nat.{ℕ}
 use lib.ListN.{length}
-use lib.Seq.{paste, paste-zero}
 use mathlib.Core.List.{List}
-use mathlib.Core.Path.{◌≡◌, refl, ap₂, ◌∙◌}
+use mathlib.Core.Path.{◌≡◌, ap₂, ◌∙◌}
 use native.Mathlib.Omega.{arith}
 use Rattle.laws.proofs.Listing.{length_mapped}
-use Rattle.peer.specs.Calls.{renumbered}
 use Rattle.peer.specs.declared.types.Slot.{Slot}
 use Rattle.posting.proofs.Renumbering.{all_renumbered, renumbered_turn}
 use Rattle.peer.specs.State.{slot_count}

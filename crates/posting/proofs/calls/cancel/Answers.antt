@@ -1,5 +1,4 @@
 -- `posting::calls::cancel` meets its contract.
-use borrow.Author.Rules.{rules}
 use borrow.Author.Tests.{le-leb, lt-leb}
 use mathlib.Core.Path.{sym, ◌∙◌}
 use Rattle.laws.specs.Choose.{pick}

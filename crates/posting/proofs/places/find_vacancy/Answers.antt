@@ -1,10 +1,7 @@
 -- `posting::places::find_vacancy` meets its contract. The loop's invariant: no slot passed is free.
-use Prim.Native.Nat.{◌-◌, ◌≤◌}
-use borrow.Author.Rules.{rules}
-use lib.ListN.{length, drop}
+use lib.ListN.{length}
 use mathlib.Core.Path.{◌≡◌, refl, sym, ◌∙◌}
 use native.Mathlib.Omega.{arith}
-use Rattle.peer.specs.Matching.{vacancy}
 use Rattle.laws.proofs.Choosing.{pick_false, pick_true}
 use Rattle.laws.proofs.Listing.{length_mapped}
 use Rattle.peer.proofs.Slots.SlotTurns.{vacancy_end, vacancy_turn}

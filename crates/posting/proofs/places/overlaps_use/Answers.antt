@@ -1,5 +1,4 @@
 -- `posting::places::overlaps_use` meets its contract.
-use borrow.Author.Rules.{rules}
 use Rattle.peer.specs.State.{overlaps_use}
 use Rattle.posting.proofs.places.overlaps_use.Goals as goal
 

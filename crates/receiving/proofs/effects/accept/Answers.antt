@@ -1,5 +1,4 @@
 -- `receiving::effects::accept` meets its contract: the segment is stored, its bits are set, and the message is settled by the new words.
-use Rattle.std.proofs.Common.{rules}
 use Rattle.peer.specs.Effects.{accept}
 use Rattle.receiving.proofs.Asking.{within}
 use Rattle.receiving.proofs.effects.accept.Goals as goal

@@ -1,7 +1,5 @@
 -- `receiving::effects::begin` meets its contract: the receive's bits are cleared, and the message is stored as it was opened.
-use Rattle.std.proofs.Common.{length, arith, rules}
 use Rattle.peer.specs.Effects.{begun}
-use Rattle.receiving.proofs.Asking.{begun_stores}
 use Rattle.receiving.proofs.effects.begin.Goals as goal
 
 pub returns : goal.returns

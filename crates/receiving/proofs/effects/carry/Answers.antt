@@ -1,8 +1,8 @@
 -- `receiving::effects::carry` meets its contract: what a verdict's part asks follows from the verdict.
-use Rattle.std.proofs.Common.{◌≡◌, length, sym, ◌∙◌, rules}
+use Rattle.std.proofs.Common.{◌≡◌, length, sym, ◌∙◌}
 use Rattle.laws.proofs.Listing.{length_mapped}
 use Rattle.peer.specs.Effects.{advance, carry, truncated_at}
-use Rattle.receiving.proofs.Asking.{begins, begun_slot, cut_slot, goes_on, in_peer_lem, judging, left_quiet, more_slot}
+use Rattle.receiving.proofs.Asking.{begins, begun_slot, cut_slot, goes_on, in_peer_lem, left_quiet, more_slot}
 use Rattle.peer.specs.State.{slot_count}
 use Rattle.receiving.proofs.effects.carry.Goals as goal
 

@@ -1,5 +1,5 @@
 -- `receiving::effects::grant` meets its contract: what is granted is not nothing, and ends in the message.
-use Rattle.std.proofs.Common.{arith, rules}
+use Rattle.std.proofs.Common.{arith}
 use Rattle.receiving.proofs.Asking.{grant_one}
 use Rattle.peer.proofs.PeerSteps.Kept.{grant_le}
 use Rattle.receiving.proofs.effects.grant.Goals as goal

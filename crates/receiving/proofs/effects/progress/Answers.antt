@@ -1,5 +1,5 @@
 -- `receiving::effects::progress` meets its contract.
-use Rattle.std.proofs.Common.{rules, eq-eqb, ne_eqb, le-leb}
+use Rattle.std.proofs.Common.{eq-eqb, ne_eqb, le-leb}
 use borrow.Author.Tests.{lt-leb}
 use Rattle.laws.specs.Choose.{pick}
 use Rattle.peer.specs.Effects.{progress_of}

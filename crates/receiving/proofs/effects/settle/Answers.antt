@@ -1,5 +1,5 @@
 -- `receiving::effects::settle` meets its contract.
-use Rattle.std.proofs.Common.{sym, ◌∙◌, rules}
+use Rattle.std.proofs.Common.{sym, ◌∙◌}
 use Rattle.peer.specs.Effects.{settled_as}
 use Rattle.laws.proofs.Storing.{store_nothing}
 use Rattle.receiving.proofs.Asking.{due_remains}

@@ -1,7 +1,6 @@
 -- `receiving::grants::grant_of` meets its contract.
-use Rattle.std.proofs.Common.{◌≤◌, arith, rules}
+use Rattle.std.proofs.Common.{arith}
 use Rattle.peer.specs.Effects.{grant_of}
-use Rattle.receiving.proofs.Asking.{grant_most}
 use Rattle.receiving.proofs.grants.grant_of.Goals as goal
 
 pub returns-then-left-most : goal.returns-then-left-most

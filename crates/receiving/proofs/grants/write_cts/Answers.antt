@@ -1,5 +1,4 @@
 -- `receiving::grants::write_cts` meets its contract: the packet writer does not refuse a CTS that grants something, where there is room.
-use Rattle.std.proofs.Common.{rules}
 use Rattle.receiving.proofs.CtsWritten.{cts_left}
 use Rattle.receiving.proofs.grants.write_cts.Goals as goal
 

@@ -1,5 +1,4 @@
 -- `receiving::incoming::incoming_of` meets its contract.
-use Rattle.std.proofs.Common.{rules}
 use Rattle.peer.specs.Incomings.{incoming_of}
 use Rattle.receiving.proofs.incoming.incoming_of.Goals as goal
 

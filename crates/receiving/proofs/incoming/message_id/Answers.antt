@@ -1,5 +1,4 @@
 -- `receiving::incoming::message_id` meets its contract.
-use Rattle.std.proofs.Common.{rules}
 use Rattle.laws.specs.Choose.{pick}
 use Rattle.receiving.proofs.incoming.message_id.Goals as goal
 

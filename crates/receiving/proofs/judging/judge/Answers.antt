@@ -1,5 +1,5 @@
 -- `receiving::judging::judge` meets its contract: a segment of an open message is looked for where the map has bits.
-use Rattle.std.proofs.Common.{length, sym, ◌∙◌, rules}
+use Rattle.std.proofs.Common.{length, sym, ◌∙◌}
 use Rattle.laws.specs.Choose.{pick}
 use Rattle.peer.specs.Judging.{judge, judge_found}
 use Rattle.receiving.proofs.Asking.{again_placed, data_placed}

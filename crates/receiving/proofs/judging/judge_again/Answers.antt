@@ -1,5 +1,4 @@
 -- `receiving::judging::judge_again` meets its contract.
-use Rattle.std.proofs.Common.{sym, ◌∙◌, rules}
 use Rattle.laws.specs.Choose.{pick}
 use Rattle.peer.specs.Judging.{judge_again}
 use Rattle.receiving.proofs.judging.judge_again.Goals as goal

@@ -1,6 +1,4 @@
 -- `receiving::judging::judge_data` meets its contract.
-use Rattle.std.proofs.Common.{sym, ◌∙◌, rules}
-use borrow.Author.Tests.{not-true, not-false}
 use Rattle.laws.specs.Choose.{pick}
 use Rattle.peer.specs.Judging.{judge_data}
 use Rattle.receiving.proofs.judging.judge_data.Goals as goal

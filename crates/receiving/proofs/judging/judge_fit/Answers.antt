@@ -1,5 +1,5 @@
 -- `receiving::judging::judge_fit` meets its contract.
-use Rattle.std.proofs.Common.{rules, le-ltb, lt-ltb}
+use Rattle.std.proofs.Common.{le-ltb, lt-ltb}
 use Rattle.laws.specs.Choose.{pick}
 use Rattle.peer.specs.Judging.{judge_fit}
 use Rattle.receiving.proofs.judging.judge_fit.Goals as goal

@@ -1,5 +1,5 @@
 -- `receiving::judging::judge_more` meets its contract.
-use Rattle.std.proofs.Common.{◌≡◌, ◌+◌, rules}
+use Rattle.std.proofs.Common.{◌≡◌, ◌+◌}
 use Rattle.bitmap.specs.Map.{touched}
 use Rattle.laws.specs.Choose.{pick}
 use Rattle.peer.specs.Judging.{judge_more}

@@ -1,5 +1,5 @@
 -- `receiving::judging::judge_new` meets its contract.
-use Rattle.std.proofs.Common.{rules, le-leb}
+use Rattle.std.proofs.Common.{le-leb}
 use borrow.Author.Tests.{lt-leb}
 use Rattle.laws.specs.Choose.{pick}
 use Rattle.peer.specs.Judging.{judge_new}

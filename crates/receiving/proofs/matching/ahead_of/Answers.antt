@@ -1,5 +1,5 @@
 -- `receiving::matching::ahead_of` meets its contract.
-use Rattle.std.proofs.Common.{arith, rules}
+use Rattle.std.proofs.Common.{arith}
 use Rattle.peer.specs.Matching.{ahead}
 use Rattle.receiving.proofs.matching.ahead_of.Goals as goal
 

@@ -1,8 +1,6 @@
 -- `receiving::matching::find_oldest` meets its contract. The loop's invariant: the rest, with the best so far, has the oldest of all.
-use Rattle.std.proofs.Common.{◌≡◌, ◌-◌, ◌≤◌, length, drop, sym, ◌∙◌, arith, rules}
+use Rattle.std.proofs.Common.{◌≡◌, length, sym, ◌∙◌, arith}
 use Rattle.laws.proofs.Listing.{length_mapped}
-use Rattle.peer.specs.Matching.{oldest}
-use Rattle.peer.specs.declared.types.Fit.{Fit}
 use Rattle.peer.proofs.Slots.SlotTurns.{oldest_end, oldest_turn}
 use Rattle.peer.specs.State.{slot_count}
 use Rattle.receiving.proofs.matching.find_oldest.Goals as goal

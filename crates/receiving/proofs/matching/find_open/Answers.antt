@@ -1,7 +1,6 @@
 -- `receiving::matching::find_open` meets its contract. The loop's invariant: no slot passed is open under the id, so that it is looked for in the rest.
-use Rattle.std.proofs.Common.{◌≡◌, ◌-◌, ◌≤◌, length, drop, sym, ◌∙◌, arith, rules}
+use Rattle.std.proofs.Common.{◌≡◌, length, sym, ◌∙◌, arith}
 use Rattle.laws.proofs.Listing.{length_mapped}
-use Rattle.peer.specs.Matching.{find_open}
 use Rattle.peer.proofs.Slots.SlotTurns.{open_end, open_turn}
 use Rattle.peer.specs.State.{slot_count}
 use Rattle.receiving.proofs.matching.find_open.Goals as goal

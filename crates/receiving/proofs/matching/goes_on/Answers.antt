@@ -1,6 +1,5 @@
 -- `receiving::matching::goes_on` meets its contract.
-use Rattle.std.proofs.Common.{rules, eq-eqb, ne_eqb}
-use borrow.Author.Tests.{not-true, not-false}
+use Rattle.std.proofs.Common.{eq-eqb, ne_eqb}
 use Rattle.peer.specs.Matching.{same_message}
 use Rattle.receiving.proofs.matching.goes_on.Goals as goal
 

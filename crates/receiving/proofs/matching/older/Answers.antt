@@ -1,5 +1,5 @@
 -- `receiving::matching::older` meets its contract.
-use Rattle.std.proofs.Common.{rules, le-ltb, lt-ltb}
+use Rattle.std.proofs.Common.{le-ltb, lt-ltb}
 use Rattle.laws.specs.Choose.{pick}
 use Rattle.peer.specs.Matching.{older}
 use Rattle.receiving.proofs.matching.older.Goals as goal

@@ -1,5 +1,4 @@
 -- `receiving::matching::older_here` meets its contract.
-use Rattle.std.proofs.Common.{rules}
 use Rattle.laws.specs.Choose.{pick}
 use Rattle.peer.specs.Matching.{older_here}
 use Rattle.receiving.proofs.matching.older_here.Goals as goal

@@ -1,5 +1,5 @@
 -- `receiving::matching::open_under` meets its contract.
-use Rattle.std.proofs.Common.{rules, eq-eqb, ne_eqb}
+use Rattle.std.proofs.Common.{eq-eqb, ne_eqb}
 use Rattle.laws.specs.Choose.{pick}
 use Rattle.peer.specs.Matching.{open_here}
 use Rattle.receiving.proofs.matching.open_under.Goals as goal

@@ -1,6 +1,4 @@
 -- `receiving::matching::same_medium` meets its contract.
-use Rattle.std.proofs.Common.{rules}
-use borrow.Author.Tests.{not-true, not-false}
 use Rattle.peer.specs.Matching.{same_medium}
 use Rattle.receiving.proofs.matching.same_medium.Goals as goal
 

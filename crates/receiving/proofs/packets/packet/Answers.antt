@@ -1,5 +1,5 @@
 -- `receiving::packets::packet` meets its contract: a packet that was read has its data in its bytes, and keeps to what its parts ask.
-use Rattle.std.proofs.Common.{◌^◌, ◌<◌, length, sym, ◌∙◌, arith, rules, le-ltb, lt-ltb}
+use Rattle.std.proofs.Common.{◌^◌, ◌<◌, length, sym, ◌∙◌, arith, le-ltb, lt-ltb}
 use Rattle.laws.specs.Choose.{pick}
 use Rattle.peer.specs.Calls.{packet_effect, read_effect}
 use Rattle.laws.proofs.Storing.{lent_part}

@@ -1,6 +1,5 @@
 -- `state_check::open::fits` meets its contract.
-use borrow.Author.Rules.{rules}
-use borrow.Author.Tests.{not-true, not-false, le-leb, lt-leb}
+use borrow.Author.Tests.{le-leb, lt-leb}
 use Rattle.peer.specs.State.{phase_fits}
 use Rattle.state_check.proofs.open.fits.Goals as goal
 

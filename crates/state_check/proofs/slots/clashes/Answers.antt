@@ -1,5 +1,4 @@
 -- `state_check::slots::clashes` meets its contract.
-use borrow.Author.Rules.{rules}
 use Rattle.peer.specs.State.{clash}
 use Rattle.state_check.proofs.slots.clashes.Goals as goal
 

@@ -1,5 +1,4 @@
 -- `state_check::slots::fits` meets its contract.
-use borrow.Author.Rules.{rules}
 use mathlib.Core.Path.{refl}
 use Rattle.peer.specs.State.{phase_fits}
 use Rattle.state_check.proofs.slots.fits.Goals as goal

@@ -1,5 +1,5 @@
 -- `peer::types::Receive::overlaps` meets its contract: the range that starts later starts in the other, and none is empty.
-use Rattle.std.proofs.Common.{◌+◌, ◌-◌, min, max, sym, arith, rules, le-ltb}
+use Rattle.std.proofs.Common.{◌+◌, ◌-◌, min, max, sym, arith, le-ltb}
 use Rattle.laws.proofs.Comparing.{ltb_same}
 use Rattle.peer.specs.State.{overlap}
 use Rattle.peer.proofs.types.Receive.overlaps.Goals as goal
