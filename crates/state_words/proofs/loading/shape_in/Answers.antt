@@ -22,4 +22,10 @@ returns-in-3 c = rw c.in-3.is
 pub returns-in_default : goal.returns-in_default
 unfolding pick
 returns-in_default c =
-    ?
+    let r = c.in_default.in_default-own.rest in
+    rw (
+      ne_eqb _ _ (λ e. r.0.0.0.1 e),
+      ne_eqb _ _ (λ e. r.0.0.1 e),
+      ne_eqb _ _ (λ e. r.0.1 e),
+      ne_eqb _ _ (λ e. r.1 e),
+    )
