@@ -1,0 +1,67 @@
+-- `replay::replaying::begin` meets its contract: the first line, the calls' lines and the last make the report.
+use borrow.Author.Rules.{rules}
+use lib.ListN.{length}
+use mathlib.Core.Path.{◌≡◌, sym, ◌∙◌}
+use native.Mathlib.Omega.{arith}
+use Rattle.replay.proofs.DecodeLaws.{calls_few}
+use Rattle.replay.proofs.LineRoom.{tell_room}
+use Rattle.replay.proofs.WholeLaws.{last_room, ready_holds, replay_from_ready, replay_from_refused, reported_by_parts, set_up_room}
+use Rattle.replay.proofs.replaying.begin.Goals as goal
+
+pub tell-requires : goal.tell-requires
+tell-requires c = tell_room _ _ _ c.requires
+
+pub put_line-first-requires : goal.put_line-first-requires
+put_line-first-requires c = let a = set_up_room in let p = c.requires in omega arith
+
+pub run-ran-requires-clause-eights : goal.run-ran-requires-clause-eights
+run-ran-requires-clause-eights c =
+    let s = c in
+    let w = c.put_line-first in
+    let a = set_up_room in
+    let p = s.requires in
+    let k : length w.new.text ≡ length s.args.text.now = w.auto.text in
+    let (eights, fits) = ready_holds _ _ _ s.args.arena.now _ _ c.set_up-started.ensures c.in-Ready.is in eights
+
+pub run-ran-requires-clause-start_value : goal.run-ran-requires-clause-start_value
+run-ran-requires-clause-start_value c =
+    let s = c in
+    let w = c.put_line-first in
+    let a = set_up_room in
+    let p = s.requires in
+    let k : length w.new.text ≡ length s.args.text.now = w.auto.text in
+    let (eights, fits) = ready_holds _ _ _ s.args.arena.now _ _ c.set_up-started.ensures c.in-Ready.is in fits
+
+pub run-ran-requires-clause-budget_in_bounds : goal.run-ran-requires-clause-budget_in_bounds
+run-ran-requires-clause-budget_in_bounds c =
+    let s = c in
+    let w = c.put_line-first in
+    let a = set_up_room in
+    let p = s.requires in
+    let k : length w.new.text ≡ length s.args.text.now = w.auto.text in
+    let (eights, fits) = ready_holds _ _ _ s.args.arena.now _ _ c.set_up-started.ensures c.in-Ready.is in omega arith
+
+pub put_ending-requires : goal.put_ending-requires
+put_ending-requires c =
+    let s = c in
+    let a = s.args in
+    let w = c.put_line-first in
+    let r = c.run-ran in
+    last_room _ _ _ a.text.now _ a.budget (calls_few a.budget _ _ _) s.requires _ _ w.ensures.0 (rw w.ensures.1 at r.ensures)
+
+pub returns-in-Refused : goal.returns-in-Refused
+returns-in-Refused c =
+    c.tell.ensures _ _ _
+    ∙ sym (replay_from_refused _ _ _ _ _ _ _ _ _ _ _ c.set_up-started.ensures _ c.in-Refused.is)
+
+pub returns-in-Ready : goal.returns-in-Ready
+returns-in-Ready c =
+    let s = c in
+    let a = s.args in
+    let w = c.put_line-first in
+    let r = c.run-ran in
+    let p = c.put_ending in
+    let e = c in
+    reported_by_parts _ _ _ a.text.now _ a.budget (calls_few a.budget _ _ _) s.requires _ _ w.ensures.0 (rw w.ensures.1 at r.ensures) _ _
+    p.ensures.0 p.ensures.1
+    ∙ sym (replay_from_ready _ _ _ _ _ _ _ _ _ _ _ e.set_up-started.ensures e.in-Ready.is)
