@@ -198,7 +198,7 @@ pub batch_held : (bytes replies : List ℕ) → ((i : ℕ) → get_or bytes i 0 
 unfolding world_after turn_of
 batch_held bytes replies b w g h [] = h
 batch_held bytes replies b w g h (q ∷ qs) =
-    batch_held bytes replies b _ (good_called w g q.peer call) (called_held w g h q.peer call (within q.call)) qs
+    batch_held bytes replies b (call_turn w q.peer call).world (good_called w g q.peer call) (called_held w g h q.peer call (within q.call)) qs
   where
     call : Call
     call = call_of (lent_call_of bytes replies q.call)
