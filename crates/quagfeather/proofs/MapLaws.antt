@@ -14,9 +14,9 @@ use Rattle.laws.specs.Choose.{pick}
 use Rattle.laws.proofs.Choosing.{and_left, and_right}
 use Rattle.quagfeather.specs.Exported.{Marked, in_map, mark_of, mark_untested_of, overlap_test_of}
 
-pub in_map : (words at n : ℕ) → in_map words at n ≡ true → (at + n ≤ 64 * words) × (at + n < 2 ^ 63)
+pub in_map_lem : (words at n : ℕ) → in_map words at n ≡ true → (at + n ≤ 64 * words) × (at + n < 2 ^ 63)
 unfolding in_map
-in_map words at n e =
+in_map_lem words at n e =
     let few = leb-true words (peer_count * (area_limit / 64)) (and_left _ (leb (at + n) (64 * words)) e) in
     let inside = leb-true (at + n) (64 * words) (and_right (leb words (peer_count * (area_limit / 64))) _ e) in
     (inside, omega arith)
