@@ -1,5 +1,7 @@
 // The four calls: the checks, then one peer's step by the dispatcher of `lending`, and the peer is put
 // back. The state check walks the peers here, where the engine already is: an engine is never handed on.
+#![tactic(auto)]
+
 ghost use Rattle.std.specs.Prelude.{◌≡◌, length};
 ghost use Rattle.peer.specs.Calls.{post, packet, cancel, report};
 ghost use Rattle.engine.specs.Leaves.{world, silent, call_leaves};

@@ -1,5 +1,7 @@
 // What is lent on to one peer: its own part of the arena and of the map. These serve `calls`,
 // `replay` and `packed`, whose checks show what they require.
+#![tactic(auto)]
+
 mod dispatch;
 mod reporting;
 

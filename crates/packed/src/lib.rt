@@ -1,5 +1,7 @@
 // The engine for callers who keep its state as words: lists of calls, each call and each answer in
 // eight words.
+#![tactic(auto)]
+
 mod answers;
 mod calls;
 mod running;

@@ -1,6 +1,8 @@
 // The functions that programs in other languages link: numbers and slices, each slice as a pointer and
 // a length. What a `requires` would ask is asked of none of them. Where a function answers 0 or the
 // number of a refusal, a refusal leaves everything as it was.
+#![tactic(auto)]
+
 ghost use Rattle.std.specs.Prelude.{◌≡◌, length};
 ghost use Rattle.packet_words.specs.Values.{read_into};
 ghost use Rattle.packet_words.specs.Writing.{write_from};

@@ -1,4 +1,6 @@
 // A recorded run, replayed: a line of text for each entry.
+#![tactic(auto)]
+
 mod entries;
 mod lines;
 mod replaying;

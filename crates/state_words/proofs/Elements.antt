@@ -4,7 +4,7 @@ use base.Fml.{Fml}
 use denote.Array.{each}
 use denote.Shadow.{shadow}
 use lib.ListN.{length, get_or}
-use mathlib.Core.List.{List, [], ◌∷◌, map}
+use mathlib.Core.List.{List, [], ◌∷◌}
 use mathlib.Core.Path.{◌≡◌}
 use mir.Val.{Val}
 use native.Mathlib.Omega.{arith}

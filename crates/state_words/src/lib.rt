@@ -1,4 +1,6 @@
 // The engine's state as 64-bit words, which a caller in another language keeps between calls.
+#![tactic(auto)]
+
 mod loading;
 mod saving;
 mod types;

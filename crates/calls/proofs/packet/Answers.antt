@@ -1,13 +1,11 @@
 -- `calls::packet` meets its contract. The loop's invariant: the state can be if it `fits` so far and the peers from i on can be.
-use Prim.Native.Nat.{◌-◌}
-use borrow.Author.Rules.{rules}
 use borrow.Author.Tests.{le-ltb, lt-ltb}
 use lib.ListN.{length}
 use mathlib.Core.Logic.{inl, inr}
 use native.Mathlib.Omega.{arith}
 use Rattle.laws.proofs.Listing.{length_mapped}
 use Rattle.peer.specs.Calls.{packet}
-use Rattle.engine.proofs.CheckLaws.{Gated, Walked, gated, opened, walk_below, walk_start, walk_turn}
+use Rattle.engine.proofs.CheckLaws.{Gated, gated, opened, walk_start, walk_turn}
 use Rattle.engine.proofs.PutBack.{packet_call, refused_call_leaves}
 use Rattle.calls.proofs.packet.Goals as goal
 use Rattle.calls.proofs.packet.Goals.{After-admit, else-loop-fits-test, then-loop-fits-test+else-i-n}

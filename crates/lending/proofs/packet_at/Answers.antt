@@ -1,11 +1,8 @@
 -- `lending::packet_at` meets its contract: what the peer stores in its own part is stored in the whole.
-use Prim.Native.Nat.{◌*◌, ◌/◌}
-use borrow.Author.Rules.{rules}
 use lib.ListN.{length}
 use mathlib.Core.Path.{◌≡◌}
-use Rattle.laws.proofs.Storing.{length_lent}
 use Rattle.laws.proofs.Listing.{length_mapped}
-use Rattle.lending.proofs.PartLaws.{own_part, packet_put}
+use Rattle.lending.proofs.PartLaws.{packet_put}
 use Rattle.peer.specs.State.{slot_count}
 use Rattle.lending.proofs.packet_at.Goals as goal
 

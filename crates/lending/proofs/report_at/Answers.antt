@@ -1,10 +1,6 @@
 -- `lending::report_at` meets its contract.
-use Prim.Native.Nat.{ℕ, ◌*◌, ◌/◌}
-use borrow.Author.Rules.{rules}
-use mathlib.Core.Path.{◌≡◌, subst, sym}
-use native.Mathlib.Omega.{arith}
-use Rattle.receiving.specs.Preconditions.{Mapped}
-use Rattle.laws.proofs.Storing.{length_lent, lent_part}
+use Prim.Native.Nat.{◌*◌, ◌/◌}
+use Rattle.laws.proofs.Storing.{lent_part}
 use Rattle.lending.proofs.report_at.Goals as goal
 
 pub returns : goal.returns

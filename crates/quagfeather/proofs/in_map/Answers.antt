@@ -1,5 +1,4 @@
 -- `in_map` meets its contract.
-use borrow.Author.Rules.{rules}
 use borrow.Author.Tests.{le-leb, lt-leb}
 use Rattle.quagfeather.specs.Exported.{in_map}
 use Rattle.quagfeather.proofs.in_map.Goals as goal

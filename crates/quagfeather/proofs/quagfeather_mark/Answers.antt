@@ -1,5 +1,4 @@
 -- `quagfeather_mark` meets its contract: the test, and then the marks.
-use borrow.Author.Rules.{rules}
 use mathlib.Core.Path.{◌∙◌}
 use Rattle.quagfeather.proofs.MapLaws.{decides}
 use Rattle.quagfeather.proofs.quagfeather_mark.Goals as goal

@@ -1,6 +1,4 @@
 -- `quagfeather_overlap_test` meets its contract: the range's check, then the test.
-use borrow.Author.Rules.{rules}
-use borrow.Author.Tests.{not-true, not-false}
 use lib.ListN.{length}
 use mathlib.Core.Bool.{true}
 use mathlib.Core.Path.{◌≡◌, sym, ◌∙◌}

@@ -1,5 +1,5 @@
 -- `engine::checks::gate` meets its contract.
-use borrow.Author.Tests.{not-true, not-false, lt-ltb, le-ltb}
+use borrow.Author.Tests.{lt-ltb, le-ltb}
 use mathlib.Core.Path.{refl}
 use Rattle.engine.specs.Gates.{gate_of}
 use Rattle.laws.specs.Choose.{pick}

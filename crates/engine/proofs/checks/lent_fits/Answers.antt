@@ -1,8 +1,6 @@
 -- `engine::checks::lent_fits` meets its contract.
 use borrow.Author.Tests.{eq-eqb, ne_eqb}
-use native.Mathlib.Omega.{arith}
 use Rattle.engine.specs.SetUp.{lent_fits}
-use Rattle.engine.proofs.CheckLaws.{arena_small, map_small}
 use Rattle.engine.proofs.checks.lent_fits.Goals as goal
 
 pub returns-then-arena-n : goal.returns-then-arena-n

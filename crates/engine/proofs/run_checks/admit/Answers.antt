@@ -1,6 +1,4 @@
 -- `engine::run_checks::admit` meets its contract: a state that can't be is refused 2, any other goes by the gate of the set-up numbers.
-use borrow.Author.Rules.{rules}
-use borrow.Author.Tests.{not-true, not-false}
 use mathlib.Core.Path.{sym, ◌∙◌, refl}
 use Rattle.laws.specs.Choose.{pick}
 use Rattle.engine.specs.Gates.{gate_of}

@@ -1,11 +1,8 @@
 -- `engine::run_checks::fits` meets its contract. The loop's invariant: the state can be if it is `good` so far and the peers from i on can be.
-use Prim.Native.Nat.{◌-◌}
-use borrow.Author.Rules.{rules}
 use borrow.Author.Tests.{le-ltb, lt-ltb}
 use mathlib.Core.Path.{sym}
-use native.Mathlib.Omega.{arith}
 use Rattle.laws.proofs.Listing.{length_mapped}
-use Rattle.engine.proofs.CheckLaws.{Walked, walk_below, walk_end, walk_left, walk_start, walk_turn}
+use Rattle.engine.proofs.CheckLaws.{walk_end, walk_start, walk_turn}
 use Rattle.engine.proofs.run_checks.fits.Goals as goal
 
 pub loop-good-init : goal.loop-good-init

@@ -1,7 +1,5 @@
 -- `engine::setting_up::set_up` meets its contract: a map cleared word by word is all zeros.
 use Prim.Native.Nat.{ℕ}
-use borrow.Author.Rules.{rules}
-use borrow.Author.Tests.{not-true, not-false}
 use lib.ListN.{length}
 use mathlib.Core.Path.{ap, sym, ◌∙◌}
 use native.Mathlib.Nat.{mul_comm}

@@ -1,5 +1,4 @@
 -- `lending::dispatch::local` meets its contract: each arm answers as its kind of call does in the peer's step.
-use borrow.Author.Rules.{rules}
 use Rattle.peer.specs.Calls.{peer_step}
 use Rattle.lending.proofs.dispatch.local.Goals as goal
 

@@ -1,7 +1,5 @@
 -- `lending::dispatch::step` meets its contract: a call of a peer leaves, of what is lent whole, what its own step leaves of its parts.
-use borrow.Author.Rules.{rules}
 use mathlib.Core.Path.{ap, ◌∙◌}
-use native.Mathlib.Omega.{arith}
 use Rattle.peer.specs.Calls.{peer_step}
 use Rattle.laws.proofs.Storing.{lent_part}
 use Rattle.lending.proofs.StepLaws.{local_call, packet_leaves_lem, quiet_leaves}

@@ -1,5 +1,4 @@
 -- `packed::answers::answer_words` meets its contract: each case of an answer is one row of the table.
-use borrow.Author.Rules.{rules}
 use mathlib.Core.Path.{◌∙◌}
 use Rattle.packed.specs.Answers.{answer_words}
 use Rattle.packed.proofs.answers.answer_words.Goals as goal

@@ -1,6 +1,4 @@
 -- `packed::calls::packet_at` meets its contract: the call is bad where its packet or its reply buffer lies outside of what is lent.
-use borrow.Author.Rules.{rules}
-use borrow.Author.Tests.{not-true, not-false}
 use Rattle.laws.specs.Choose.{pick}
 use Rattle.packed.specs.Calls.{packed_packet}
 use Rattle.packed.proofs.calls.packet_at.Goals as goal

@@ -1,5 +1,4 @@
 -- `packed::calls::post_at` meets its contract: the call is bad where the kind is neither 0 nor 1.
-use borrow.Author.Rules.{rules}
 use borrow.Author.Tests.{lt-leb, le-leb}
 use Rattle.laws.specs.Choose.{pick}
 use Rattle.packed.specs.Calls.{packed_post}

@@ -1,5 +1,4 @@
 -- `packed::calls::request_at` meets its contract: the four numbers are tested in the order of the definition.
-use borrow.Author.Rules.{rules}
 use borrow.Author.Tests.{eq-eqb, ne_eqb}
 use mathlib.Core.Path.{◌∙◌}
 use Rattle.laws.specs.Choose.{pick}

@@ -1,5 +1,4 @@
 -- `packed::running::run` meets its contract: words that are no state's are run as an engine of no peers, and stay.
-use borrow.Author.Rules.{rules}
 use mathlib.Core.Path.{sym, ap, ◌∙◌}
 use Rattle.state_words.specs.declared.types.Loaded.{Loaded}
 use Rattle.packed.proofs.Keeping.{run_left, run_saved, state_eights, state_length}

@@ -1,18 +1,15 @@
 -- `packed::running::run_calls` meets its contract. The loop's invariant: the state was checked once, and what the calls passed leave, with the rest run from there, is what
 -- all of them leave.
-use Prim.Native.Nat.{◌-◌, ◌<◌}
-use borrow.Author.Rules.{rules}
+use Prim.Native.Nat.{◌<◌}
 use lib.ListN.{length}
-use mathlib.Core.Logic.{⊎_elim}
 use mathlib.Core.Path.{◌≡◌, refl, sym, ◌∙◌}
 use native.Mathlib.Omega.{arith}
 use Rattle.engine.specs.Leaves.{world}
-use Rattle.guarantees.proofs.CheckedOnce.{CheckedOnce, once_in_peers, once_owned}
-use Rattle.guarantees.proofs.RunInvariant.{run_open, run_refused, run_room}
+use Rattle.guarantees.proofs.CheckedOnce.{once_in_peers, once_owned}
+use Rattle.guarantees.proofs.RunInvariant.{run_open, run_refused}
 use Rattle.packed.specs.Calls.{request_at}
-use Rattle.packed.specs.Running.{ran_from}
 use Rattle.packed.specs.declared.types.FoundRequest.{FoundRequest}
-use Rattle.packed.proofs.BatchInvariant.{BatchInvariant, batch_again, batch_bad, batch_end, batch_inside, batch_next, batch_start, batch_words}
+use Rattle.packed.proofs.BatchInvariant.{batch_again, batch_bad, batch_end, batch_inside, batch_next, batch_start}
 use Rattle.engine.specs.SetUp.{peer_count}
 use Rattle.packed.proofs.running.run_calls.Goals as goal
 use Rattle.packed.proofs.running.run_calls.Goals.{After-admit, In-Open, in-Open, in-Refused}
@@ -80,27 +77,27 @@ loop-taken-preserved c =
     let p = c.put_answer-at in
     elim c.match-admit.branch [
       | in-Refused w ↦
-        let m = run_refused r i l.invariant.4 _ k.admit.ensures _ w.in-Refused.is in
-        rw (w.arena-is, w.map-is, w.replies-is, w.engine-is) (
-          l.invariant.0,
-          l.invariant.1,
-          l.invariant.2,
-          p.auto.answers ∙ l.invariant.3,
-          m.once,
-          batch_again g h _ (read (goal.at.loop-taken-preserved c).After-admit) m _ _ (rw w.answer-is at p.ensures.0) (rw w.answer-is at p.ensures.1),
-        )
+          let m = run_refused r i l.invariant.4 _ k.admit.ensures _ w.in-Refused.is in
+          rw (w.arena-is, w.map-is, w.replies-is, w.engine-is) (
+            l.invariant.0,
+            l.invariant.1,
+            l.invariant.2,
+            p.auto.answers ∙ l.invariant.3,
+            m.once,
+            batch_again g h _ (read (goal.at.loop-taken-preserved c).After-admit) m _ _ (rw w.answer-is at p.ensures.0) (rw w.answer-is at p.ensures.1),
+          )
       | in-Open w ↦
-        let q = w.step-step in
-        let n = q.auto.replies in
-        let m = run_open r i l.invariant.4 _ k.admit.ensures w.in-Open.is _ _ n q.ensures in
-        rw (w.arena-is, w.map-is, w.replies-is, w.engine-is) (
-          q.auto.arena ∙ l.invariant.0,
-          q.auto.map ∙ l.invariant.1,
-          n ∙ l.invariant.2,
-          p.auto.answers ∙ l.invariant.3,
-          m.once,
-          batch_again g h _ (read (goal.at.loop-taken-preserved c).After-admit) m _ _ (rw w.answer-is at p.ensures.0) (rw w.answer-is at p.ensures.1),
-        )
+          let q = w.step-step in
+          let n = q.auto.replies in
+          let m = run_open r i l.invariant.4 _ k.admit.ensures w.in-Open.is _ _ n q.ensures in
+          rw (w.arena-is, w.map-is, w.replies-is, w.engine-is) (
+            q.auto.arena ∙ l.invariant.0,
+            q.auto.map ∙ l.invariant.1,
+            n ∙ l.invariant.2,
+            p.auto.answers ∙ l.invariant.3,
+            m.once,
+            batch_again g h _ (read (goal.at.loop-taken-preserved c).After-admit) m _ _ (rw w.answer-is at p.ensures.0) (rw w.answer-is at p.ensures.1),
+          )
     ]
 
 pub returns : goal.returns

@@ -1,5 +1,4 @@
 -- `packed::starting::set_up` meets its contract.
-use borrow.Author.Rules.{rules}
 use Rattle.packed.proofs.SettingUp.{start_ready, start_refused, start_short}
 use Rattle.packed.proofs.starting.set_up.Goals as goal
 

@@ -1,21 +1,15 @@
 -- `replay::entries::run` meets its contract. The loop's invariant: the state can be, and what the entries taken leave, with the rest run from there, is the whole replay.
-use Prim.Native.Nat.{◌-◌, ◌<◌}
-use borrow.Author.Rules.{rules}
-use borrow.Author.Tests.{ltb-true, ltb-false}
+use Prim.Native.Nat.{◌<◌}
 use lib.ListN.{length}
-use mathlib.Core.Bool.{true}
-use mathlib.Core.Logic.{inl, inr, ⊎_elim}
+use mathlib.Core.Logic.{inl, inr}
 use mathlib.Core.Path.{◌≡◌, refl, sym, ◌∙◌}
 use native.Mathlib.Omega.{arith}
 use Rattle.engine.specs.Leaves.{world}
 use Rattle.trace.specs.Entries.{entry_at}
 use Rattle.trace.specs.declared.types.FoundEntry.{FoundEntry}
-use Rattle.guarantees.specs.Outputs.{run_leaves}
-use Rattle.guarantees.proofs.CheckedOnce.{CheckedOnce, once_in_peers, once_owned}
-use Rattle.guarantees.proofs.RunInvariant.{run_open, run_refused, run_room}
-use Rattle.replay.specs.Decoding.{decode}
-use Rattle.replay.specs.Lines.{answer_line}
-use Rattle.replay.proofs.ReplayInvariant.{ReplayInvariant, replay_again, replay_bad, replay_end, replay_inside, replay_next, replay_start}
+use Rattle.guarantees.proofs.CheckedOnce.{once_in_peers, once_owned}
+use Rattle.guarantees.proofs.RunInvariant.{run_open, run_refused}
+use Rattle.replay.proofs.ReplayInvariant.{replay_again, replay_bad, replay_end, replay_inside, replay_next, replay_start}
 use Rattle.engine.specs.SetUp.{peer_count}
 use Rattle.replay.proofs.entries.run.Goals as goal
 use Rattle.replay.proofs.entries.run.Goals.{After-admit, In-Open, else-loop-taken-test, in-Open, in-Refused, then-loop-taken-test+else-place-trace}
@@ -81,34 +75,34 @@ loop-taken-preserved c =
     let p = c.put_answer-written in
     elim c.match-admit.branch [
       | in-Refused w ↦
-        let m = run_refused r i l.invariant.4 _ k.admit.ensures _ w.in-Refused.is in
-        rw (w.arena-is, w.map-is, w.reply-is, w.engine-is) (
-          l.invariant.0,
-          l.invariant.1,
-          l.invariant.2,
-          p.auto.text ∙ l.invariant.3,
-          m.once,
-          replay_again g h (inside (goal.at.loop-taken-preserved c).After-admit) _ _ (read (goal.at.loop-taken-preserved c).After-admit) m _ _ (rw w.answer-is at p.ensures.0) (rw w.answer-is at p.ensures.1),
-        )
+          let m = run_refused r i l.invariant.4 _ k.admit.ensures _ w.in-Refused.is in
+          rw (w.arena-is, w.map-is, w.reply-is, w.engine-is) (
+            l.invariant.0,
+            l.invariant.1,
+            l.invariant.2,
+            p.auto.text ∙ l.invariant.3,
+            m.once,
+            replay_again g h (inside (goal.at.loop-taken-preserved c).After-admit) _ _ (read (goal.at.loop-taken-preserved c).After-admit) m _ _ (rw w.answer-is at p.ensures.0) (rw w.answer-is at p.ensures.1),
+          )
       | in-Open w ↦
-        let q = w.step-step in
-        let n = q.auto.replies in
-        let m = run_open r i l.invariant.4 _ k.admit.ensures w.in-Open.is _ _ n (rw k.with_buffer-call.ensures at q.ensures) in
-        rw (w.arena-is, w.map-is, w.reply-is, w.engine-is) (
-          q.auto.arena ∙ l.invariant.0,
-          q.auto.map ∙ l.invariant.1,
-          n ∙ l.invariant.2,
-          p.auto.text ∙ l.invariant.3,
-          m.once,
-          replay_again g h (inside (goal.at.loop-taken-preserved c).After-admit) _ _ (read (goal.at.loop-taken-preserved c).After-admit) m _ _ (rw w.answer-is at p.ensures.0) (rw w.answer-is at p.ensures.1),
-        )
+          let q = w.step-step in
+          let n = q.auto.replies in
+          let m = run_open r i l.invariant.4 _ k.admit.ensures w.in-Open.is _ _ n (rw k.with_buffer-call.ensures at q.ensures) in
+          rw (w.arena-is, w.map-is, w.reply-is, w.engine-is) (
+            q.auto.arena ∙ l.invariant.0,
+            q.auto.map ∙ l.invariant.1,
+            n ∙ l.invariant.2,
+            p.auto.text ∙ l.invariant.3,
+            m.once,
+            replay_again g h (inside (goal.at.loop-taken-preserved c).After-admit) _ _ (read (goal.at.loop-taken-preserved c).After-admit) m _ _ (rw w.answer-is at p.ensures.0) (rw w.answer-is at p.ensures.1),
+          )
     ]
 
 pub returns : goal.returns
 returns c =
     rw c.ending.ensures
     (sym (replay_end c.loop-taken.invariant.5
-      (elim c.loop-taken-test.branch [
-        | then-loop-taken-test+else-place-trace w ↦ inr w.if-place-trace.false
-        | else-loop-taken-test w ↦ inl w.loop-taken-test.false
-      ])))
+    (elim c.loop-taken-test.branch [
+      | then-loop-taken-test+else-place-trace w ↦ inr w.if-place-trace.false
+      | else-loop-taken-test w ↦ inl w.loop-taken-test.false
+    ])))

@@ -1,22 +1,14 @@
 -- `replay::entries::run` meets its contract. The loop's invariant: the state can be, and what the entries taken leave, with the rest run from there, is the whole replay.
-use Prim.Native.Nat.{◌-◌, ◌<◌}
-use borrow.Author.Rules.{rules}
-use borrow.Author.Tests.{ltb-true, ltb-false}
+use Prim.Native.Nat.{◌-◌}
 use lib.ListN.{length}
 use mathlib.Core.Bool.{true}
-use mathlib.Core.Logic.{inl, inr, ⊎_elim}
-use mathlib.Core.Path.{◌≡◌, refl, sym, ◌∙◌}
-use native.Mathlib.Omega.{arith}
+use mathlib.Core.Path.{◌≡◌}
 use Rattle.engine.specs.Leaves.{world}
-use Rattle.trace.specs.Entries.{entry_at}
-use Rattle.trace.specs.declared.types.FoundEntry.{FoundEntry}
 use Rattle.guarantees.specs.Outputs.{run_leaves}
-use Rattle.guarantees.proofs.CheckedOnce.{CheckedOnce, once_in_peers, once_owned}
-use Rattle.guarantees.proofs.RunInvariant.{run_open, run_refused, run_room}
+use Rattle.guarantees.proofs.CheckedOnce.{CheckedOnce}
 use Rattle.replay.specs.Decoding.{decode}
 use Rattle.replay.specs.Lines.{answer_line}
-use Rattle.replay.proofs.ReplayInvariant.{ReplayInvariant, replay_again, replay_bad, replay_end, replay_inside, replay_next, replay_start}
-use Rattle.engine.specs.SetUp.{peer_count}
+use Rattle.replay.proofs.ReplayInvariant.{ReplayInvariant}
 use Rattle.replay.proofs.entries.run.Given as goal
 
 abbrev pub invariant-loop-taken : goal.invariant-loop-taken

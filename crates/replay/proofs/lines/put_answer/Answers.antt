@@ -1,5 +1,4 @@
 -- `replay::lines::put_answer` meets its contract: each answer has its word and its numbers.
-use borrow.Author.Rules.{rules}
 use Rattle.replay.specs.Lines.{answer_line}
 use Rattle.replay.proofs.lines.put_answer.Goals as goal
 

@@ -1,5 +1,4 @@
 -- `replay::lines::put_ending` meets its contract: each ending has its word and its number.
-use borrow.Author.Rules.{rules}
 use mathlib.Core.Path.{sym}
 use native.Mathlib.Omega.{arith}
 use Rattle.laws.proofs.Storing.{store_nothing}

@@ -1,5 +1,4 @@
 -- `replay::replaying::begin` meets its contract: the first line, the calls' lines and the last make the report.
-use borrow.Author.Rules.{rules}
 use lib.ListN.{length}
 use mathlib.Core.Path.{◌≡◌, sym, ◌∙◌}
 use native.Mathlib.Omega.{arith}

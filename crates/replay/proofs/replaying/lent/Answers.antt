@@ -1,7 +1,5 @@
 -- `replay::replaying::lent` meets its contract: the product is computed only where it fits.
 use borrow.Author.Tests.{le-leb, lt-leb}
-use native.Mathlib.Nat.{mul-le-mul}
-use native.Mathlib.Omega.{arith}
 use Rattle.laws.specs.Choose.{pick}
 use Rattle.replay.specs.Replaying.{lent_of}
 use Rattle.replay.proofs.replaying.lent.Goals as goal

@@ -1,6 +1,5 @@
 -- `replay::replaying::replay` meets its contract: what is lent on of arena and map is there, and is put back.
-use borrow.Author.Rules.{rules}
-use borrow.Author.Tests.{leb-true, not-false, not-true}
+use borrow.Author.Tests.{leb-true}
 use Prim.Native.Nat.{◌+◌, ◌*◌, ◌≤◌}
 use lib.ListN.{length}
 use lib.Seq.{length-take-le}

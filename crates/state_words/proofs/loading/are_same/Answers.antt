@@ -1,10 +1,6 @@
 -- `state_words::loading::are_same` meets its contract. The loop's invariant: what is left decides whether all is the same.
-use Prim.Native.Nat.{◌-◌, ◌≤◌}
-use borrow.Author.Rules.{rules}
-use lib.ListN.{length, drop}
-use mathlib.Core.Path.{◌≡◌, refl, sym, ◌∙◌}
+use mathlib.Core.Path.{sym, ◌∙◌}
 use native.Mathlib.Omega.{arith}
-use Rattle.state_words.specs.Flat.{same}
 use Rattle.state_words.proofs.FlatLaws.{same_lengths, same_turn, same_stop, same_end}
 use Rattle.state_words.proofs.loading.are_same.Goals as goal
 

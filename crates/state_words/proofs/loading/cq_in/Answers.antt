@@ -1,5 +1,4 @@
 -- `state_words::loading::cq_in` meets its contract.
-use borrow.Author.Rules.{rules}
 use borrow.Author.Tests.{eq-eqb, ne_eqb}
 use Rattle.laws.specs.Choose.{pick}
 use Rattle.state_words.proofs.loading.cq_in.Goals as goal

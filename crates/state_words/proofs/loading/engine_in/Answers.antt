@@ -1,8 +1,6 @@
 -- `state_words::loading::engine_in` meets its contract. The loop's invariant: the peers passed are those read.
-use Prim.Native.Nat.{ℕ, ◌+◌, ◌-◌, ◌*◌, ◌≤◌}
-use borrow.Author.Rules.{rules}
-use lib.ListN.{get_or, replicate}
-use lib.Seq.{paste, paste-zero}
+use Prim.Native.Nat.{ℕ, ◌+◌, ◌*◌}
+use lib.ListN.{replicate}
 use mathlib.Core.List.{List}
 use mathlib.Core.Path.{◌≡◌, refl, ◌∙◌}
 use native.Mathlib.Omega.{arith}

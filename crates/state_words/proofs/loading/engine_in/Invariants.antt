@@ -1,18 +1,15 @@
 -- `state_words::loading::engine_in` meets its contract. The loop's invariant: the peers passed are those read.
 use Prim.Native.Nat.{ℕ, ◌+◌, ◌-◌, ◌*◌, ◌≤◌}
-use borrow.Author.Rules.{rules}
 use lib.ListN.{get_or, replicate}
-use lib.Seq.{paste, paste-zero}
+use lib.Seq.{paste}
 use mathlib.Core.List.{List}
-use mathlib.Core.Path.{◌≡◌, refl, ◌∙◌}
-use native.Mathlib.Omega.{arith}
+use mathlib.Core.Path.{◌≡◌}
 use Rattle.peer.specs.State.{fresh_peer}
 use Rattle.peer.specs.declared.types.Peer.{Peer}
 use Rattle.engine.specs.SetUp.{peer_count}
 use Rattle.state_words.specs.Saving.{peer_size}
 use Rattle.state_words.specs.Flat.{tabulate}
-use Rattle.state_words.specs.Loading.{engine_in, peer_in}
-use Rattle.state_words.proofs.FlatLaws.{tabulate_turn, tabulate_all}
+use Rattle.state_words.specs.Loading.{peer_in}
 use Rattle.state_words.proofs.loading.engine_in.Given as goal
 
 -- the peers as they are fresh, and the peer that is read at each place

@@ -1,5 +1,4 @@
 -- `state_words::loading::load` meets its contract: the words are a state's where the engine that is read is written as them again.
-use borrow.Author.Rules.{rules}
 use mathlib.Core.Path.{◌≡◌, sym, ap, ◌∙◌}
 use native.Mathlib.Omega.{arith}
 use Rattle.laws.specs.Choose.{pick}

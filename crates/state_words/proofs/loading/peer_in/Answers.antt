@@ -1,8 +1,7 @@
 -- `state_words::loading::peer_in` meets its contract. The loop's invariant: the slots passed are those read.
-use Prim.Native.Nat.{ℕ, ◌+◌, ◌-◌, ◌*◌, ◌%◌, ◌^◌, ◌≤◌}
-use borrow.Author.Rules.{rules}
-use lib.ListN.{get_or, replicate}
-use lib.Seq.{paste, paste-zero}
+use Prim.Native.Nat.{ℕ, ◌+◌, ◌*◌}
+use lib.ListN.{replicate}
+use lib.Seq.{paste-zero}
 use mathlib.Core.List.{List}
 use mathlib.Core.Path.{◌≡◌, refl, ap₂, ◌∙◌}
 use native.Mathlib.Omega.{arith}

@@ -1,16 +1,13 @@
 -- `state_words::loading::peer_in` meets its contract. The loop's invariant: the slots passed are those read.
 use Prim.Native.Nat.{ℕ, ◌+◌, ◌-◌, ◌*◌, ◌%◌, ◌^◌, ◌≤◌}
-use borrow.Author.Rules.{rules}
 use lib.ListN.{get_or, replicate}
-use lib.Seq.{paste, paste-zero}
+use lib.Seq.{paste}
 use mathlib.Core.List.{List}
-use mathlib.Core.Path.{◌≡◌, refl, ap₂, ◌∙◌}
-use native.Mathlib.Omega.{arith}
-use Rattle.peer.specs.State.{free_slot, fresh_peer, slot_count, slot_with}
+use mathlib.Core.Path.{◌≡◌}
+use Rattle.peer.specs.State.{free_slot, slot_count, slot_with}
 use Rattle.peer.specs.declared.types.Slot.{Slot}
 use Rattle.state_words.specs.Flat.{tabulate}
-use Rattle.state_words.specs.Loading.{peer_in, phase_in}
-use Rattle.state_words.proofs.FlatLaws.{tabulate_turn, tabulate_all}
+use Rattle.state_words.specs.Loading.{phase_in}
 use Rattle.state_words.proofs.loading.peer_in.Given as goal
 
 -- the slots as they are fresh, and the slot that is read at each place

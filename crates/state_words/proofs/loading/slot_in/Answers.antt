@@ -1,5 +1,4 @@
 -- `state_words::loading::slot_in` meets its contract.
-use borrow.Author.Rules.{rules}
 use borrow.Author.Tests.{eq-eqb, ne_eqb}
 use Rattle.laws.specs.Choose.{pick}
 use Rattle.state_words.specs.Loading.{phase_in}

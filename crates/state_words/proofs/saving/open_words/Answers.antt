@@ -1,5 +1,4 @@
 -- `state_words::saving::open_words` meets its contract.
-use borrow.Author.Rules.{rules}
 use mathlib.Core.Path.{refl}
 use Rattle.state_words.specs.Saving.{phase_words}
 use Rattle.state_words.proofs.saving.open_words.Goals as goal

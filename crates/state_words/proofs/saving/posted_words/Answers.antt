@@ -1,5 +1,4 @@
 -- `state_words::saving::posted_words` meets its contract.
-use borrow.Author.Rules.{rules}
 use Rattle.state_words.specs.Saving.{phase_words}
 use Rattle.state_words.proofs.saving.posted_words.Goals as goal
 

@@ -1,11 +1,9 @@
 -- `state_words::saving::put_peer` meets its contract. The loop's invariant: the words of the slots passed stand behind the next id.
-use Prim.Native.Nat.{◌+◌, ◌-◌, ◌*◌, ◌≤◌}
-use borrow.Author.Rules.{rules}
-use lib.ListN.{length, take, set, length-set}
+use Prim.Native.Nat.{◌+◌, ◌*◌, ◌≤◌}
+use lib.ListN.{length, set, length-set}
 use lib.Seq.{take_all}
-use mathlib.Core.Path.{◌≡◌, refl, sym, ap, ◌∙◌}
+use mathlib.Core.Path.{◌≡◌, refl, sym, ◌∙◌}
 use native.Mathlib.Omega.{arith}
-use Rattle.laws.specs.Parts.{store_at}
 use Rattle.peer.specs.State.{free_slot, slot_count}
 use Rattle.state_words.specs.Flat.{flat}
 use Rattle.state_words.specs.Saving.{slot_words}

@@ -1,18 +1,11 @@
 -- `state_words::saving::put_peer` meets its contract. The loop's invariant: the words of the slots passed stand behind the next id.
-use Prim.Native.Nat.{◌+◌, ◌-◌, ◌*◌, ◌≤◌}
-use borrow.Author.Rules.{rules}
-use lib.ListN.{length, take, set, length-set}
-use lib.Seq.{take_all}
-use mathlib.Core.Path.{◌≡◌, refl, sym, ap, ◌∙◌}
-use native.Mathlib.Omega.{arith}
+use Prim.Native.Nat.{◌+◌, ◌-◌, ◌≤◌}
+use lib.ListN.{length, take}
+use mathlib.Core.Path.{◌≡◌}
 use Rattle.laws.specs.Parts.{store_at}
-use Rattle.peer.specs.State.{free_slot, slot_count}
+use Rattle.peer.specs.State.{slot_count}
 use Rattle.state_words.specs.Flat.{flat}
 use Rattle.state_words.specs.Saving.{slot_words}
-use Rattle.laws.proofs.Storing.{set_next, store_nothing}
-use Rattle.laws.proofs.Listing.{length_mapped}
-use Rattle.state_words.proofs.FlatLaws.{flat_turn}
-use Rattle.state_words.proofs.Sizes.{length_peer, length_slot}
 use Rattle.state_words.proofs.saving.put_peer.Given as goal
 
 abbrev pub invariant-loop-i : goal.invariant-loop-i

@@ -1,12 +1,10 @@
 -- `state_words::saving::save` meets its contract. The loop's invariant: the words of the peers passed stand behind the set-up numbers.
-use Prim.Native.Nat.{ℕ, ◌+◌, ◌-◌, ◌*◌, ◌≤◌, ◌<◌}
-use borrow.Author.Rules.{rules}
-use lib.ListN.{length, get_or, take, set, length-set}
+use Prim.Native.Nat.{ℕ, ◌+◌, ◌*◌, ◌≤◌, ◌<◌}
+use lib.ListN.{length, get_or, set, length-set}
 use lib.Seq.{take_all}
 use mathlib.Core.List.{[], ◌∷◌}
 use mathlib.Core.Path.{◌≡◌, refl, sym, ◌∙◌}
 use native.Mathlib.Omega.{arith}
-use Rattle.laws.specs.Parts.{store_at}
 use Rattle.peer.specs.declared.types.Peer.{Peer}
 use Rattle.peer.specs.State.{slot_count}
 use Rattle.engine.specs.SetUp.{peer_count}
