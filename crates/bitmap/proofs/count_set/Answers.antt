@@ -18,13 +18,12 @@ lies c = placed c.split-range.ensures (omega arith)
 all_count : (c : After-part-2) → let a = c.args in
     count_set a.map.now a.at a.n ≡ ones c.part.result + c.ones_of-between.result + ones c.part-2.result
 all_count c =
-    let s = c in
-    let a = s.args in
+    let a = c.args in
     let p = c.part in
     let t = c.part-2 in
     rw c.ones_of-between.ensures
-    (range_count a.map.now a.at a.n p.result t.result s.split-range.result s.split-range.ensures (omega arith)
-    (λ j. (s.shared_slice_known-1.given j).fits) p.ensures t.ensures)
+    (range_count a.map.now a.at a.n p.result t.result c.split-range.result c.split-range.ensures (omega arith)
+    (λ j. (c.shared_slice_known-1.given j).fits) p.ensures t.ensures)
 
 -- and no more than its length
 few : (c : After-part-2) → let a = c.args in count_set a.map.now a.at a.n ≤ a.n

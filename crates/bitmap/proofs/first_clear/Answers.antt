@@ -37,14 +37,13 @@ passed c =
 
 pub words-preserved-then-w : goal.words-preserved-then-w
 words-preserved-then-w c =
-    let s = c in
-    let a = s.args in
+    let a = c.args in
     let k = c.in_word.result in
     let r = 64 * c.full_run.result in
     let p = passed (goal.at.words-preserved-then-w c).After-full_run in (
       omega (arith, p.0),
       p.0,
-      rw add_assoc (first_pass a.map.now a.at s.words.i (k + r) (a.at + a.n) _ (omega arith) p.1 s.words.invariant.2),
+      rw add_assoc (first_pass a.map.now a.at c.words.i (k + r) (a.at + a.n) _ (omega arith) p.1 c.words.invariant.2),
     )
 
 pub loop-i-preserved : goal.loop-i-preserved
@@ -61,15 +60,14 @@ loop-i-preserved c =
 at_end : (c : Left-words) → let a = c.args in
     (a.at ≤ c.words-test.i) × (c.words-test.i - a.at ≡ first_clear a.map.now a.at a.n)
 at_end c =
-    let s = c in
-    let a = s.args in
+    let a = c.args in
     elim c.words-test.branch [
       | else-words-test w ↦
-          let r = first_clear_le a.map.now s.words.i (a.at + a.n - s.words.i) in
-          rw w.i-is (s.words.invariant.0, omega arith)
+          let r = first_clear_le a.map.now c.words.i (a.at + a.n - c.words.i) in
+          rw w.i-is (c.words.invariant.0, omega arith)
       | then-words-test+else-w+then-loop-i-test+then-run-eq0 w ↦
           let r =
-          first_run a.map.now s.words.i w.loop-i.i w.in_word.result (a.at + a.n) w.ones_from-run.result
+          first_run a.map.now c.words.i w.loop-i.i w.in_word.result (a.at + a.n) w.ones_from-run.result
           w.loop-i.invariant.0 w.loop-i-test.true w.in_word.ensures w.ones_from-run.ensures in
           rw w.i-is (omega arith, sym (w.loop-i.invariant.2 ∙ rw (r.2 w.if-run-eq0.true, add-zero)))
     ]

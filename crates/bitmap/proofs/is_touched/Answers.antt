@@ -7,11 +7,10 @@ use Rattle.bitmap.proofs.is_touched.Goals.{After-split-range}
 
 pub returns : goal.returns
 returns c =
-    let s = c in
-    let a = s.args in
+    let a = c.args in
     let p = c.part-head in
     let t = c.part-tail in
     let n =
-    range_count a.map.now a.at a.n p.result t.result s.split-range.result s.split-range.ensures (omega arith)
-    (λ j. (s.shared_slice_known-1.given j).fits) p.ensures t.ensures in
+    range_count a.map.now a.at a.n p.result t.result c.split-range.result c.split-range.ensures (omega arith)
+    (λ j. (c.shared_slice_known-1.given j).fits) p.ensures t.ensures in
     rw c.or_of-between.ensures (sym (touched_by a.map.now a.at a.n p.result t.result _ n))

@@ -8,10 +8,9 @@ use Rattle.bitmap.proofs.mark.Goals.{After-split-range}
 
 pub returns : goal.returns
 returns c =
-    let s = c in
-    let a = s.args in
-    fill_range marked 18446744073709551615 (lit< tt) mark_none mark_add mark_whole a.map.now _ _ _ a.at a.n s.split-range.result
-    s.split-range.ensures (omega arith) (omega arith) (λ j. (c.slice_known-2-1.given j).fits)
+    let a = c.args in
+    fill_range marked 18446744073709551615 (lit< tt) mark_none mark_add mark_whole a.map.now _ _ _ a.at a.n c.split-range.result
+    c.split-range.ensures (omega arith) (omega arith) (λ j. (c.slice_known-2-1.given j).fits)
     c.mark_part.ensures
     c.fill.ensures
     c.mark_part-2.ensures

@@ -8,9 +8,8 @@ use Rattle.lending.proofs.packet_at.Goals as goal
 
 pub returns : goal.returns
 returns c =
-    let s = c in
-    let a = s.args in
-    let m = s.requires in
+    let a = c.args in
+    let m = c.requires in
     let w = c.well_formed.0 in
     let len : length a.there.slots ≡ slot_count = search length_mapped in
     packet_put a.area a.limit a.p a.there a.arena.now a.map.now a.reply.now a.bytes.now m len _ c.packet.ensures

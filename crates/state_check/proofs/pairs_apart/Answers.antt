@@ -29,47 +29,39 @@ there t i h = ⊎_elim (λ e. rw (pick_true slot_count (i + 1) e) (omega arith))
 
 pub loop-j-init : goal.loop-j-init
 loop-j-init c =
-    let l = c in
-    let ss = l.args.peer.slots in
+    let ss = c.args.peer.slots in
     let len : length ss ≡ slot_count = search length_mapped in
     let r = c.first_other-j.ensures in
-    (rw r (there _ l.loop-i.i (omega arith)), refl, rw r (from_there (phase_at ss l.loop-i.i) ss l.loop-i.i len))
+    (rw r (there _ c.loop-i.i (omega arith)), refl, rw r (from_there (phase_at ss c.loop-i.i) ss c.loop-i.i len))
 
 pub returns-then-clashes : goal.returns-then-clashes
 returns-then-clashes c =
-    let m = c in
-    let l = m in
-    let ss = l.args.peer.slots in
-    let i = l.loop-i.i in
+    let ss = c.args.peer.slots in
+    let i = c.loop-i.i in
     let len : length ss ≡ slot_count = search length_mapped in
     let none : none_clash (phase_at ss i) (drop (i + 1) ss) ≡ false =
-    m.loop-j.invariant.2 ∙ rw (none_turn ss m.loop-j.j (omega (arith, len)) (phase_at ss i), ← c.clashes.ensures, c.if-clashes.true) in
-    rw (l.loop-i.invariant.1, pairs_turn ss i (omega (arith, len)), none)
+    c.loop-j.invariant.2 ∙ rw (none_turn ss c.loop-j.j (omega (arith, len)) (phase_at ss i), ← c.clashes.ensures, c.if-clashes.true) in
+    rw (c.loop-i.invariant.1, pairs_turn ss i (omega (arith, len)), none)
 
 pub loop-j-preserved : goal.loop-j-preserved
 loop-j-preserved c =
-    let m = c in
-    let l = m in
-    let ss = l.args.peer.slots in
-    let i = l.loop-i.i in
+    let ss = c.args.peer.slots in
+    let i = c.loop-i.i in
     let len : length ss ≡ slot_count = search length_mapped in
-    let on : none_clash (phase_at ss i) (drop (i + 1) ss) ≡ none_clash (phase_at ss i) (drop (m.loop-j.j + 1) ss) =
-    m.loop-j.invariant.2 ∙ rw (none_turn ss m.loop-j.j (omega (arith, len)) (phase_at ss i), ← c.clashes.ensures, c.if-clashes.false) in
+    let on : none_clash (phase_at ss i) (drop (i + 1) ss) ≡ none_clash (phase_at ss i) (drop (c.loop-j.j + 1) ss) =
+    c.loop-j.invariant.2 ∙ rw (none_turn ss c.loop-j.j (omega (arith, len)) (phase_at ss i), ← c.clashes.ensures, c.if-clashes.false) in
     (omega arith, refl, on)
 
 pub loop-i-preserved : goal.loop-i-preserved
 loop-i-preserved c =
-    let m = c in
-    let l = m in
-    let ss = l.args.peer.slots in
-    let i = l.loop-i.i in
+    let ss = c.args.peer.slots in
+    let i = c.loop-i.i in
     let len : length ss ≡ slot_count = search length_mapped in
-    let none : none_clash (phase_at ss i) (drop (i + 1) ss) ≡ true = m.loop-j.invariant.2 ∙ none_end ss m.loop-j.j (omega (arith, len)) (phase_at ss i) in
-    (omega arith, rw (l.loop-i.invariant.1, pairs_turn ss i (omega (arith, len)), none))
+    let none : none_clash (phase_at ss i) (drop (i + 1) ss) ≡ true = c.loop-j.invariant.2 ∙ none_end ss c.loop-j.j (omega (arith, len)) (phase_at ss i) in
+    (omega arith, rw (c.loop-i.invariant.1, pairs_turn ss i (omega (arith, len)), none))
 
 pub returns : goal.returns
 returns c =
-    let l = c in
-    let ss = l.args.peer.slots in
+    let ss = c.args.peer.slots in
     let len : length ss ≡ slot_count = search length_mapped in
-    sym (l.loop-i.invariant.1 ∙ pairs_end ss l.loop-i.i (omega (arith, len)))
+    sym (c.loop-i.invariant.1 ∙ pairs_end ss c.loop-i.i (omega (arith, len)))

@@ -9,21 +9,18 @@ use Rattle.state_check.proofs.slots_fit.Goals as goal
 
 pub returns-then-not-fits : goal.returns-then-not-fits
 returns-then-not-fits c =
-    let l = c in
-    let ss = l.args.peer.slots in
+    let ss = c.args.peer.slots in
     let len : length ss ≡ slot_count = search length_mapped in
-    rw (l.loop-i.invariant.1, fit_turn ss l.loop-i.i (omega (arith, len)) l.args.area, ← c.fits.ensures, c.if-not-fits.true)
+    rw (c.loop-i.invariant.1, fit_turn ss c.loop-i.i (omega (arith, len)) c.args.area, ← c.fits.ensures, c.if-not-fits.true)
 
 pub loop-i-preserved : goal.loop-i-preserved
 loop-i-preserved c =
-    let l = c in
-    let ss = l.args.peer.slots in
+    let ss = c.args.peer.slots in
     let len : length ss ≡ slot_count = search length_mapped in
-    (omega arith, rw (l.loop-i.invariant.1, fit_turn ss l.loop-i.i (omega (arith, len)) l.args.area, ← c.fits.ensures, c.if-not-fits.false))
+    (omega arith, rw (c.loop-i.invariant.1, fit_turn ss c.loop-i.i (omega (arith, len)) c.args.area, ← c.fits.ensures, c.if-not-fits.false))
 
 pub returns : goal.returns
 returns c =
-    let l = c in
-    let ss = l.args.peer.slots in
+    let ss = c.args.peer.slots in
     let len : length ss ≡ slot_count = search length_mapped in
-    sym (l.loop-i.invariant.1 ∙ fit_end ss l.loop-i.i (omega (arith, len)) l.args.area)
+    sym (c.loop-i.invariant.1 ∙ fit_end ss c.loop-i.i (omega (arith, len)) c.args.area)

@@ -51,19 +51,17 @@ room_left c =
 
 pub put_number-next-requires : goal.put_number-next-requires
 put_number-next-requires c =
-    let s = c in
     let p = room (goal.at.put_number-next-requires c).In-loop-k in
-    let n = length_turn (numbers (goal.at.put_number-next-requires c).In-loop-k) s.loop-k.k (omega arith) in
+    let n = length_turn (numbers (goal.at.put_number-next-requires c).In-loop-k) c.loop-k.k (omega arith) in
     omega arith
 
 pub loop-k-preserved : goal.loop-k-preserved
 loop-k-preserved c =
-    let s = c in
-    let l = s.loop-k in
+    let l = c.loop-k in
     let d : List ℕ = 32 ∷ decimal (get_or (numbers (goal.at.loop-k-preserved c).In-loop-k) l.k 0) in
     let rest = numbers_line (drop (suc l.k) (numbers (goal.at.loop-k-preserved c).In-loop-k)) in
     let w = c.put_number-next in
-    let n = length_turn (numbers (goal.at.loop-k-preserved c).In-loop-k) s.loop-k.k (omega arith) in
+    let n = length_turn (numbers (goal.at.loop-k-preserved c).In-loop-k) c.loop-k.k (omega arith) in
     let p = room (goal.at.loop-k-preserved c).In-loop-k in (
       omega arith,
       w.auto.text ∙ l.invariant.1,

@@ -4,20 +4,16 @@ use Rattle.headers.proofs.flags.options_fit.Goals as goal
 
 pub returns-then-row : goal.returns-then-row
 returns-then-row c =
-    let s = c in
-    rw (options_tested s.args.row s.args.header s.requires, c.if-row.true)
+    rw (options_tested c.args.row c.args.header c.requires, c.if-row.true)
 
 pub returns-then-header : goal.returns-then-header
 returns-then-header c =
-    let s = c in
-    rw (options_tested s.args.row s.args.header s.requires, c.if-row.false, c.if-header.true)
+    rw (options_tested c.args.row c.args.header c.requires, c.if-row.false, c.if-header.true)
 
 pub returns-in-Absent : goal.returns-in-Absent
 returns-in-Absent c =
-    let s = c in
-    rw (options_tested s.args.row s.args.header s.requires, c.if-row.false, c.if-header.false, c.in-Absent.is)
+    rw (options_tested c.args.row c.args.header c.requires, c.if-row.false, c.if-header.false, c.in-Absent.is)
 
 pub returns-in-Present : goal.returns-in-Present
 returns-in-Present c =
-    let s = c in
-    rw (options_tested s.args.row s.args.header s.requires, c.if-row.false, c.if-header.false, c.in-Present.is)
+    rw (options_tested c.args.row c.args.header c.requires, c.if-row.false, c.if-header.false, c.in-Present.is)

@@ -6,15 +6,15 @@ use Rattle.headers.proofs.flags.written.Goals as goal
 
 pub overflow_add-result : goal.overflow_add-result
 unfolding flags_of
-overflow_add-result c = let s = c in omega (arith, flags_small s.args.row s.args.header s.requires)
+overflow_add-result c = omega (arith, flags_small c.args.row c.args.header c.requires)
 
 pub overflow_add-result-2 : goal.overflow_add-result-2
 unfolding flags_of
-overflow_add-result-2 c = let s = c in omega (arith, flags_small s.args.row s.args.header s.requires)
+overflow_add-result-2 c = omega (arith, flags_small c.args.row c.args.header c.requires)
 
 pub overflow_add-result-3 : goal.overflow_add-result-3
 unfolding flags_of
-overflow_add-result-3 c = let s = c in omega (arith, flags_small s.args.row s.args.header s.requires)
+overflow_add-result-3 c = omega (arith, flags_small c.args.row c.args.header c.requires)
 
 pub returns : goal.returns
 unfolding flags_of

@@ -6,7 +6,7 @@ use Rattle.headers.proofs.layout.count.Goals as goal
 
 pub number_u32-requires-clause-unit_in_bounds : goal.number_u32-requires-clause-unit_in_bounds
 number_u32-requires-clause-unit_in_bounds c =
-    let s = c in omega (arith, s.requires.sound.inside fields.count)
+    omega (arith, c.requires.sound.inside fields.count)
 
 pub returns : goal.returns
 unfolding count_in

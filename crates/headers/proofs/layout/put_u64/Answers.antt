@@ -11,6 +11,4 @@ returns-then-at-eq0 c = rw (← c.place-at.ensures, eq-eqb _ _ c.if-at-eq0.true)
 pub returns : goal.returns
 unfolding put_there pick
 returns c =
-    let w = c in
-    let t = w in
-    rw (← t.place-at.ensures, ne_eqb _ _ t.if-at-eq0.false, w.write_u64.ensures)
+    rw (← c.place-at.ensures, ne_eqb _ _ c.if-at-eq0.false, c.write_u64.ensures)

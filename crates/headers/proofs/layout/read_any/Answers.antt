@@ -8,46 +8,45 @@ use Rattle.headers.proofs.layout.read_any.Goals as goal
 
 pub number_u32-requires-clause-unit_in_bounds : goal.number_u32-requires-clause-unit_in_bounds
 number_u32-requires-clause-unit_in_bounds c =
-    let s = c in omega (arith, s.requires.sound.inside msg_id)
+    omega (arith, c.requires.sound.inside msg_id)
 
 pub number_u32-requires-2-clause-unit_in_bounds : goal.number_u32-requires-2-clause-unit_in_bounds
 number_u32-requires-2-clause-unit_in_bounds c =
-    let s = c in omega (arith, s.requires.sound.inside recv_id)
+    omega (arith, c.requires.sound.inside recv_id)
 
 pub number_u32-requires-3-clause-unit_in_bounds : goal.number_u32-requires-3-clause-unit_in_bounds
 number_u32-requires-3-clause-unit_in_bounds c =
-    let s = c in omega (arith, s.requires.sound.inside send_id)
+    omega (arith, c.requires.sound.inside send_id)
 
 pub number_u64-requires-clause-unit_in_bounds : goal.number_u64-requires-clause-unit_in_bounds
 number_u64-requires-clause-unit_in_bounds c =
-    let s = c in omega (arith, s.requires.sound.inside msg_length)
+    omega (arith, c.requires.sound.inside msg_length)
 
 pub number_u64-requires-2-clause-unit_in_bounds : goal.number_u64-requires-2-clause-unit_in_bounds
 number_u64-requires-2-clause-unit_in_bounds c =
-    let s = c in omega (arith, s.requires.sound.inside seg_length)
+    omega (arith, c.requires.sound.inside seg_length)
 
 pub number_u64-requires-3-clause-unit_in_bounds : goal.number_u64-requires-3-clause-unit_in_bounds
 number_u64-requires-3-clause-unit_in_bounds c =
-    let s = c in omega (arith, s.requires.sound.inside recv_length)
+    omega (arith, c.requires.sound.inside recv_length)
 
 pub number_u64-requires-4-clause-unit_in_bounds : goal.number_u64-requires-4-clause-unit_in_bounds
 number_u64-requires-4-clause-unit_in_bounds c =
-    let s = c in omega (arith, s.requires.sound.inside seg_offset)
+    omega (arith, c.requires.sound.inside seg_offset)
 
 pub number_u32-requires-4-clause-unit_in_bounds : goal.number_u32-requires-4-clause-unit_in_bounds
 number_u32-requires-4-clause-unit_in_bounds c =
-    let s = c in omega (arith, s.requires.sound.inside credit_request)
+    omega (arith, c.requires.sound.inside credit_request)
 
 pub number_u64-requires-5-clause-unit_in_bounds : goal.number_u64-requires-5-clause-unit_in_bounds
 number_u64-requires-5-clause-unit_in_bounds c =
-    let s = c in omega (arith, s.requires.sound.inside tag)
+    omega (arith, c.requires.sound.inside tag)
 
 pub returns : goal.returns
 unfolding fields_in
 returns c =
-    let s = c in
-    let there : (f : Field) → number_there (place_of s.args.row f) (width f) s.args.bytes.now ≡ field_in (layout s.args.row) 4 s.args.bytes.now f =
-    λ f. read_there s.args.row s.args.bytes.now f s.requires.sound in
+    let there : (f : Field) → number_there (place_of c.args.row f) (width f) c.args.bytes.now ≡ field_in (layout c.args.row) 4 c.args.bytes.now f =
+    λ f. read_there c.args.row c.args.bytes.now f c.requires.sound in
     λ i. record {
       msg_id = (c.number_u32.ensures ∙ there msg_id) i;
       recv_id = (c.number_u32-2.ensures ∙ there recv_id) i;

@@ -8,50 +8,44 @@ use Rattle.headers.proofs.layout.read_request.Goals as goal
 
 pub number_u32-requires-clause-unit_in_bounds : goal.number_u32-requires-clause-unit_in_bounds
 number_u32-requires-clause-unit_in_bounds c =
-    let s = c in omega (arith, s.requires.sound.inside msg_id)
+    omega (arith, c.requires.sound.inside msg_id)
 
 pub number_u32-requires-2-clause-unit_in_bounds : goal.number_u32-requires-2-clause-unit_in_bounds
 number_u32-requires-2-clause-unit_in_bounds c =
-    let s = c in omega (arith, s.requires.sound.inside send_id)
+    omega (arith, c.requires.sound.inside send_id)
 
 pub number_u64-requires-clause-unit_in_bounds : goal.number_u64-requires-clause-unit_in_bounds
 number_u64-requires-clause-unit_in_bounds c =
-    let s = c in omega (arith, s.requires.sound.inside msg_length)
+    omega (arith, c.requires.sound.inside msg_length)
 
 pub number_u64-requires-2-clause-unit_in_bounds : goal.number_u64-requires-2-clause-unit_in_bounds
 number_u64-requires-2-clause-unit_in_bounds c =
-    let s = c in omega (arith, s.requires.sound.inside seg_offset)
+    omega (arith, c.requires.sound.inside seg_offset)
 
 pub number_u32-requires-3-clause-unit_in_bounds : goal.number_u32-requires-3-clause-unit_in_bounds
 number_u32-requires-3-clause-unit_in_bounds c =
-    let s = c in omega (arith, s.requires.sound.inside credit_request)
+    omega (arith, c.requires.sound.inside credit_request)
 
 pub number_u64-requires-3-clause-unit_in_bounds : goal.number_u64-requires-3-clause-unit_in_bounds
 number_u64-requires-3-clause-unit_in_bounds c =
-    let s = c in omega (arith, s.requires.sound.inside tag)
+    omega (arith, c.requires.sound.inside tag)
 
 pub returns : goal.returns
 unfolding fields_in
 returns c =
-    let w5 = c in
-    let w4 = w5 in
-    let w3 = w4 in
-    let w2 = w3 in
-    let w1 = w2 in
-    let s = w1 in
-    let r = s.args.row in
-    let bs = s.args.bytes.now in
-    let rule = s.requires.sound in
-    let none = rule.request_has s.requires.request_value in
+    let r = c.args.row in
+    let bs = c.args.bytes.now in
+    let rule = c.requires.sound in
+    let none = rule.request_has c.requires.request_value in
     let there : (f : Field) → number_there (place_of r f) (width f) bs ≡ field_in (layout r) 4 bs f = λ f. read_there r bs f rule in
     λ i. record {
-      msg_id = (w1.number_u32.ensures ∙ there msg_id) i;
+      msg_id = (c.number_u32.ensures ∙ there msg_id) i;
       recv_id = sym (read_none r bs recv_id rule none.0) i;
-      send_id = (w2.number_u32-2.ensures ∙ there send_id) i;
-      msg_length = (w3.number_u64.ensures ∙ there msg_length) i;
+      send_id = (c.number_u32-2.ensures ∙ there send_id) i;
+      msg_length = (c.number_u64.ensures ∙ there msg_length) i;
       seg_length = sym (read_none r bs seg_length rule none.1) i;
       recv_length = sym (read_none r bs recv_length rule none.2) i;
-      seg_offset = (w4.number_u64-2.ensures ∙ there seg_offset) i;
-      credit_request = (w5.number_u32-3.ensures ∙ there credit_request) i;
+      seg_offset = (c.number_u64-2.ensures ∙ there seg_offset) i;
+      credit_request = (c.number_u32-3.ensures ∙ there credit_request) i;
       tag = (c.number_u64-3.ensures ∙ there tag) i;
     }

@@ -6,10 +6,5 @@ use Rattle.headers.proofs.layout.write.Goals as goal
 pub returns : goal.returns
 unfolding pick
 returns c =
-    let w4 = c in
-    let w3 = w4 in
-    let w2 = w3 in
-    let w1 = w2 in
-    let s = w1 in
-    rw (w4.write_valueless.ensures, w3.write_others.ensures, w2.write_lengths.ensures, w1.write_ids.ensures)
-    (fields_put s.args.count s.args.header s.args.out.now s.args.row s.requires.sound s.requires.header_in_bounds)
+    rw (c.write_valueless.ensures, c.write_others.ensures, c.write_lengths.ensures, c.write_ids.ensures)
+    (fields_put c.args.count c.args.header c.args.out.now c.args.row c.requires.sound c.requires.header_in_bounds)

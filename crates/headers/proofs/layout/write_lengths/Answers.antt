@@ -6,25 +6,21 @@ use Rattle.headers.proofs.layout.write_lengths.Goals as goal
 
 pub put_u64-requires-clause-unit_in_bounds : goal.put_u64-requires-clause-unit_in_bounds
 put_u64-requires-clause-unit_in_bounds c =
-    let s = c in omega (arith, s.requires.sound.inside msg_length)
+    omega (arith, c.requires.sound.inside msg_length)
 
 pub put_u64-requires-2-clause-unit_in_bounds : goal.put_u64-requires-2-clause-unit_in_bounds
 put_u64-requires-2-clause-unit_in_bounds c =
-    let s = c in omega (arith, s.requires.sound.inside seg_length)
+    omega (arith, c.requires.sound.inside seg_length)
 
 pub put_u64-requires-3-clause-unit_in_bounds : goal.put_u64-requires-3-clause-unit_in_bounds
 put_u64-requires-3-clause-unit_in_bounds c =
-    let s = c in omega (arith, s.requires.sound.inside recv_length)
+    omega (arith, c.requires.sound.inside recv_length)
 
 pub put_u64-requires-4-clause-unit_in_bounds : goal.put_u64-requires-4-clause-unit_in_bounds
 put_u64-requires-4-clause-unit_in_bounds c =
-    let s = c in omega (arith, s.requires.sound.inside seg_offset)
+    omega (arith, c.requires.sound.inside seg_offset)
 
 pub returns : goal.returns
 unfolding pick
 returns c =
-    let w4 = c in
-    let w3 = w4 in
-    let w2 = w3 in
-    let w1 = w2 in
-    rw (w4.put_u64-4.ensures, w3.put_u64-3.ensures, w2.put_u64-2.ensures, w1.put_u64.ensures)
+    rw (c.put_u64-4.ensures, c.put_u64-3.ensures, c.put_u64-2.ensures, c.put_u64.ensures)

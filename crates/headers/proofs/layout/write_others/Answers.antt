@@ -6,15 +6,13 @@ use Rattle.headers.proofs.layout.write_others.Goals as goal
 
 pub put_u32-requires-clause-unit_in_bounds : goal.put_u32-requires-clause-unit_in_bounds
 put_u32-requires-clause-unit_in_bounds c =
-    let s = c in omega (arith, s.requires.sound.inside credit_request)
+    omega (arith, c.requires.sound.inside credit_request)
 
 pub put_u64-requires-clause-unit_in_bounds : goal.put_u64-requires-clause-unit_in_bounds
 put_u64-requires-clause-unit_in_bounds c =
-    let s = c in omega (arith, s.requires.sound.inside tag)
+    omega (arith, c.requires.sound.inside tag)
 
 pub returns : goal.returns
 unfolding pick
 returns c =
-    let w2 = c in
-    let w1 = w2 in
-    rw (w2.put_u64.ensures, w1.put_u32.ensures)
+    rw (c.put_u64.ensures, c.put_u32.ensures)

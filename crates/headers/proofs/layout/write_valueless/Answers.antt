@@ -13,23 +13,17 @@ returns-then-row-lt-MULTIUSE c =
 
 pub put_u32-requires-clause-unit_in_bounds : goal.put_u32-requires-clause-unit_in_bounds
 put_u32-requires-clause-unit_in_bounds c =
-    let s = c in omega (arith, s.requires.sound.inside multiuse)
+    omega (arith, c.requires.sound.inside multiuse)
 
 pub put_u32-requires-2-clause-unit_in_bounds : goal.put_u32-requires-2-clause-unit_in_bounds
 put_u32-requires-2-clause-unit_in_bounds c =
-    let w1 = c in
-    let s = w1 in omega (arith, s.requires.sound.inside padding, w1.put_u32.auto)
+    omega (arith, c.requires.sound.inside padding, c.put_u32.auto)
 
 pub put_u32-requires-3-clause-unit_in_bounds : goal.put_u32-requires-3-clause-unit_in_bounds
 put_u32-requires-3-clause-unit_in_bounds c =
-    let w2 = c in
-    let w1 = w2 in
-    let s = w1 in omega (arith, s.requires.sound.inside count, w2.put_u32-2.auto, w1.put_u32.auto)
+    omega (arith, c.requires.sound.inside count, c.put_u32-2.auto, c.put_u32.auto)
 
 pub returns : goal.returns
 unfolding pick
 returns c =
-    let w3 = c in
-    let w2 = w3 in
-    let w1 = w2 in
-    rw (w3.put_u32-3.ensures, w2.put_u32-2.ensures, w1.put_u32.ensures, w1.connid_or_zero.ensures)
+    rw (c.put_u32-3.ensures, c.put_u32-2.ensures, c.put_u32.ensures, c.connid_or_zero.ensures)

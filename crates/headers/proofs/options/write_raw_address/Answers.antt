@@ -17,8 +17,7 @@ use Rattle.headers.proofs.options.write_raw_address.Goals.{Else-not-there}
 room : (c : Else-not-there) → let a = c.args in a.at + (4 + length a.raw.now) ≤ length a.out.now
 unfolding pick
 room c =
-    let s = c in
-    rw (c.if-not-there.false, length_raw true s.args.raw.now) at s.requires.raw_in_bounds
+    rw (c.if-not-there.false, length_raw true c.args.raw.now) at c.requires.raw_in_bounds
 
 pub returns-then-not-there : goal.returns-then-not-there
 unfolding raw_address_bytes pick
@@ -34,13 +33,12 @@ write_bytes-requires c = omega (arith, room (goal.at.write_bytes-requires c).Els
 pub returns : goal.returns
 unfolding raw_address_bytes pick
 returns c =
-    let t = c in
-    let a = t.args in
+    let a = c.args in
     let raw = a.raw.now in
     let size = le_bytes 4 (length raw) in
     let n = length_le 4 (length raw) in
     let p = room (goal.at.returns c).Else-not-there in
     let w = c.write_bytes.ensures in
     let e = store_next a.out.now a.at size raw (a.at + 4) (omega arith) (omega arith) in
-    rw (t.if-not-there.false, length-append)
+    rw (c.if-not-there.false, length-append)
     (omega arith, w.1 ∙ rw c.write_u32.ensures e)

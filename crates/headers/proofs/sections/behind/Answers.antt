@@ -12,20 +12,17 @@ use Rattle.headers.proofs.sections.behind.Goals as goal
 pub returns-then-not-raw_address : goal.returns-then-not-raw_address
 unfolding sections_behind raw_span pick
 returns-then-not-raw_address c =
-    let f = c in
-    rw (c.from.ensures, ← f.raw_address.ensures, c.if-not-raw_address.true, add-zero)
+    rw (c.from.ensures, ← c.raw_address.ensures, c.if-not-raw_address.true, add-zero)
 
 pub returns-then-n-start : goal.returns-then-n-start
 unfolding sections_behind pick
 returns-then-n-start c =
-    let f = c in
-    let a = f.args in
-    rw (← f.raw_address.ensures, c.if-not-raw_address.false)
+    let a = c.args in
+    rw (← c.raw_address.ensures, c.if-not-raw_address.false)
     (sym (cut_before a.row a.flags _ _ (length a.bytes.now) (omega arith)))
 
 pub returns : goal.returns
 unfolding sections_behind raw_span pick
 returns c =
-    let f = c in
     let e = c.if-not-raw_address.false in
-    rw (c.from-2.ensures, ← f.raw_address.ensures, e, c.read_u32-size.ensures, add_assoc)
+    rw (c.from-2.ensures, ← c.raw_address.ensures, e, c.read_u32-size.ensures, add_assoc)

@@ -15,10 +15,8 @@ use Rattle.headers.proofs.sections.find.Goals.{After-length-size}
 -- an array has less than 2^40 bytes
 array_short : (c : After-length-size) → c.length-size.result < 2 ^ 40
 array_short c =
-    let n = c in
-    let s = n in
-    let l : n.count.result < 2 ^ 32 = omega arith in
-    rw c.length-size.ensures (array_small s.args.row n.count.result s.requires l)
+    let l : c.count.result < 2 ^ 32 = omega arith in
+    rw c.length-size.ensures (array_small c.args.row c.count.result c.requires l)
 
 pub returns-then-bytes-at : goal.returns-then-bytes-at
 unfolding sections_behind after_array
@@ -33,15 +31,14 @@ returns-then-row-eq0 c =
 
 pub behind-requires-2-clause-at_bound : goal.behind-requires-2-clause-at_bound
 behind-requires-2-clause-at_bound c =
-    let s = c in omega (arith, header_bounds s.args.row s.requires, array_short (goal.at.behind-requires-2-clause-at_bound c).After-length-size)
+    omega (arith, header_bounds c.args.row c.requires, array_short (goal.at.behind-requires-2-clause-at_bound c).After-length-size)
 
 pub returns : goal.returns
 unfolding after_array pick
 returns c =
-    let n = c in
-    let a = n.args in
-    let e = ne_eqb _ _ n.if-row-eq0.false in
-    rw (c.behind-2.ensures, c.length-size.ensures, n.count.ensures, extent_in_steps a.row a.flags a.bytes.now, e)
+    let a = c.args in
+    let e = ne_eqb _ _ c.if-row-eq0.false in
+    rw (c.behind-2.ensures, c.length-size.ensures, c.count.ensures, extent_in_steps a.row a.flags a.bytes.now, e)
 
 pub overflow_add-at : goal.overflow_add-at
 overflow_add-at c = omega (arith, header_bounds c.args.row c.requires, array_short (goal.at.overflow_add-at c).After-length-size)

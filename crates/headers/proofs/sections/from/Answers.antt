@@ -12,21 +12,18 @@ overflow_add-after c = omega (arith, options_short c.args.row c.args.flags c.req
 
 pub overflow_add-data_at : goal.overflow_add-data_at
 overflow_add-data_at c =
-    let s = c in
-    omega (arith, options_short s.args.row s.args.flags s.requires.sound)
+    omega (arith, options_short c.args.row c.args.flags c.requires.sound)
 
 pub returns-then-n-data_at : goal.returns-then-n-data_at
 unfolding sections_from pick
 returns-then-n-data_at c =
-    let w = c in
-    let a = w.args in
-    let e = lt-ltb a.n (a.at + w.cq_data_length.result + w.connid_length.result) c.if-n-data_at.true in
-    rw (← w.connid_length.ensures, ← w.cq_data_length.ensures, e)
+    let a = c.args in
+    let e = lt-ltb a.n (a.at + c.cq_data_length.result + c.connid_length.result) c.if-n-data_at.true in
+    rw (← c.connid_length.ensures, ← c.cq_data_length.ensures, e)
 
 pub returns : goal.returns
 unfolding sections_from pick
 returns c =
-    let w = c in
-    let a = w.args in
-    let e = le-ltb a.n (a.at + w.cq_data_length.result + w.connid_length.result) c.if-n-data_at.false in
-    rw (c.connid_at.ensures, ← w.connid_length.ensures, ← w.cq_data_length.ensures, e)
+    let a = c.args in
+    let e = le-ltb a.n (a.at + c.cq_data_length.result + c.connid_length.result) c.if-n-data_at.false in
+    rw (c.connid_at.ensures, ← c.connid_length.ensures, ← c.cq_data_length.ensures, e)

@@ -32,13 +32,11 @@ loop-i-init c = (omega arith, refl)
 
 pub returns-then-row-kind : goal.returns-then-row-kind
 returns-then-row-kind c =
-    let l = c in
-    sym (l.loop-i.invariant.1 ∙ hit rows l.args.kind l.loop-i.i _ (omega arith) c.if-row-kind.true)
+    sym (c.loop-i.invariant.1 ∙ hit rows c.args.kind c.loop-i.i _ (omega arith) c.if-row-kind.true)
 
 pub loop-i-preserved : goal.loop-i-preserved
 loop-i-preserved c =
-    let l = c in
-    (omega arith, l.loop-i.invariant.1 ∙ miss rows l.args.kind l.loop-i.i _ (omega arith) c.if-row-kind.false)
+    (omega arith, c.loop-i.invariant.1 ∙ miss rows c.args.kind c.loop-i.i _ (omega arith) c.if-row-kind.false)
 
 pub returns : goal.returns
 returns c = sym (c.loop-i.invariant.1 ∙ past rows c.args.kind c.loop-i.i (omega arith))

@@ -6,14 +6,12 @@ use Rattle.headers.proofs.table.find_among.Goals as goal
 pub returns-then-all : goal.returns-then-all
 unfolding admit pick
 returns-then-all c =
-    let r = c in
-    rw (← r.find.ensures, r.in-Row.is, c.if-all.true)
+    rw (← c.find.ensures, c.in-Row.is, c.if-all.true)
 
 pub returns-then-row : goal.returns-then-row
 unfolding admit pick
 returns-then-row c =
-    let r = c in
-    rw (← r.find.ensures, r.in-Row.is, c.if-all.false, c.if-row.true)
+    rw (← c.find.ensures, c.in-Row.is, c.if-all.false, c.if-row.true)
 
 pub returns-in-Unknown : goal.returns-in-Unknown
 unfolding admit
@@ -22,5 +20,4 @@ returns-in-Unknown c = rw (← c.find.ensures, c.in-Unknown.is)
 pub returns-else-row : goal.returns-else-row
 unfolding admit pick
 returns-else-row c =
-    let r = c in
-    rw (← r.find.ensures, r.in-Row.is, c.if-all.false, c.if-row.false)
+    rw (← c.find.ensures, c.in-Row.is, c.if-all.false, c.if-row.false)

@@ -7,18 +7,15 @@ use Rattle.lending.proofs.dispatch.step.Goals as goal
 
 pub returns-in-Local : goal.returns-in-Local
 returns-in-Local c =
-    let s = c in
-    let a = s.args in
+    let a = c.args in
     let q = ap (peer_step a.area a.limit a.there _) (local_call c.in-Local.local_call) in
-    rw c.in-Local.is (quiet_leaves _ _ _ _ _ _ _ _ s.requires.owned.mapped.in_map (c.local.ensures a.limit ∙ q))
+    rw c.in-Local.is (quiet_leaves _ _ _ _ _ _ _ _ c.requires.owned.mapped.in_map (c.local.ensures a.limit ∙ q))
 
 pub returns-in-Packet : goal.returns-in-Packet
 unfolding peer_step
 returns-in-Packet c =
     let q = c.packet_at in
-    let k = c in
-    let sent = k.in-Packet.sent in
-    let s = k in
-    let i = rw k.in-Packet.is at s.requires.lies_within in
-    rw k.in-Packet.is
-    (packet_leaves_lem _ _ _ _ _ _ _ _ _ _ _ _ i.1 q.auto.reply (rw (lent_part s.args.bytes.now sent.at sent.size) at q.ensures))
+    let sent = c.in-Packet.sent in
+    let i = rw c.in-Packet.is at c.requires.lies_within in
+    rw c.in-Packet.is
+    (packet_leaves_lem _ _ _ _ _ _ _ _ _ _ _ _ i.1 q.auto.reply (rw (lent_part c.args.bytes.now sent.at sent.size) at q.ensures))

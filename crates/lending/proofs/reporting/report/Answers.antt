@@ -13,8 +13,7 @@ returns-then-slot-ge-SLOTS c = rw (le-leb _ _ c.if-slot-ge-SLOTS.true)
 
 pub missing-requires : goal.missing-requires
 missing-requires c =
-    let s = c in
-    open_mapped (length s.args.words.now) s.args.peer s.args.slot _ s.requires c.in-Open.is
+    open_mapped (length c.args.words.now) c.args.peer c.args.slot _ c.requires c.in-Open.is
 
 pub returns-in-Free : goal.returns-in-Free
 unfolding report_effect report_slot pick

@@ -15,15 +15,14 @@ use Rattle.packed.proofs.running.run_calls.Goals as goal
 use Rattle.packed.proofs.running.run_calls.Goals.{After-admit, In-Open, in-Open, in-Refused}
 
 pub loop-taken-init : goal.loop-taken-init
-loop-taken-init c =
-    let s = c in (
-      refl,
-      refl,
-      refl,
-      refl,
-      record { eights = s.requires; state = sym c.fits-good.ensures },
-      batch_start _ _ _ _ _ _ c.budget-most.ensures,
-    )
+loop-taken-init c = (
+  refl,
+  refl,
+  refl,
+  refl,
+  record { eights = c.requires; state = sym c.fits-good.ensures },
+  batch_start _ _ _ _ _ _ c.budget-most.ensures,
+)
 
 pub returns-in_default : goal.returns-in_default
 returns-in_default c = sym (batch_bad c.loop-taken.invariant.5 c.loop-taken-test.true (sym c.request_at-found.ensures ∙ c.in_default.is))
@@ -50,15 +49,13 @@ bounds-engine-p c = omega (arith, below (goal.at.bounds-engine-p c).In-Open)
 
 pub step-step-requires-clause-owned : goal.step-step-requires-clause-owned
 step-step-requires-clause-owned c =
-    let k = c in
-    let l = k.loop-taken in
-    let o = once_owned (world l.engine l.arena l.map) _ l.invariant.4 _ k.admit.ensures c.in-Open.is _ in o
+    let l = c.loop-taken in
+    let o = once_owned (world l.engine l.arena l.map) _ l.invariant.4 _ c.admit.ensures c.in-Open.is _ in o
 
 pub step-step-requires-clause-lies_within : goal.step-step-requires-clause-lies_within
 step-step-requires-clause-lies_within c =
-    let k = c in
-    let l = k.loop-taken in
-    batch_inside l.invariant.5 k.loop-taken-test.true _ (read (goal.at.step-step-requires-clause-lies_within c).After-admit)
+    let l = c.loop-taken in
+    batch_inside l.invariant.5 c.loop-taken-test.true _ (read (goal.at.step-step-requires-clause-lies_within c).After-admit)
 
 pub offset_bounds-engine-p-in-Open : goal.offset_bounds-engine-p-in-Open
 offset_bounds-engine-p-in-Open c = omega (arith, below (goal.at.offset_bounds-engine-p-in-Open c).In-Open)
@@ -68,16 +65,15 @@ bounds-engine-p-in-Open c = omega (arith, below (goal.at.bounds-engine-p-in-Open
 
 pub loop-taken-preserved : goal.loop-taken-preserved
 loop-taken-preserved c =
-    let k = c in
-    let l = k.loop-taken in
+    let l = c.loop-taken in
     let g = l.invariant.5 in
-    let h = k.loop-taken-test.true in
+    let h = c.loop-taken-test.true in
     let r = batch_next g h _ (read (goal.at.loop-taken-preserved c).After-admit) in
     let i = batch_inside g h _ (read (goal.at.loop-taken-preserved c).After-admit) in
     let p = c.put_answer-at in
     elim c.match-admit.branch [
       | in-Refused w ↦
-          let m = run_refused r i l.invariant.4 _ k.admit.ensures _ w.in-Refused.is in
+          let m = run_refused r i l.invariant.4 _ c.admit.ensures _ w.in-Refused.is in
           rw (w.arena-is, w.map-is, w.replies-is, w.engine-is) (
             l.invariant.0,
             l.invariant.1,
@@ -89,7 +85,7 @@ loop-taken-preserved c =
       | in-Open w ↦
           let q = w.step-step in
           let n = q.auto.replies in
-          let m = run_open r i l.invariant.4 _ k.admit.ensures w.in-Open.is _ _ n q.ensures in
+          let m = run_open r i l.invariant.4 _ c.admit.ensures w.in-Open.is _ _ n q.ensures in
           rw (w.arena-is, w.map-is, w.replies-is, w.engine-is) (
             q.auto.arena ∙ l.invariant.0,
             q.auto.map ∙ l.invariant.1,

@@ -30,8 +30,7 @@ passed : (c : After-shared_slice_known-3-1) → let a = c.args in
     read_of (reader_rows a.all) a.limit a.bytes.now ≡ read_typed (admit (reader_rows a.all) (row_of (get_or a.bytes.now 0 0))) a.bytes.now
 unfolding read_of pick
 passed c =
-    let t = c in
-    rw (le-ltb _ _ t.if-limit-n.false, le-ltb _ _ t.if-n-lt4.false, eq-eqb _ _ c.if-bytes-ne-VERSION.false)
+    rw (le-ltb _ _ c.if-limit-n.false, le-ltb _ _ c.if-n-lt4.false, eq-eqb _ _ c.if-bytes-ne-VERSION.false)
 
 pub returns-then-limit-n : goal.returns-then-limit-n
 unfolding read_of pick
@@ -45,10 +44,9 @@ returns-then-n-lt4 c =
 pub returns-then-bytes-ne-VERSION : goal.returns-then-bytes-ne-VERSION
 unfolding read_of pick
 returns-then-bytes-ne-VERSION c =
-    let t = c in
     rw (
-      le-ltb _ _ t.if-limit-n.false,
-      le-ltb _ _ t.if-n-lt4.false,
+      le-ltb _ _ c.if-limit-n.false,
+      le-ltb _ _ c.if-n-lt4.false,
       ne_eqb _ _ c.if-bytes-ne-VERSION.true,
       c.refused-then-bytes-ne-VERSION.ensures,
     )
@@ -56,8 +54,7 @@ returns-then-bytes-ne-VERSION c =
 pub returns-in-Unknown : goal.returns-in-Unknown
 unfolding read_typed
 returns-in-Unknown c =
-    let f = c in
-    rw (passed (goal.at.returns-in-Unknown c).After-shared_slice_known-3-1, ← f.find_among.ensures, c.in-Unknown.is, c.refused-in-Unknown.ensures)
+    rw (passed (goal.at.returns-in-Unknown c).After-shared_slice_known-3-1, ← c.find_among.ensures, c.in-Unknown.is, c.refused-in-Unknown.ensures)
 
 pub typed-requires-clause-sound : goal.typed-requires-clause-sound
 typed-requires-clause-sound c =
@@ -66,5 +63,4 @@ typed-requires-clause-sound c =
 pub returns-in-Row : goal.returns-in-Row
 unfolding read_typed
 returns-in-Row c =
-    let f = c in
-    rw (passed (goal.at.returns-in-Row c).After-shared_slice_known-3-1, ← f.find_among.ensures, c.in-Row.is, c.typed.ensures)
+    rw (passed (goal.at.returns-in-Row c).After-shared_slice_known-3-1, ← c.find_among.ensures, c.in-Row.is, c.typed.ensures)

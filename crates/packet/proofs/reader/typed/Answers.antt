@@ -8,26 +8,23 @@ use Rattle.packet.proofs.reader.typed.Goals as goal
 use Rattle.packet.proofs.reader.typed.Goals.{Else-not-fit}
 
 -- past the test of the flags, the sections are read
-passed : (c : Else-not-fit) → let w = c in let a = w.args in
+passed : (c : Else-not-fit) → let a = c.args in
     read_flags a.row a.bytes.now
-    ≡ read_sections a.row w.read_u16-flags.result a.bytes.now (extent_of a.row w.read_u16-flags.result a.bytes.now)
+    ≡ read_sections a.row c.read_u16-flags.result a.bytes.now (extent_of a.row c.read_u16-flags.result a.bytes.now)
 unfolding read_flags pick
 passed c =
-    let f = c in
-    rw (← f.read_u16-flags.ensures, ← f.fit.ensures, c.if-not-fit.false)
+    rw (← c.read_u16-flags.ensures, ← c.fit.ensures, c.if-not-fit.false)
 
 pub returns-then-not-fit : goal.returns-then-not-fit
 unfolding read_flags pick
 returns-then-not-fit c =
-    let f = c in
     let e = c.if-not-fit.true in
-    rw (← f.read_u16-flags.ensures, ← f.fit.ensures, e, c.refused.ensures)
+    rw (← c.read_u16-flags.ensures, ← c.fit.ensures, e, c.refused.ensures)
 
 pub returns-in-Cut : goal.returns-in-Cut
 unfolding read_sections
 returns-in-Cut c =
-    let f = c in
-    rw (passed (goal.at.returns-in-Cut c).Else-not-fit, ← f.find.ensures, c.in-Cut.is, c.refused-in-Cut.ensures)
+    rw (passed (goal.at.returns-in-Cut c).Else-not-fit, ← c.find.ensures, c.in-Cut.is, c.refused-in-Cut.ensures)
 
 pub whole-requires-clause-sections_inside : goal.whole-requires-clause-sections_inside
 whole-requires-clause-sections_inside c =
@@ -36,5 +33,4 @@ whole-requires-clause-sections_inside c =
 pub returns-in-Whole : goal.returns-in-Whole
 unfolding read_sections
 returns-in-Whole c =
-    let f = c in
-    rw (passed (goal.at.returns-in-Whole c).Else-not-fit, ← f.find.ensures, c.in-Whole.is, c.whole.ensures)
+    rw (passed (goal.at.returns-in-Whole c).Else-not-fit, ← c.find.ensures, c.in-Whole.is, c.whole.ensures)

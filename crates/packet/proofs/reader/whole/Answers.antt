@@ -6,12 +6,10 @@ use Rattle.packet.proofs.reader.whole.Goals as goal
 pub returns-then-not-fit : goal.returns-then-not-fit
 unfolding read_lengths packet_in pick
 returns-then-not-fit c =
-    let f = c in
     let e = c.if-not-fit.true in
-    rw (← f.header-header.ensures, ← f.fit.ensures, e, c.refused.ensures)
+    rw (← c.header-header.ensures, ← c.fit.ensures, e, c.refused.ensures)
 
 pub returns : goal.returns
 unfolding read_lengths packet_in pick
 returns c =
-    let f = c in
-    rw (← f.header-header.ensures, ← f.fit.ensures, c.if-not-fit.false)
+    rw (← c.header-header.ensures, ← c.fit.ensures, c.if-not-fit.false)

@@ -7,14 +7,12 @@ use Rattle.packet.proofs.writer.head_length.Goals as goal
 pub overflow_add-result : goal.overflow_add-result
 unfolding head_length
 overflow_add-result c =
-    let s = c in
-    omega (arith, head_small s.args.row s.args.flags s.requires)
+    omega (arith, head_small c.args.row c.args.flags c.requires)
 
 pub overflow_add-result-2 : goal.overflow_add-result-2
 unfolding head_length
 overflow_add-result-2 c =
-    let s = c in
-    omega (arith, head_small s.args.row s.args.flags s.requires)
+    omega (arith, head_small c.args.row c.args.flags c.requires)
 
 pub returns : goal.returns
 unfolding head_length

@@ -34,51 +34,39 @@ write_cq_data-after_cq-requires c =
 
 pub write_bytes-requires : goal.write_bytes-requires
 write_bytes-requires c =
-    let w5 = c in
-    let w4 = w5 in
-    let w3 = w4 in
-    let w2 = w3 in
-    let w1 = w2 in
-    omega (arith, w5.write_connid-data_at, w4.write_cq_data-after_cq, w3.write_raw_address-after_raw, w2.write_bytes-after_array, w1.put_mandatory.auto, room (goal.at.write_bytes-requires c).Start)
+    omega (arith, c.write_connid-data_at, c.write_cq_data-after_cq, c.write_raw_address-after_raw, c.write_bytes-after_array, c.put_mandatory.auto, room (goal.at.write_bytes-requires c).Start)
 
 pub returns : goal.returns
 returns c =
-    let w6 = c in
-    let w5 = w6 in
-    let w4 = w5 in
-    let w3 = w4 in
-    let w2 = w3 in
-    let w1 = w2 in
-    let s = w1 in
-    let r = s.args.row in
-    let h = s.args.header in
-    let l = s.args.out.now in
-    let arr = s.args.array.now in
+    let r = c.args.row in
+    let h = c.args.header in
+    let l = c.args.out.now in
+    let arr = c.args.array.now in
     let head = mandatory_bytes r h (length arr) in
-    let raw = raw_address_bytes h.raw_address s.args.raw.now in
+    let raw = raw_address_bytes h.raw_address c.args.raw.now in
     let cq = cq_data_bytes h.cq_data in
     let id = connid_bytes r h.connid in
-    let n1 = length_mandatory r h (length arr) s.requires.sound in
+    let n1 = length_mandatory r h (length arr) c.requires.sound in
     let n2 = length-append head arr in
     let n3 = length-append (head ++ arr) raw in
     let n4 = length-append (head ++ arr ++ raw) cq in
     let n5 = length-append (head ++ arr ++ raw ++ cq) id in
     let n6 = room (goal.at.returns c).Start in
-    let p = s.requires in
+    let p = c.requires in
     rw (
-      packet_in_steps r h arr s.args.raw.now s.args.«data».now p.sound p.header_value p.array_value,
-      w6.write_bytes.ensures.1,
-      w5.write_connid-data_at.ensures.1,
-      w4.write_cq_data-after_cq.ensures.1,
-      w3.write_raw_address-after_raw.ensures.1,
-      w2.write_bytes-after_array.ensures.1,
-      w1.put_mandatory.ensures,
+      packet_in_steps r h arr c.args.raw.now c.args.«data».now p.sound p.header_value p.array_value,
+      c.write_bytes.ensures.1,
+      c.write_connid-data_at.ensures.1,
+      c.write_cq_data-after_cq.ensures.1,
+      c.write_raw_address-after_raw.ensures.1,
+      c.write_bytes-after_array.ensures.1,
+      c.put_mandatory.ensures,
       store_next l 0 head arr r.header (omega arith) (omega arith),
-      store_next l 0 (head ++ arr) raw w2.write_bytes-after_array.result (omega arith) (omega arith),
-      store_next l 0 (head ++ arr ++ raw) cq w3.write_raw_address-after_raw.result (omega arith) (omega arith),
-      store_next l 0 (head ++ arr ++ raw ++ cq) id w4.write_cq_data-after_cq.result (omega arith) (omega arith),
+      store_next l 0 (head ++ arr) raw c.write_bytes-after_array.result (omega arith) (omega arith),
+      store_next l 0 (head ++ arr ++ raw) cq c.write_raw_address-after_raw.result (omega arith) (omega arith),
+      store_next l 0 (head ++ arr ++ raw ++ cq) id c.write_cq_data-after_cq.result (omega arith) (omega arith),
     )
-    (store_next l 0 (head ++ arr ++ raw ++ cq ++ id) s.args.«data».now w5.write_connid-data_at.result (omega arith) (omega arith))
+    (store_next l 0 (head ++ arr ++ raw ++ cq ++ id) c.args.«data».now c.write_connid-data_at.result (omega arith) (omega arith))
 
 pub put_mandatory-requires-clause-header_in_bounds : goal.put_mandatory-requires-clause-header_in_bounds
 put_mandatory-requires-clause-header_in_bounds c = omega (arith, room (goal.at.put_mandatory-requires-clause-header_in_bounds c).Start)

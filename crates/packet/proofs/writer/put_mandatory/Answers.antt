@@ -13,16 +13,12 @@ use Rattle.packet.proofs.writer.put_mandatory.Goals as goal
 pub returns : goal.returns
 unfolding mandatory_bytes
 returns c =
-    let w2 = c in
-    let k = w2 in
-    let w1 = k in
-    let s = w1 in
-    let r = s.args.row in
-    let h = s.args.header in
+    let r = c.args.row in
+    let h = c.args.header in
     let base = base_bytes r.kind (flags_of r h) in
-    let fields = field_bytes (layout r) (array_count r s.args.n) h in
+    let fields = field_bytes (layout r) (array_count r c.args.n) h in
     let n1 = length_base r.kind (flags_of r h) in
-    let n2 = length_fields (layout r) (array_count r s.args.n) h in
-    let n3 = s.requires.sound.header in
-    let n4 = s.requires.header_in_bounds in
-    rw (w2.write.ensures, k.count_of.ensures, w1.put_base.ensures, s.requires.flags_value) (store_next s.args.out.now 0 base fields 4 (omega arith) (omega arith))
+    let n2 = length_fields (layout r) (array_count r c.args.n) h in
+    let n3 = c.requires.sound.header in
+    let n4 = c.requires.header_in_bounds in
+    rw (c.write.ensures, c.count_of.ensures, c.put_base.ensures, c.requires.flags_value) (store_next c.args.out.now 0 base fields 4 (omega arith) (omega arith))

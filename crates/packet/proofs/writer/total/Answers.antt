@@ -12,41 +12,31 @@ head c = rw c.head_length-head.ensures (head_small c.args.row c.args.flags c.req
 
 pub returns-then-size-gt-PACKET_LIMIT : goal.returns-then-size-gt-PACKET_LIMIT
 returns-then-size-gt-PACKET_LIMIT c =
-    let s = c in
-    let a = s.args in
-    sym (total_above a.row a.flags a.array a.raw a.size s.requires.array_value (omega arith))
+    let a = c.args in
+    sym (total_above a.row a.flags a.array a.raw a.size c.requires.array_value (omega arith))
 
 pub returns-then-array-gt-PACKET_LIMIT : goal.returns-then-array-gt-PACKET_LIMIT
 returns-then-array-gt-PACKET_LIMIT c =
-    let s = c in
-    let a = s.args in
-    sym (total_above a.row a.flags a.array a.raw a.size s.requires.array_value (omega arith))
+    let a = c.args in
+    sym (total_above a.row a.flags a.array a.raw a.size c.requires.array_value (omega arith))
 
 pub returns-then-not-raw_address : goal.returns-then-not-raw_address
 returns-then-not-raw_address c =
-    let w = c in
-    let k = w in
-    let s = k in
-    let a = s.args in
-    let e = sym w.raw_address.ensures ∙ c.if-not-raw_address.true in
-    rw (c.limited.ensures, k.head_length-head.ensures) (sym (total_without a.row a.flags a.array a.raw a.size s.requires.array_value e))
+    let a = c.args in
+    let e = sym c.raw_address.ensures ∙ c.if-not-raw_address.true in
+    rw (c.limited.ensures, c.head_length-head.ensures) (sym (total_without a.row a.flags a.array a.raw a.size c.requires.array_value e))
 
 pub returns-then-raw-gt-PACKET_LIMIT : goal.returns-then-raw-gt-PACKET_LIMIT
 returns-then-raw-gt-PACKET_LIMIT c =
-    let w = c in
-    let s = w in
-    let a = s.args in
-    let e = sym w.raw_address.ensures ∙ c.if-not-raw_address.false in
-    sym (total_with a.row a.flags a.array a.raw a.size s.requires.array_value e ∙ above_limit_lem _ (omega arith))
+    let a = c.args in
+    let e = sym c.raw_address.ensures ∙ c.if-not-raw_address.false in
+    sym (total_with a.row a.flags a.array a.raw a.size c.requires.array_value e ∙ above_limit_lem _ (omega arith))
 
 pub returns : goal.returns
 returns c =
-    let w = c in
-    let k = w in
-    let s = k in
-    let a = s.args in
-    let e = sym w.raw_address.ensures ∙ c.if-not-raw_address.false in
-    rw (c.limited-2.ensures, k.head_length-head.ensures) (sym (total_with a.row a.flags a.array a.raw a.size s.requires.array_value e))
+    let a = c.args in
+    let e = sym c.raw_address.ensures ∙ c.if-not-raw_address.false in
+    rw (c.limited-2.ensures, c.head_length-head.ensures) (sym (total_with a.row a.flags a.array a.raw a.size c.requires.array_value e))
 
 pub overflow_add-head : goal.overflow_add-head
 overflow_add-head c = omega (arith, head (goal.at.overflow_add-head c).After-head_length-head)

@@ -27,11 +27,9 @@ passed : (c : Else-not-lengths_fit) → let a = c.args in
     ≡ write_bytes (packet_bytes a.row a.header a.array.now a.raw.now a.«data».now) a.out.now
 unfolding write_as pick
 passed c =
-    let f2 = c in
-    let f1 = f2 in
-    let e1 = f2.if-not-may_have.false in
+    let e1 = c.if-not-may_have.false in
     let e2 = c.if-not-lengths_fit.false in
-    rw (← f1.may_have.ensures, e1, ← f2.lengths_fit.ensures, e2)
+    rw (← c.may_have.ensures, e1, ← c.lengths_fit.ensures, e2)
 
 -- the type may have the optional headers and the array
 fitting : (r : TypeRow) (h : Header) (n : ℕ) {m : Bool} → m ≡ (options_fit r h && array_allowed r n) → m ≡ true
@@ -61,23 +59,19 @@ measured c =
 pub returns-then-not-may_have : goal.returns-then-not-may_have
 unfolding write_as pick
 returns-then-not-may_have c =
-    let f = c in
     let e = c.if-not-may_have.true in
-    rw (← f.may_have.ensures, e, c.refused.ensures)
+    rw (← c.may_have.ensures, e, c.refused.ensures)
 
 pub returns-then-not-lengths_fit : goal.returns-then-not-lengths_fit
 unfolding write_as pick
 returns-then-not-lengths_fit c =
-    let f2 = c in
-    let f1 = f2 in
-    let e1 = f2.if-not-may_have.false in
+    let e1 = c.if-not-may_have.false in
     let e2 = c.if-not-lengths_fit.true in
-    rw (← f1.may_have.ensures, e1, ← f2.lengths_fit.ensures, e2, c.refused-then-not-lengths_fit.ensures)
+    rw (← c.may_have.ensures, e1, ← c.lengths_fit.ensures, e2, c.refused-then-not-lengths_fit.ensures)
 
 pub returns-then-out-n : goal.returns-then-out-n
 unfolding write_bytes pick
 returns-then-out-n c =
-    let t = c in
     let m = measured (goal.at.returns-then-out-n c).In-Bytes in
     let k = rw (← m.0) at c.if-out-n.true in
     rw (passed (goal.at.returns-then-out-n c).Else-not-lengths_fit, le-ltb packet_limit _ m.1, lt-ltb _ _ k, c.refused-then-out-n.ensures)
@@ -85,7 +79,6 @@ returns-then-out-n c =
 pub returns-in-Above : goal.returns-in-Above
 unfolding write_bytes pick
 returns-in-Above c =
-    let t = c in
     let e = limited_above _ (answered c.args.row c.args.header c.args.array.now c.args.raw.now c.args.«data».now c.requires c.may_have.ensures c.if-not-may_have.false c.written-flags.ensures c.total.ensures
     ∙ c.in-Above.is) in
     rw (passed (goal.at.returns-in-Above c).Else-not-lengths_fit, lt-ltb packet_limit _ e, c.refused-in-Above.ensures)
@@ -93,11 +86,9 @@ returns-in-Above c =
 pub returns-else-out-n : goal.returns-else-out-n
 unfolding write_bytes pick
 returns-else-out-n c =
-    let w = c in
-    let t = w in
     let m = measured (goal.at.returns-else-out-n c).In-Bytes in
-    let k = rw (← m.0) at w.if-out-n.false in
-    rw (passed (goal.at.returns-else-out-n c).Else-not-lengths_fit, le-ltb packet_limit _ m.1, le-ltb _ _ k, w.put.ensures, m.0)
+    let k = rw (← m.0) at c.if-out-n.false in
+    rw (passed (goal.at.returns-else-out-n c).Else-not-lengths_fit, le-ltb packet_limit _ m.1, le-ltb _ _ k, c.put.ensures, m.0)
 
 pub put-requires-clause-data_len_bound : goal.put-requires-clause-data_len_bound
 put-requires-clause-data_len_bound c = (measured (goal.at.put-requires-clause-data_len_bound c).In-Bytes).1

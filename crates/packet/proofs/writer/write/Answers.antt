@@ -15,5 +15,4 @@ returns-in-Unknown c =
 pub returns-in-Row : goal.returns-in-Row
 unfolding write_of write_typed
 returns-in-Row c =
-    let r = c in
-    rw (← r.find.ensures, r.in-Row.is, c.typed.ensures)
+    rw (← c.find.ensures, c.in-Row.is, c.typed.ensures)

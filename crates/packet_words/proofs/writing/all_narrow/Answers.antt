@@ -15,20 +15,14 @@ returns-then-values-ge-WIDE-2 c = rw (lt-ltb _ _ c.if-values-ge-WIDE.false, le-l
 pub returns-then-values-ge-WIDE-3 : goal.returns-then-values-ge-WIDE-3
 unfolding all_narrow
 returns-then-values-ge-WIDE-3 c =
-    let d = c in
-    rw (lt-ltb _ _ d.if-values-ge-WIDE.false, lt-ltb _ _ d.if-values-ge-WIDE-2.false, le-ltb _ _ c.if-values-ge-WIDE-3.true)
+    rw (lt-ltb _ _ c.if-values-ge-WIDE.false, lt-ltb _ _ c.if-values-ge-WIDE-2.false, le-ltb _ _ c.if-values-ge-WIDE-3.true)
 
 pub returns-then-values-ge-WIDE-4 : goal.returns-then-values-ge-WIDE-4
 unfolding all_narrow
 returns-then-values-ge-WIDE-4 c =
-    let d = c in
-    let e = d in
-    rw (lt-ltb _ _ e.if-values-ge-WIDE.false, lt-ltb _ _ e.if-values-ge-WIDE-2.false, lt-ltb _ _ d.if-values-ge-WIDE-3.false, le-ltb _ _ c.if-values-ge-WIDE-4.true)
+    rw (lt-ltb _ _ c.if-values-ge-WIDE.false, lt-ltb _ _ c.if-values-ge-WIDE-2.false, lt-ltb _ _ c.if-values-ge-WIDE-3.false, le-ltb _ _ c.if-values-ge-WIDE-4.true)
 
 pub returns : goal.returns
 unfolding all_narrow
 returns c =
-    let b = c in
-    let d = b in
-    let e = d in
-    rw (lt-ltb _ _ e.if-values-ge-WIDE.false, lt-ltb _ _ e.if-values-ge-WIDE-2.false, lt-ltb _ _ d.if-values-ge-WIDE-3.false, lt-ltb _ _ b.if-values-ge-WIDE-4.false) refl
+    rw (lt-ltb _ _ c.if-values-ge-WIDE.false, lt-ltb _ _ c.if-values-ge-WIDE-2.false, lt-ltb _ _ c.if-values-ge-WIDE-3.false, lt-ltb _ _ c.if-values-ge-WIDE-4.false) refl

@@ -9,5 +9,4 @@ returns-then-not-fields_fit c = rw (← c.fields_fit.ensures, c.if-not-fields_fi
 pub returns : goal.returns
 unfolding words_fit
 returns c =
-    let f = c in
-    rw (← f.fields_fit.ensures, c.if-not-fields_fit.false) c.holds.ensures
+    rw (← c.fields_fit.ensures, c.if-not-fields_fit.false) c.holds.ensures

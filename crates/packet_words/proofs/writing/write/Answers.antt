@@ -21,27 +21,20 @@ returns-then-kind-gt255 c = rw (le-leb _ _ c.if-values-lt-VALUES.false, no_type_
 pub returns-then-all_narrow : goal.returns-then-all_narrow
 unfolding write_from pick
 returns-then-all_narrow c =
-    let w = c in
-    let t = w in
-    let n = t in
-    let k = n in
-    rw (le-leb _ _ k.if-values-lt-VALUES.false)
-    (w.write_header.ensures
-    ∙ sym (written_at_once _ (λ i. (k.shared_slice_known-4-1.given i).fits) (sym n.all_narrow.ensures ∙ t.if-all_narrow.true) _ _ _ _ (omega arith)))
+    rw (le-leb _ _ c.if-values-lt-VALUES.false)
+    (c.write_header.ensures
+    ∙ sym (written_at_once _ (λ i. (c.shared_slice_known-4-1.given i).fits) (sym c.all_narrow.ensures ∙ c.if-all_narrow.true) _ _ _ _ (omega arith)))
 
 pub write_as-requires-clause-sound : goal.write_as-requires-clause-sound
 write_as-requires-clause-sound c =
-    let w = c in sound _ _ (sym w.find.ensures ∙ w.in-Row.is)
+    sound _ _ (sym c.find.ensures ∙ c.in-Row.is)
 
 pub returns-in-Unknown : goal.returns-in-Unknown
 unfolding write_from put_typed pick
 returns-in-Unknown c =
-    let f = c in
-    rw (le-leb _ _ f.if-values-lt-VALUES.false, ← f.find.ensures, c.in-Unknown.is)
+    rw (le-leb _ _ c.if-values-lt-VALUES.false, ← c.find.ensures, c.in-Unknown.is)
 
 pub returns-in-Row : goal.returns-in-Row
 unfolding write_from pick
 returns-in-Row c =
-    let r = c in
-    let f = r in
-    rw (le-leb _ _ f.if-values-lt-VALUES.false, ← f.find.ensures, r.in-Row.is) c.write_as.ensures
+    rw (le-leb _ _ c.if-values-lt-VALUES.false, ← c.find.ensures, c.in-Row.is) c.write_as.ensures

@@ -10,10 +10,9 @@ returns-then-not-options_fit c = rw (← c.options_fit.ensures, c.if-not-options
 pub returns-then-not-numbers_fit : goal.returns-then-not-numbers_fit
 unfolding put_typed pick
 returns-then-not-numbers_fit c =
-    let o = c in
     rw (
-      ← o.options_fit.ensures,
-      o.if-not-options_fit.false,
+      ← c.options_fit.ensures,
+      c.if-not-options_fit.false,
       ← c.numbers_fit.ensures,
       c.if-not-numbers_fit.true,
     )
@@ -21,13 +20,10 @@ returns-then-not-numbers_fit c =
 pub returns : goal.returns
 unfolding put_typed pick
 returns c =
-    let w = c in
-    let m = w in
-    let o = m in
     rw (
-      ← o.options_fit.ensures,
-      o.if-not-options_fit.false,
-      ← m.numbers_fit.ensures,
-      m.if-not-numbers_fit.false,
+      ← c.options_fit.ensures,
+      c.if-not-options_fit.false,
+      ← c.numbers_fit.ensures,
+      c.if-not-numbers_fit.false,
     )
-    w.write_header.ensures
+    c.write_header.ensures

@@ -11,21 +11,18 @@ use Rattle.posting.proofs.ages.count_older.Goals as goal
 
 pub overflow_add-n : goal.overflow_add-n
 overflow_add-n c =
-    let l = c in
-    let one : c.one_older-n.result ≤ 1 = rw c.one_older-n.ensures (one_older_le l.args.age (phase_at l.args.peer.slots l.loop-i.i)) in
+    let one : c.one_older-n.result ≤ 1 = rw c.one_older-n.ensures (one_older_le c.args.age (phase_at c.args.peer.slots c.loop-i.i)) in
     omega arith
 
 pub loop-i-preserved : goal.loop-i-preserved
 loop-i-preserved c =
-    let l = c in
-    let ss = l.args.peer.slots in
+    let ss = c.args.peer.slots in
     let len : length ss ≡ slot_count = search length_mapped in
-    let one : c.one_older-n.result ≤ 1 = rw c.one_older-n.ensures (one_older_le l.args.age (phase_at ss l.loop-i.i)) in
-    (omega arith, omega arith, rw (l.loop-i.invariant.2, older_turn ss l.loop-i.i (omega (arith, len)) l.args.age, ← c.one_older-n.ensures) (sym (add_assoc l.loop-i.n _ _)))
+    let one : c.one_older-n.result ≤ 1 = rw c.one_older-n.ensures (one_older_le c.args.age (phase_at ss c.loop-i.i)) in
+    (omega arith, omega arith, rw (c.loop-i.invariant.2, older_turn ss c.loop-i.i (omega (arith, len)) c.args.age, ← c.one_older-n.ensures) (sym (add_assoc c.loop-i.n _ _)))
 
 pub returns : goal.returns
 returns c =
-    let l = c in
-    let ss = l.args.peer.slots in
+    let ss = c.args.peer.slots in
     let len : length ss ≡ slot_count = search length_mapped in
-    omega (arith, l.loop-i.invariant.2, older_end ss l.loop-i.i (omega (arith, len)) l.args.age)
+    omega (arith, c.loop-i.invariant.2, older_end ss c.loop-i.i (omega (arith, len)) c.args.age)

@@ -11,15 +11,13 @@ use Rattle.posting.proofs.ages.count_posted.Goals as goal
 
 pub loop-i-preserved : goal.loop-i-preserved
 loop-i-preserved c =
-    let l = c in
-    let ss = l.args.peer.slots in
+    let ss = c.args.peer.slots in
     let len : length ss ≡ slot_count = search length_mapped in
-    let one : c.one_posted-n.result ≤ 1 = rw c.one_posted-n.ensures (one_posted_le (phase_at ss l.loop-i.i)) in
-    (omega arith, omega arith, rw (l.loop-i.invariant.2, posted_turn ss l.loop-i.i (omega (arith, len)), ← c.one_posted-n.ensures) (sym (add_assoc l.loop-i.n _ _)))
+    let one : c.one_posted-n.result ≤ 1 = rw c.one_posted-n.ensures (one_posted_le (phase_at ss c.loop-i.i)) in
+    (omega arith, omega arith, rw (c.loop-i.invariant.2, posted_turn ss c.loop-i.i (omega (arith, len)), ← c.one_posted-n.ensures) (sym (add_assoc c.loop-i.n _ _)))
 
 pub returns : goal.returns
 returns c =
-    let l = c in
-    let ss = l.args.peer.slots in
+    let ss = c.args.peer.slots in
     let len : length ss ≡ slot_count = search length_mapped in
-    omega (arith, l.loop-i.invariant.2, posted_end ss l.loop-i.i (omega (arith, len)))
+    omega (arith, c.loop-i.invariant.2, posted_end ss c.loop-i.i (omega (arith, len)))

@@ -12,15 +12,13 @@ use Rattle.posting.proofs.ages.renumbered.Goals as goal
 
 pub loop-i-preserved : goal.loop-i-preserved
 loop-i-preserved c =
-    let l = c in
-    let ss = l.args.all.slots in
+    let ss = c.args.all.slots in
     let len : length ss ≡ slot_count = search length_mapped in
-    (omega arith, l.loop-i.invariant.1, rw c.renumbered_slot.ensures (renumbered_turn ss l.loop-i.peer.slots l.loop-i.i (omega (arith, len)) l.loop-i.invariant.2))
+    (omega arith, c.loop-i.invariant.1, rw c.renumbered_slot.ensures (renumbered_turn ss c.loop-i.peer.slots c.loop-i.i (omega (arith, len)) c.loop-i.invariant.2))
 
 pub returns : goal.returns
 returns c =
-    let l = c in
-    let ss = l.args.all.slots in
+    let ss = c.args.all.slots in
     let len : length ss ≡ slot_count = search length_mapped in
-    let all : l.loop-i.i ≡ length ss = omega (arith, len) in
-    ap₂ (λ (n : ℕ) (s : List Slot). record { next = n; slots = s }) l.loop-i.invariant.1 (rw all at l.loop-i.invariant.2 ∙ all_renumbered ss)
+    let all : c.loop-i.i ≡ length ss = omega (arith, len) in
+    ap₂ (λ (n : ℕ) (s : List Slot). record { next = n; slots = s }) c.loop-i.invariant.1 (rw all at c.loop-i.invariant.2 ∙ all_renumbered ss)

@@ -13,13 +13,11 @@ returns-then-slot-ge-SLOTS c = λ ws. rw (le-leb _ _ c.if-slot-ge-SLOTS.true, c.
 pub returns-then-is_free : goal.returns-then-is_free
 unfolding cancel_effect pick
 returns-then-is_free c = λ ws.
-    let s = c in
     rw (lt-leb _ _ c.if-slot-ge-SLOTS.false, c.refused-then-is_free.ensures)
-    (sym (cancel_free s.args.peer ws s.args.slot _ (sym c.is_free.ensures ∙ c.if-is_free.true)))
+    (sym (cancel_free c.args.peer ws c.args.slot _ (sym c.is_free.ensures ∙ c.if-is_free.true)))
 
 pub returns : goal.returns
 unfolding cancel_effect pick
 returns c = λ ws.
-    let s = c in
     rw (lt-leb _ _ c.if-slot-ge-SLOTS.false, c.stepped.ensures)
-    (sym (cancel_used s.args.peer ws s.args.slot _ (sym c.is_free.ensures ∙ c.if-is_free.false)))
+    (sym (cancel_used c.args.peer ws c.args.slot _ (sym c.is_free.ensures ∙ c.if-is_free.false)))

@@ -10,21 +10,18 @@ use Rattle.posting.proofs.places.find_vacancy.Goals as goal
 
 pub returns-then-is_free : goal.returns-then-is_free
 returns-then-is_free c =
-    let l = c in
-    let ss = l.args.peer.slots in
+    let ss = c.args.peer.slots in
     let len : length ss ≡ slot_count = search length_mapped in
-    rw (l.loop-i.invariant.1, vacancy_turn ss l.loop-i.i (omega (arith, len)), ← c.is_free.ensures, c.if-is_free.true) (sym (pick_true _ _ refl))
+    rw (c.loop-i.invariant.1, vacancy_turn ss c.loop-i.i (omega (arith, len)), ← c.is_free.ensures, c.if-is_free.true) (sym (pick_true _ _ refl))
 
 pub loop-i-preserved : goal.loop-i-preserved
 loop-i-preserved c =
-    let l = c in
-    let ss = l.args.peer.slots in
+    let ss = c.args.peer.slots in
     let len : length ss ≡ slot_count = search length_mapped in
-    (omega arith, rw (l.loop-i.invariant.1, vacancy_turn ss l.loop-i.i (omega (arith, len)), ← c.is_free.ensures, c.if-is_free.false) (pick_false _ _ refl))
+    (omega arith, rw (c.loop-i.invariant.1, vacancy_turn ss c.loop-i.i (omega (arith, len)), ← c.is_free.ensures, c.if-is_free.false) (pick_false _ _ refl))
 
 pub returns : goal.returns
 returns c =
-    let l = c in
-    let ss = l.args.peer.slots in
+    let ss = c.args.peer.slots in
     let len : length ss ≡ slot_count = search length_mapped in
-    sym (l.loop-i.invariant.1 ∙ vacancy_end ss l.loop-i.i (omega (arith, len)))
+    sym (c.loop-i.invariant.1 ∙ vacancy_end ss c.loop-i.i (omega (arith, len)))

@@ -9,21 +9,18 @@ use Rattle.posting.proofs.places.overlaps_some.Goals as goal
 
 pub returns-then-overlaps_use : goal.returns-then-overlaps_use
 returns-then-overlaps_use c =
-    let l = c in
-    let ss = l.args.peer.slots in
+    let ss = c.args.peer.slots in
     let len : length ss ≡ slot_count = search length_mapped in
-    rw (l.loop-i.invariant.1, overlaps_turn ss l.loop-i.i (omega (arith, len)) l.args.receive, ← c.overlaps_use.ensures, c.if-overlaps_use.true)
+    rw (c.loop-i.invariant.1, overlaps_turn ss c.loop-i.i (omega (arith, len)) c.args.receive, ← c.overlaps_use.ensures, c.if-overlaps_use.true)
 
 pub loop-i-preserved : goal.loop-i-preserved
 loop-i-preserved c =
-    let l = c in
-    let ss = l.args.peer.slots in
+    let ss = c.args.peer.slots in
     let len : length ss ≡ slot_count = search length_mapped in
-    (omega arith, rw (l.loop-i.invariant.1, overlaps_turn ss l.loop-i.i (omega (arith, len)) l.args.receive, ← c.overlaps_use.ensures, c.if-overlaps_use.false))
+    (omega arith, rw (c.loop-i.invariant.1, overlaps_turn ss c.loop-i.i (omega (arith, len)) c.args.receive, ← c.overlaps_use.ensures, c.if-overlaps_use.false))
 
 pub returns : goal.returns
 returns c =
-    let l = c in
-    let ss = l.args.peer.slots in
+    let ss = c.args.peer.slots in
     let len : length ss ≡ slot_count = search length_mapped in
-    sym (l.loop-i.invariant.1 ∙ overlaps_end ss l.loop-i.i (omega (arith, len)) l.args.receive)
+    sym (c.loop-i.invariant.1 ∙ overlaps_end ss c.loop-i.i (omega (arith, len)) c.args.receive)

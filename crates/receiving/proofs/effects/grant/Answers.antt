@@ -6,10 +6,9 @@ use Rattle.receiving.proofs.effects.grant.Goals as goal
 
 pub write_cts-requires-clause-le_recv_length : goal.write_cts-requires-clause-le_recv_length
 write_cts-requires-clause-le_recv_length c =
-    let s = c in rw c.grant_of-n.ensures (grant_one s.args.limit s.args.inbound.message s.requires.may_grant)
+    rw c.grant_of-n.ensures (grant_one c.args.limit c.args.inbound.message c.requires.may_grant)
 
 pub extended-requires : goal.extended-requires
 extended-requires c =
-    let s = c in
-    let m = s.args.inbound.message in
-    rw c.grant_of-n.ensures (omega (arith, grant_le s.args.limit m, s.requires.may_grant.remains))
+    let m = c.args.inbound.message in
+    rw c.grant_of-n.ensures (omega (arith, grant_le c.args.limit m, c.requires.may_grant.remains))

@@ -7,9 +7,8 @@ use Rattle.receiving.proofs.effects.settle.Goals as goal
 
 pub grant-requires-clause-may_grant : goal.grant-requires-clause-may_grant
 grant-requires-clause-may_grant c =
-    let s = c in
     let e = sym c.progress.ensures ∙ c.in-Due.is in
-    let left = due_remains s.args.words.now s.args.inbound e in record { limited = s.requires.limited; remains = left }
+    let left = due_remains c.args.words.now c.args.inbound e in record { limited = c.requires.limited; remains = left }
 
 pub returns-in-Whole : goal.returns-in-Whole
 unfolding settled_as

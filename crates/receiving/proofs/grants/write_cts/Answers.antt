@@ -4,6 +4,5 @@ use Rattle.receiving.proofs.grants.write_cts.Goals as goal
 
 pub returns : goal.returns
 returns c =
-    let s = c in
     let e = rw c.cts_header-header.ensures at c.write.ensures in
-    cts_left s.args.send_id s.args.recv_id s.args.recv_length s.args.reply.now _ _ s.requires.in_bounds s.requires.le_recv_length e
+    cts_left c.args.send_id c.args.recv_id c.args.recv_length c.args.reply.now _ _ c.requires.in_bounds c.requires.le_recv_length e

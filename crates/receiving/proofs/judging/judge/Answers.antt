@@ -7,17 +7,15 @@ use Rattle.receiving.proofs.judging.judge.Goals as goal
 
 pub judge_again-requires : goal.judge_again-requires
 judge_again-requires c =
-    let s = c in
-    let a = s.args in
+    let a = c.args in
     let found = sym c.find_open.ensures ∙ c.in-At.is in
-    again_placed (length a.words.now) a.peer a.h s.requires _ _ found (sym c.is_rtm-rtm.ensures ∙ c.if-rtm.true)
+    again_placed (length a.words.now) a.peer a.h c.requires _ _ found (sym c.is_rtm-rtm.ensures ∙ c.if-rtm.true)
 
 pub judge_data-requires : goal.judge_data-requires
 judge_data-requires c =
-    let s = c in
-    let a = s.args in
+    let a = c.args in
     let found = sym c.find_open.ensures ∙ c.in-At.is in
-    data_placed (length a.words.now) a.peer a.h s.requires _ _ found
+    data_placed (length a.words.now) a.peer a.h c.requires _ _ found
 
 pub returns-then-rtm : goal.returns-then-rtm
 unfolding judge judge_found pick

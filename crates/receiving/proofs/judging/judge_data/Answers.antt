@@ -10,11 +10,9 @@ returns-then-not-is_long c = rw (← c.is_long.ensures, c.if-not-is_long.true)
 pub returns-then-ends_by : goal.returns-then-ends_by
 unfolding judge_data pick
 returns-then-ends_by c =
-    let t = c in
-    rw (← t.is_long.ensures, t.if-not-is_long.false, ← c.ends_by.ensures, c.if-ends_by.true, c.judge_more.ensures)
+    rw (← c.is_long.ensures, c.if-not-is_long.false, ← c.ends_by.ensures, c.if-ends_by.true, c.judge_more.ensures)
 
 pub returns-else-ends_by : goal.returns-else-ends_by
 unfolding judge_data pick
 returns-else-ends_by c =
-    let t = c in
-    rw (← t.is_long.ensures, t.if-not-is_long.false, ← c.ends_by.ensures, c.if-ends_by.false)
+    rw (← c.is_long.ensures, c.if-not-is_long.false, ← c.ends_by.ensures, c.if-ends_by.false)

@@ -7,14 +7,12 @@ use Rattle.receiving.proofs.matching.find_oldest.Goals as goal
 
 pub loop-i-preserved : goal.loop-i-preserved
 loop-i-preserved c =
-    let l = c in
-    let ss = l.args.peer.slots in
+    let ss = c.args.peer.slots in
     let len : length ss ≡ slot_count = search length_mapped in
-    (omega arith, rw (l.loop-i.invariant.1, oldest_turn ss l.loop-i.i (omega (arith, len)) l.args.h l.loop-i.best, c.older_here-best.ensures))
+    (omega arith, rw (c.loop-i.invariant.1, oldest_turn ss c.loop-i.i (omega (arith, len)) c.args.h c.loop-i.best, c.older_here-best.ensures))
 
 pub returns : goal.returns
 returns c =
-    let l = c in
-    let ss = l.args.peer.slots in
+    let ss = c.args.peer.slots in
     let len : length ss ≡ slot_count = search length_mapped in
-    sym (l.loop-i.invariant.1 ∙ oldest_end ss l.loop-i.i (omega (arith, len)) l.args.h l.loop-i.best)
+    sym (c.loop-i.invariant.1 ∙ oldest_end ss c.loop-i.i (omega (arith, len)) c.args.h c.loop-i.best)

@@ -7,21 +7,18 @@ use Rattle.receiving.proofs.matching.find_open.Goals as goal
 
 pub returns-in-At : goal.returns-in-At
 returns-in-At c =
-    let l = c in
-    let ss = l.args.peer.slots in
+    let ss = c.args.peer.slots in
     let len : length ss ≡ slot_count = search length_mapped in
-    rw (l.loop-i.invariant.1, open_turn ss l.loop-i.i (omega (arith, len)) l.args.id, ← c.open_under-found.ensures, c.in-At.is)
+    rw (c.loop-i.invariant.1, open_turn ss c.loop-i.i (omega (arith, len)) c.args.id, ← c.open_under-found.ensures, c.in-At.is)
 
 pub loop-i-preserved : goal.loop-i-preserved
 loop-i-preserved c =
-    let l = c in
-    let ss = l.args.peer.slots in
+    let ss = c.args.peer.slots in
     let len : length ss ≡ slot_count = search length_mapped in
-    (omega arith, rw (l.loop-i.invariant.1, open_turn ss l.loop-i.i (omega (arith, len)) l.args.id, ← c.open_under-found.ensures, c.in_default.is))
+    (omega arith, rw (c.loop-i.invariant.1, open_turn ss c.loop-i.i (omega (arith, len)) c.args.id, ← c.open_under-found.ensures, c.in_default.is))
 
 pub returns : goal.returns
 returns c =
-    let l = c in
-    let ss = l.args.peer.slots in
+    let ss = c.args.peer.slots in
     let len : length ss ≡ slot_count = search length_mapped in
-    sym (l.loop-i.invariant.1 ∙ open_end ss l.loop-i.i (omega (arith, len)) l.args.id)
+    sym (c.loop-i.invariant.1 ∙ open_end ss c.loop-i.i (omega (arith, len)) c.args.id)

@@ -18,8 +18,7 @@ short c = omega arith
 
 pub overflow_add-end : goal.overflow_add-end
 overflow_add-end c =
-    let b = c in
-    let a = b.args in
+    let a = c.args in
     let e = sym c.read_served.ensures ∙ c.in-Packet.is in
     omega (arith, data_inside a.limit a.bytes.now _ e, short (goal.at.overflow_add-end c).After-shared_slice_known-1)
 
@@ -33,10 +32,9 @@ pub carry-requires : goal.carry-requires
 carry-requires c =
     let a = c.args in
     let e = sym c.read_served.ensures ∙ c.in-Packet.is in
-    let s = c in
     let d = c.in-Packet.packet.«data» in
     rw (c.incoming_of-h.ensures, lent_part a.bytes.now d.at d.size)
-    (record { limited = s.requires.limited; mapped = s.requires.mapped; form = read_formed a.limit a.bytes.now _ e; room = c.if-reply-lt-CTS_LENGTH.false })
+    (record { limited = c.requires.limited; mapped = c.requires.mapped; form = read_formed a.limit a.bytes.now _ e; room = c.if-reply-lt-CTS_LENGTH.false })
 
 pub returns-in-Refused : goal.returns-in-Refused
 unfolding packet_effect read_effect pick

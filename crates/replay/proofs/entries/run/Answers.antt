@@ -16,13 +16,11 @@ use Rattle.replay.proofs.entries.run.Goals.{After-admit, In-Open, else-loop-take
 
 pub loop-taken-init : goal.loop-taken-init
 loop-taken-init c =
-    let s = c in
-    (refl, refl, refl, refl, record { eights = s.requires.eights; state = s.requires.start_value }, replay_start _ _ _ _ _ _ _ s.requires.budget_in_bounds)
+    (refl, refl, refl, refl, record { eights = c.requires.eights; state = c.requires.start_value }, replay_start _ _ _ _ _ _ _ c.requires.budget_in_bounds)
 
 pub returns-in_default : goal.returns-in_default
 returns-in_default c =
-    let t = c in
-    sym (replay_bad t.loop-taken.invariant.5 t.loop-taken-test.true t.if-place-trace.true (sym c.read_entry-found.ensures ∙ c.in_default.is))
+    sym (replay_bad c.loop-taken.invariant.5 c.loop-taken-test.true c.if-place-trace.true (sym c.read_entry-found.ensures ∙ c.in_default.is))
 
 -- ---- an entry that was read
 
@@ -48,15 +46,13 @@ bounds-engine-p c = omega (arith, below (goal.at.bounds-engine-p c).In-Open)
 
 pub step-step-requires-clause-owned : goal.step-step-requires-clause-owned
 step-step-requires-clause-owned c =
-    let k = c in
-    let l = k.loop-taken in
-    let o = once_owned (world l.engine l.arena l.map) _ l.invariant.4 _ k.admit.ensures c.in-Open.is _ in o
+    let l = c.loop-taken in
+    let o = once_owned (world l.engine l.arena l.map) _ l.invariant.4 _ c.admit.ensures c.in-Open.is _ in o
 
 pub step-step-requires-clause-lies_within : goal.step-step-requires-clause-lies_within
 step-step-requires-clause-lies_within c =
-    let k = c in
-    let l = k.loop-taken in
-    rw k.with_buffer-call.ensures (replay_inside l.invariant.5 k.loop-taken-test.true (inside (goal.at.step-step-requires-clause-lies_within c).After-admit) _ _ (read (goal.at.step-step-requires-clause-lies_within c).After-admit))
+    let l = c.loop-taken in
+    rw c.with_buffer-call.ensures (replay_inside l.invariant.5 c.loop-taken-test.true (inside (goal.at.step-step-requires-clause-lies_within c).After-admit) _ _ (read (goal.at.step-step-requires-clause-lies_within c).After-admit))
 
 pub offset_bounds-engine-p-in-Open : goal.offset_bounds-engine-p-in-Open
 offset_bounds-engine-p-in-Open c = omega (arith, below (goal.at.offset_bounds-engine-p-in-Open c).In-Open)
@@ -66,16 +62,15 @@ bounds-engine-p-in-Open c = omega (arith, below (goal.at.bounds-engine-p-in-Open
 
 pub loop-taken-preserved : goal.loop-taken-preserved
 loop-taken-preserved c =
-    let k = c in
-    let l = k.loop-taken in
+    let l = c.loop-taken in
     let g = l.invariant.5 in
-    let h = k.loop-taken-test.true in
+    let h = c.loop-taken-test.true in
     let r = replay_next g h (inside (goal.at.loop-taken-preserved c).After-admit) _ _ (read (goal.at.loop-taken-preserved c).After-admit) in
     let i = replay_inside g h (inside (goal.at.loop-taken-preserved c).After-admit) _ _ (read (goal.at.loop-taken-preserved c).After-admit) in
     let p = c.put_answer-written in
     elim c.match-admit.branch [
       | in-Refused w ↦
-          let m = run_refused r i l.invariant.4 _ k.admit.ensures _ w.in-Refused.is in
+          let m = run_refused r i l.invariant.4 _ c.admit.ensures _ w.in-Refused.is in
           rw (w.arena-is, w.map-is, w.reply-is, w.engine-is) (
             l.invariant.0,
             l.invariant.1,
@@ -87,7 +82,7 @@ loop-taken-preserved c =
       | in-Open w ↦
           let q = w.step-step in
           let n = q.auto.replies in
-          let m = run_open r i l.invariant.4 _ k.admit.ensures w.in-Open.is _ _ n (rw k.with_buffer-call.ensures at q.ensures) in
+          let m = run_open r i l.invariant.4 _ c.admit.ensures w.in-Open.is _ _ n (rw c.with_buffer-call.ensures at q.ensures) in
           rw (w.arena-is, w.map-is, w.reply-is, w.engine-is) (
             q.auto.arena ∙ l.invariant.0,
             q.auto.map ∙ l.invariant.1,

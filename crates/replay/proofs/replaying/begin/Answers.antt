@@ -15,38 +15,34 @@ put_line-first-requires c = let a = set_up_room in let p = c.requires in omega a
 
 pub run-ran-requires-clause-eights : goal.run-ran-requires-clause-eights
 run-ran-requires-clause-eights c =
-    let s = c in
     let w = c.put_line-first in
     let a = set_up_room in
-    let p = s.requires in
-    let k : length w.new.text ≡ length s.args.text.now = w.auto.text in
-    let (eights, fits) = ready_holds _ _ _ s.args.arena.now _ _ c.set_up-started.ensures c.in-Ready.is in eights
+    let p = c.requires in
+    let k : length w.new.text ≡ length c.args.text.now = w.auto.text in
+    let (eights, fits) = ready_holds _ _ _ c.args.arena.now _ _ c.set_up-started.ensures c.in-Ready.is in eights
 
 pub run-ran-requires-clause-start_value : goal.run-ran-requires-clause-start_value
 run-ran-requires-clause-start_value c =
-    let s = c in
     let w = c.put_line-first in
     let a = set_up_room in
-    let p = s.requires in
-    let k : length w.new.text ≡ length s.args.text.now = w.auto.text in
-    let (eights, fits) = ready_holds _ _ _ s.args.arena.now _ _ c.set_up-started.ensures c.in-Ready.is in fits
+    let p = c.requires in
+    let k : length w.new.text ≡ length c.args.text.now = w.auto.text in
+    let (eights, fits) = ready_holds _ _ _ c.args.arena.now _ _ c.set_up-started.ensures c.in-Ready.is in fits
 
 pub run-ran-requires-clause-budget_in_bounds : goal.run-ran-requires-clause-budget_in_bounds
 run-ran-requires-clause-budget_in_bounds c =
-    let s = c in
     let w = c.put_line-first in
     let a = set_up_room in
-    let p = s.requires in
-    let k : length w.new.text ≡ length s.args.text.now = w.auto.text in
-    let (eights, fits) = ready_holds _ _ _ s.args.arena.now _ _ c.set_up-started.ensures c.in-Ready.is in omega arith
+    let p = c.requires in
+    let k : length w.new.text ≡ length c.args.text.now = w.auto.text in
+    let (eights, fits) = ready_holds _ _ _ c.args.arena.now _ _ c.set_up-started.ensures c.in-Ready.is in omega arith
 
 pub put_ending-requires : goal.put_ending-requires
 put_ending-requires c =
-    let s = c in
-    let a = s.args in
+    let a = c.args in
     let w = c.put_line-first in
     let r = c.run-ran in
-    last_room _ _ _ a.text.now _ a.budget (calls_few a.budget _ _ _) s.requires _ _ w.ensures.0 (rw w.ensures.1 at r.ensures)
+    last_room _ _ _ a.text.now _ a.budget (calls_few a.budget _ _ _) c.requires _ _ w.ensures.0 (rw w.ensures.1 at r.ensures)
 
 pub returns-in-Refused : goal.returns-in-Refused
 returns-in-Refused c =
@@ -55,12 +51,10 @@ returns-in-Refused c =
 
 pub returns-in-Ready : goal.returns-in-Ready
 returns-in-Ready c =
-    let s = c in
-    let a = s.args in
+    let a = c.args in
     let w = c.put_line-first in
     let r = c.run-ran in
     let p = c.put_ending in
-    let e = c in
-    reported_by_parts _ _ _ a.text.now _ a.budget (calls_few a.budget _ _ _) s.requires _ _ w.ensures.0 (rw w.ensures.1 at r.ensures) _ _
+    reported_by_parts _ _ _ a.text.now _ a.budget (calls_few a.budget _ _ _) c.requires _ _ w.ensures.0 (rw w.ensures.1 at r.ensures) _ _
     p.ensures.0 p.ensures.1
-    ∙ sym (replay_from_ready _ _ _ _ _ _ _ _ _ _ _ e.set_up-started.ensures e.in-Ready.is)
+    ∙ sym (replay_from_ready _ _ _ _ _ _ _ _ _ _ _ c.set_up-started.ensures c.in-Ready.is)

@@ -53,7 +53,6 @@ begin-requires c = room (goal.at.begin-requires c).Else-not-has_room
 pub returns-in-Bad : goal.returns-in-Bad
 unfolding replay_of started
 returns-in-Bad c =
-    let k = c in
     c.tell.ensures _ _ _
     ∙ sym (pick_true _ _ (open_room (goal.at.returns-in-Bad c).Else-not-has_room) ∙ rw (sym c.read_set_up.ensures ∙ c.in-Bad.is))
 
@@ -64,9 +63,8 @@ returns-in-Are c =
     let g = c.begin in
     let m = c.lent-bytes in
     let k = c.lent-words in
-    let e = c in
     put_back a.arena.now a.map.now _ m.result k.result
     (g.auto.arena ∙ length-take-le _ _ (rw m.ensures (lent_there _ _ _)))
     (g.auto.map ∙ length-take-le _ _ (rw k.ensures (lent_there _ _ _)))
     ∙ ap (in_whole a.arena.now a.map.now) g.ensures
-    ∙ sym (pick_true _ _ (open_room (goal.at.returns-in-Are c).Else-not-has_room) ∙ rw (sym e.read_set_up.ensures ∙ e.in-Are.is, ← m.ensures, ← k.ensures))
+    ∙ sym (pick_true _ _ (open_room (goal.at.returns-in-Are c).Else-not-has_room) ∙ rw (sym c.read_set_up.ensures ∙ c.in-Are.is, ← m.ensures, ← k.ensures))

@@ -10,13 +10,11 @@ returns-then-not-ends_by c = rw (← c.ends_by.ensures, c.if-not-ends_by.true)
 pub returns-then-receive-message : goal.returns-then-receive-message
 unfolding phase_fits
 returns-then-receive-message c =
-    let e = c in
-    let o = e.args.inbound in
-    rw (← e.ends_by.ensures, c.if-not-ends_by.false, lt-leb o.message.length o.receive.capacity c.if-receive-message.true)
+    let o = c.args.inbound in
+    rw (← c.ends_by.ensures, c.if-not-ends_by.false, lt-leb o.message.length o.receive.capacity c.if-receive-message.true)
 
 pub returns : goal.returns
 unfolding phase_fits
 returns c =
-    let e = c in
-    let o = e.args.inbound in
-    rw (← e.ends_by.ensures, c.if-not-ends_by.false, le-leb o.message.length o.receive.capacity c.if-receive-message.false)
+    let o = c.args.inbound in
+    rw (← c.ends_by.ensures, c.if-not-ends_by.false, le-leb o.message.length o.receive.capacity c.if-receive-message.false)

@@ -9,18 +9,15 @@ returns-then-a-b c = sym (same_lengths c.args.a.now c.args.b.now (λ e. omega ar
 
 pub returns-then-a-i : goal.returns-then-a-i
 returns-then-a-i c =
-    let l = c in
-    let s = l.args in
-    sym (l.loop-i.invariant.1 ∙ same_stop s.a.now s.b.now l.loop-i.i (omega arith) (omega arith) (λ e. omega arith))
+    let s = c.args in
+    sym (c.loop-i.invariant.1 ∙ same_stop s.a.now s.b.now c.loop-i.i (omega arith) (omega arith) (λ e. omega arith))
 
 pub loop-i-preserved : goal.loop-i-preserved
 loop-i-preserved c =
-    let l = c in
-    let s = l.args in
-    (omega arith, l.loop-i.invariant.1 ∙ same_turn s.a.now s.b.now l.loop-i.i (omega arith) (omega arith) (omega arith))
+    let s = c.args in
+    (omega arith, c.loop-i.invariant.1 ∙ same_turn s.a.now s.b.now c.loop-i.i (omega arith) (omega arith) (omega arith))
 
 pub returns : goal.returns
 returns c =
-    let l = c in
-    let s = l.args in
-    sym (l.loop-i.invariant.1 ∙ same_end s.a.now s.b.now l.loop-i.i (omega arith) (omega arith))
+    let s = c.args in
+    sym (c.loop-i.invariant.1 ∙ same_end s.a.now s.b.now c.loop-i.i (omega arith) (omega arith))

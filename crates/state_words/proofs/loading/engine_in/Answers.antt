@@ -23,17 +23,15 @@ read w p = peer_in w (3 + peer_size * p)
 pub loop-p-preserved : goal.loop-p-preserved
 unfolding fresh
 loop-p-preserved c =
-    let l = c in
-    let a = l.args in
-    let i = l.loop-p.invariant in
-    (omega arith, i.1, i.2, i.3, rw c.peer_in.ensures (tabulate_turn (read a.words.now) peer_count fresh l.loop-p.engine.peers l.loop-p.p refl (omega arith) i.4))
+    let a = c.args in
+    let i = c.loop-p.invariant in
+    (omega arith, i.1, i.2, i.3, rw c.peer_in.ensures (tabulate_turn (read a.words.now) peer_count fresh c.loop-p.engine.peers c.loop-p.p refl (omega arith) i.4))
 
 pub returns : goal.returns
 unfolding engine_in fresh
 returns c =
-    let l = c in
-    let a = l.args in
-    let i = l.loop-p.invariant in
-    let all : l.loop-p.p ≡ peer_count = omega arith in
-    let peers : l.loop-p.engine.peers ≡ tabulate (read a.words.now) peer_count = rw all at i.4 ∙ tabulate_all (read a.words.now) peer_count fresh refl in
+    let a = c.args in
+    let i = c.loop-p.invariant in
+    let all : c.loop-p.p ≡ peer_count = omega arith in
+    let peers : c.loop-p.engine.peers ≡ tabulate (read a.words.now) peer_count = rw all at i.4 ∙ tabulate_all (read a.words.now) peer_count fresh refl in
     rw (← i.1, ← i.2, ← i.3, ← peers)

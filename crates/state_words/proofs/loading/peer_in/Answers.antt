@@ -28,15 +28,13 @@ loop-i-init c =
 pub loop-i-preserved : goal.loop-i-preserved
 unfolding free
 loop-i-preserved c =
-    let l = c in
-    let a = l.args in
-    (omega arith, l.loop-i.invariant.1, rw c.slot_in.ensures (tabulate_turn (read a.words.now a.at) slot_count free l.loop-i.peer.slots l.loop-i.i refl (omega arith) l.loop-i.invariant.2))
+    let a = c.args in
+    (omega arith, c.loop-i.invariant.1, rw c.slot_in.ensures (tabulate_turn (read a.words.now a.at) slot_count free c.loop-i.peer.slots c.loop-i.i refl (omega arith) c.loop-i.invariant.2))
 
 pub returns : goal.returns
 unfolding peer_in free
 returns c =
-    let l = c in
-    let a = l.args in
-    let all : l.loop-i.i ≡ slot_count = omega arith in
-    ap₂ (λ (n : ℕ) (s : List Slot). record { next = n; slots = s }) l.loop-i.invariant.1
-    (rw all at l.loop-i.invariant.2 ∙ tabulate_all (read a.words.now a.at) slot_count free refl)
+    let a = c.args in
+    let all : c.loop-i.i ≡ slot_count = omega arith in
+    ap₂ (λ (n : ℕ) (s : List Slot). record { next = n; slots = s }) c.loop-i.invariant.1
+    (rw all at c.loop-i.invariant.2 ∙ tabulate_all (read a.words.now a.at) slot_count free refl)

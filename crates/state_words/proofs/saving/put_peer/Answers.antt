@@ -19,26 +19,24 @@ loop-i-init c = (omega arith, refl, sym (store_nothing _ _))
 
 pub loop-i-preserved : goal.loop-i-preserved
 loop-i-preserved c =
-    let l = c in
-    let a = l.args in
+    let a = c.args in
     let w = c.well_formed.0 in
     let len : length a.peer.slots ≡ slot_count = search length_mapped in
     let w = set a.words.now a.at a.peer.next in
     let fits : a.at + 1 + 16 * length a.peer.slots ≤ length w = simp length-set (omega (arith, len)) in (
       omega arith,
-      c.put_words.auto.words ∙ l.loop-i.invariant.1,
+      c.put_words.auto.words ∙ c.loop-i.invariant.1,
       c.put_words.ensures
-          ∙ rw (c.slot_words.ensures, l.loop-i.invariant.2)
-          (flat_turn slot_words 16 a.peer.slots free_slot (λ i h. length_slot _) w (a.at + 1) l.loop-i.i (a.at + 1 + 16 * l.loop-i.i) (omega (arith, len)) refl fits),
+          ∙ rw (c.slot_words.ensures, c.loop-i.invariant.2)
+          (flat_turn slot_words 16 a.peer.slots free_slot (λ i h. length_slot _) w (a.at + 1) c.loop-i.i (a.at + 1 + 16 * c.loop-i.i) (omega (arith, len)) refl fits),
     )
 
 pub returns : goal.returns
 returns c =
-    let l = c in
-    let a = l.args in
+    let a = c.args in
     let w = c.well_formed.0 in
     let len : length a.peer.slots ≡ slot_count = search length_mapped in
-    let all : length a.peer.slots ≤ l.loop-i.i = omega (arith, len) in
+    let all : length a.peer.slots ≤ c.loop-i.i = omega (arith, len) in
     let size = length_peer a.peer len in
-    rw (take_all l.loop-i.i a.peer.slots all) at l.loop-i.invariant.2
+    rw (take_all c.loop-i.i a.peer.slots all) at c.loop-i.invariant.2
     ∙ set_next a.words.now a.at a.peer.next (flat slot_words a.peer.slots) (omega (arith, size))

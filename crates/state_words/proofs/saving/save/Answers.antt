@@ -33,32 +33,28 @@ loop-p-init c = (omega arith, refl, sym (store_nothing _ _))
 
 pub loop-p-preserved : goal.loop-p-preserved
 loop-p-preserved c =
-    let l = c in
-    let s = l in
-    let a = s.args in
+    let a = c.args in
     let len = eight (goal.at.loop-p-preserved c).Start in
     let w = set (set (set a.words.now 0 a.engine.n) 1 a.engine.area) 2 a.engine.limit in
-    let fits : 3 + peer_size * length a.engine.peers ≤ length w = simp length-set (omega (arith, len, s.requires)) in (
+    let fits : 3 + peer_size * length a.engine.peers ≤ length w = simp length-set (omega (arith, len, c.requires)) in (
       omega arith,
-      c.put_peer.auto.words ∙ l.loop-p.invariant.1,
+      c.put_peer.auto.words ∙ c.loop-p.invariant.1,
       c.put_peer.ensures
-          ∙ rw l.loop-p.invariant.2
-          (flat_turn peer_words peer_size a.engine.peers no_peer (λ i h. length_peer (get_or a.engine.peers i no_peer) (slots (goal.at.loop-p-preserved c).Start i h)) w 3 l.loop-p.p (3 + peer_size * l.loop-p.p) (omega (arith, len)) refl fits),
+          ∙ rw c.loop-p.invariant.2
+          (flat_turn peer_words peer_size a.engine.peers no_peer (λ i h. length_peer (get_or a.engine.peers i no_peer) (slots (goal.at.loop-p-preserved c).Start i h)) w 3 c.loop-p.p (3 + peer_size * c.loop-p.p) (omega (arith, len)) refl fits),
     )
 
 pub returns : goal.returns
 unfolding engine_words
 returns c =
-    let l = c in
-    let s = l in
-    let a = s.args in
+    let a = c.args in
     let e = a.engine in
     let w = a.words.now in
     let rest = flat peer_words e.peers in
     let len = eight (goal.at.returns c).Start in
-    let all : length e.peers ≤ l.loop-p.p = omega (arith, len) in
+    let all : length e.peers ≤ c.loop-p.p = omega (arith, len) in
     let size = length_engine e no_peer len (slots (goal.at.returns c).Start) in
-    rw (take_all l.loop-p.p e.peers all) at l.loop-p.invariant.2
-    ∙ set_next (set (set w 0 e.n) 1 e.area) 2 e.limit rest (simp length-set (omega (arith, size, s.requires)))
-    ∙ set_next (set w 0 e.n) 1 e.area (e.limit ∷ rest) (simp length-set (omega (arith, size, s.requires)))
-    ∙ set_next w 0 e.n (e.area ∷ e.limit ∷ rest) (omega (arith, size, s.requires)) ∙ store_whole w (engine_words e) (size ∙ sym s.requires)
+    rw (take_all c.loop-p.p e.peers all) at c.loop-p.invariant.2
+    ∙ set_next (set (set w 0 e.n) 1 e.area) 2 e.limit rest (simp length-set (omega (arith, size, c.requires)))
+    ∙ set_next (set w 0 e.n) 1 e.area (e.limit ∷ rest) (simp length-set (omega (arith, size, c.requires)))
+    ∙ set_next w 0 e.n (e.area ∷ e.limit ∷ rest) (omega (arith, size, c.requires)) ∙ store_whole w (engine_words e) (size ∙ sym c.requires)

@@ -23,15 +23,13 @@ unfolding overlap
 returns-then-self-other c =
     let r = c.args.self in
     let s = c.args.other in
-    let w = c in
     ltb_same (s.start - r.start) r.capacity (max r.start s.start) (min (r.start + r.capacity) (s.start + s.capacity))
-    (λ h. omega (arith, w.if-self-other.true, w.if-other-eq0.false, w.if-self-eq0.false)) (λ h. omega (arith, w.if-self-other.true, w.if-other-eq0.false, w.if-self-eq0.false))
+    (λ h. omega (arith, c.if-self-other.true, c.if-other-eq0.false, c.if-self-eq0.false)) (λ h. omega (arith, c.if-self-other.true, c.if-other-eq0.false, c.if-self-eq0.false))
 
 pub returns-else-self-other : goal.returns-else-self-other
 unfolding overlap
 returns-else-self-other c =
     let r = c.args.self in
     let s = c.args.other in
-    let w = c in
     ltb_same (r.start - s.start) s.capacity (max r.start s.start) (min (r.start + r.capacity) (s.start + s.capacity))
-    (λ h. omega (arith, w.if-self-other.false, w.if-other-eq0.false, w.if-self-eq0.false)) (λ h. omega (arith, w.if-self-other.false, w.if-other-eq0.false, w.if-self-eq0.false))
+    (λ h. omega (arith, c.if-self-other.false, c.if-other-eq0.false, c.if-self-eq0.false)) (λ h. omega (arith, c.if-self-other.false, c.if-other-eq0.false, c.if-self-eq0.false))
