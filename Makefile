@@ -1,5 +1,5 @@
 # `make run` replays a recorded run, and `make run TRACE=file` another one. `make test` is the gate.
-.PHONY: run test library compare soak embed bench
+.PHONY: run test archive library compare soak embed bench
 
 TRACE ?= examples/whole-case.trace
 CALLS ?= 1000000
@@ -9,28 +9,31 @@ CARGO = cargo run --release --offline --quiet --manifest-path rust/Cargo.toml
 
 # The program is proved first, where that is still to be done: some minutes at the first time.
 run:
-	@rt check replay_main >&2
-	@target/bin/replay_main <$(TRACE)
+	@(cd crates/replay_main && rt run) <$(TRACE)
 
 test:
 	@tests/gate
 
-# The verified library for other languages, target/staticlib/libquagfeather.a.
-library:
-	@rt staticlib quagfeather >&2
+# The verified library for other languages: proved, where that is still to be done, and compiled.
+archive:
+	@cd crates/quagfeather && rt lib >&2
+
+# The same, and where it is.
+library: archive
+	@echo crates/quagfeather/out/libquagfeather.a
 
 # The verified library and the independent receiver on generated calls, the same ones each time.
-compare: library
+compare: archive
 	@$(CARGO) -p compare -- calls $(CALLS)
 
 # The same on other calls, for MINUTES minutes.
-soak: library
+soak: archive
 	@$(CARGO) -p compare -- soak $(MINUTES)
 
 # The examples of embedding, in C and in Rust.
-embed: library
+embed: archive
 	@tests/embed
 
 # Both receivers' times on the same input, in one run: a text for docs/PERFORMANCE.md.
-bench: library
+bench: archive
 	@$(CARGO) -p bench

@@ -10,7 +10,7 @@ pub fn print() {
     println!("- Load when started: {}", load());
     println!("- Compilers: {}; kit `{}`", rustc(), kit());
     println!(
-        "- Flags: the verified library as `rt staticlib` builds it, at -O3 for x86-64; the reference \
+        "- Flags: the verified library as `rt lib` builds it, at -O3 for x86-64; the reference \
          by cargo's release profile, {}",
         rust_flags()
     );
