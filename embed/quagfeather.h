@@ -1,10 +1,11 @@
 /*
  * Quagfeather: a verified receive engine for two-sided messages of EFA RDM protocol v4.
  *
- * Link target/staticlib/libquagfeather.a. docs/EMBEDDING.md has the words of states, calls, answers
- * and packet values. No function keeps a pointer, allocates, or asks more of its caller than that
- * each pointer is valid for the length behind it (in elements) and that nothing lent to be written
- * overlaps what else is lent. A refusal's number is that of the specification.
+ * Link crates/quagfeather/out/libquagfeather.a, which `make library` writes. docs/EMBEDDING.md has the
+ * words of states, calls, answers and packet values. No function keeps a pointer, allocates, or asks
+ * more of its caller than that each pointer is valid for the length behind it (in elements) and that
+ * nothing lent to be written overlaps what else is lent. A refusal's number is that of the
+ * specification.
  */
 #ifndef QUAGFEATHER_H
 #define QUAGFEATHER_H
