@@ -1,5 +1,5 @@
 -- A range of offsets, of which a function says whether each is marked:
--- what `touched`, `countSet` and `firstClear` say of a map's bits, said of the function.
+-- what `touched`, `count_set` and `first_clear` say of a map's bits, said of the function.
 use Rattle.std.specs.Prelude.{ℕ, zero, suc, ◌+◌, Bool, false, ◌||◌}
 use Rattle.laws.specs.Choose.{pick}
 

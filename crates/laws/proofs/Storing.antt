@@ -1,4 +1,4 @@
--- Laws of `part` and `storeAt`: lengths, what is read back, stores side by side, and a store in a part that was lent on.
+-- Laws of `part` and `store_at`: lengths, what is read back, stores side by side, and a store in a part that was lent on.
 use Prim.Native.Nat.{ℕ, ◌+◌, ◌-◌, ◌≤◌, ◌<◌}
 use borrow.Rule.Slice.PartMut.{put_mid}
 use lib.ListN.{length, get_or, take, drop, set, length-append, take-append-drop, length-take, length-drop, drop_of_length-le, get_or-eq_default}

@@ -1,4 +1,4 @@
--- Laws of `requestsFrom`: one more call, one that is none, how many there are, and that each lies in what is lent.
+-- Laws of `requests_from`: one more call, one that is none, how many there are, and that each lies in what is lent.
 use Prim.Native.Nat.{ℕ, zero, suc, ◌+◌, ◌≤◌}
 use borrow.Author.Tests.{leb-true}
 use lib.Dec.{eqb, leb}

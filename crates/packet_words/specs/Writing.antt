@@ -55,7 +55,7 @@ connid_number v = get_or v 16 0
 
 -- ---- what they say
 
--- numbers of 32 bits: what is above is cut, and looked at by `wordsFit` where the type has the field
+-- numbers of 32 bits: what is above is cut, and looked at by `words_fit` where the type has the field
 abbrev pub words_fields : List ℕ → Fields
 words_fields v =
     record {

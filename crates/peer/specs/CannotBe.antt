@@ -1,6 +1,6 @@
 -- Refusal 2 of one peer in 01's own words, clause by clause: "within one peer below n a used range (of a posted or open slot) outside its
 -- area, two overlapping used ranges, two open messages with one id, two posted receives of one age, open length above capacity, granted
--- end above length". Proved in proofs/slots/CannotBeLaws.antt.
+-- end above length". Proved in proofs/Slots/CannotBeLaws.antt.
 use Rattle.std.specs.Prelude.{◌≡◌, ℕ, ◌+◌, ◌<◌, true, false, ◌≢◌, ◌↔◌}
 use Rattle.peer.specs.Sentences.{HasByte}
 use Rattle.peer.specs.State.{peer_fits, phase_at}

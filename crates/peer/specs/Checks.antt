@@ -1,6 +1,6 @@
 -- A peer's checks from 5 on, each in 01's own words over a view of the peer, and each call's list of them in 01's order: a call is refused by
--- the first that fails, and by none exactly if it is not refused. Proved in proofs/refusals/AnswersChecked.antt, proofs/refusals/AcceptOrRefuse.antt and
--- proofs/refusals/HistoryChecked.antt.
+-- the first that fails, and by none exactly if it is not refused. Proved in proofs/Refusals/AnswersChecked.antt, proofs/Refusals/AcceptOrRefuse.antt and
+-- proofs/Refusals/HistoryChecked.antt.
 use Rattle.std.specs.Prelude.{◌≡◌, ℕ, ◌+◌, ◌%◌, ◌^◌, ◌<◌, ◌≤◌, true, false, ◌≢◌, ◌⊎◌, List, [], ◌∷◌, ◌++◌, map, length}
 use Rattle.protocol.specs.ByType.{tagged_told}
 use Rattle.protocol.specs.Sentences.{ReadFails, ReaderCheck, bit_of, reader_checks, refused_as}

@@ -1,5 +1,5 @@
 -- A long message that starts empty, in the words of 02, request 3, over bytes, bits and roles: what a LONGCTS RTM without data comes to. Proved in
--- proofs/step/EmptyStarts.antt.
+-- proofs/PeerSteps/EmptyStarts.antt.
 use Rattle.std.specs.Prelude.{◌≡◌, ℕ, ◌-◌, ◌*◌, ◌≤◌, min, max, true, ◌⊎◌, List, [], length}
 use Rattle.bitmap.specs.Map.{bit_at}
 use Rattle.peer.specs.Answers.{on_taken}

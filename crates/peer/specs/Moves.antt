@@ -1,5 +1,5 @@
 -- What each answer of a peer's call leaves of its slots, next id, map and area, in 01's own words, over roles, bits and bytes: accepted segments,
--- the missing-byte report, and the statement of every answer. Proved in proofs/step/MovesHold.antt and proofs/step/SlotsRound.antt.
+-- the missing-byte report, and the statement of every answer. Proved in proofs/PeerSteps/MovesHold.antt and proofs/PeerSteps/SlotsRound.antt.
 use Rattle.std.specs.Prelude.{◌≡◌, ℕ, ◌+◌, ◌-◌, ◌*◌, ◌^◌, ◌<◌, ◌≤◌, min, max, true, ◌⊎◌, ◌↔◌, List, [], length, drop}
 use mathlib.Core.List.{Memᴰ}
 use Rattle.bitmap.specs.Map.{bit_at}

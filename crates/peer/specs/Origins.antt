@@ -1,5 +1,5 @@
 -- Where a message comes from, by the calls of a history: the post that its slot was posted with, and the packet that matched it, byte by byte.
--- Proved in proofs/history/OriginsHold.antt and proofs/history/OriginReplies.antt.
+-- Proved in proofs/History/OriginsHold.antt and proofs/History/OriginReplies.antt.
 use Rattle.std.specs.Prelude.{◌≡◌, ℕ, ◌+◌, ◌<◌, ◌≤◌, false, ◌≢◌, ◌⊎◌, ◌↔◌, List, [], ◌∷◌, length, drop, set, replicate, slice_index, slice_index_or, slice_set}
 use Rattle.laws.specs.Choose.{pick}
 use Rattle.protocol.specs.CtsSentences.{ReadsAsCts}

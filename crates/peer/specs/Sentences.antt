@@ -1,5 +1,5 @@
 -- The tests that engine and plain receiver share, in 01's own words, over numbers, bits and bytes.
--- Proved in proofs/sentences/SentencesHold.antt, proofs/sentences/OffsetsHold.antt and proofs/sentences/FieldsHold.antt.
+-- Proved in proofs/Sentences/SentencesHold.antt, proofs/Sentences/OffsetsHold.antt and proofs/Sentences/FieldsHold.antt.
 use Rattle.std.specs.Prelude.{◌≡◌, ℕ, ◌+◌, ◌%◌, ◌^◌, ◌<◌, ◌≤◌, Bool, true, false, ◌≢◌, ◌⊎◌, ◌↔◌, List, [], ◌∷◌, length, get_or, slice_index, slice_index_or}
 use mathlib.Core.List.{Memᴰ}
 use Rattle.bitmap.specs.Offsets.{count_of, first_not, some_of}

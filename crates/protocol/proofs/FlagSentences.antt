@@ -1,4 +1,4 @@
--- A type's rule on flags is 01's, bit by bit: `flagsFit` passes exactly what `FlagRule` of specs/ByType.antt allows.
+-- A type's rule on flags is 01's, bit by bit: `flags_fit` passes exactly what `FlagRule` of specs/ByType.antt allows.
 use Prim.Native.Nat.{ℕ, suc, ◌-◌, ◌^◌, ◌≤◌, ◌<◌, min}
 use borrow.Author.Tests.{leb-true, eqb-true, eq-eqb, ne_eqb}
 use lib.Bits.{bit_and}

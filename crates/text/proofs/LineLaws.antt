@@ -1,4 +1,4 @@
--- Laws of `numbersLine`: the numbers from a place on, and how long a line can be.
+-- Laws of `numbers_line`: the numbers from a place on, and how long a line can be.
 use Prim.Native.Nat.{ℕ, suc, ◌+◌, ◌*◌, ◌≤◌, ◌<◌}
 use lib.ListN.{length, get_or, drop, length-append, drop_of_length-le}
 use lib.Seq.{drop-cons}
