@@ -10,6 +10,7 @@ use protocol::{
     COUNT, CREDIT_REQUEST, Fields, Header, MSG_ID, MSG_LENGTH, MULTIUSE, PADDING, RECV_ID,
     RECV_LENGTH, SEG_LENGTH, SEG_OFFSET, SEND_ID, TAG, TypeRow,
 };
+use wire::LittleEndian;
 
 // Where a field stands; 0 where the type has no such field.
 pub(crate) fn place(places: u64, unit: u64) -> usize
@@ -20,28 +21,16 @@ pub(crate) fn place(places: u64, unit: u64) -> usize
 }
 
 // The number of a field; 0 where the type has no such field.
-fn number_u32(bytes: &[u8], places: u64, unit: u64) -> u32
+fn number<T: LittleEndian>(bytes: &[u8], places: u64, unit: u64) -> T
     requires unit_nonzero { 0 < unit }
-    requires unit_in_bounds { place_by places unit + 4 ≤ length bytes.now }
-    ensures { result ≡ number_there (place_by places unit) 4 bytes.now }
+    requires unit_in_bounds { place_by places unit + T.width ≤ length bytes.now }
+    ensures { T.value result ≡ number_there (place_by places unit) T.width bytes.now }
 {
     let at = place(places, unit);
     if at == 0 {
-        return 0;
+        return T::zero();
     }
-    wire::read_u32(bytes, at)
-}
-
-fn number_u64(bytes: &[u8], places: u64, unit: u64) -> u64
-    requires unit_nonzero { 0 < unit }
-    requires unit_in_bounds { place_by places unit + 8 ≤ length bytes.now }
-    ensures { result ≡ number_there (place_by places unit) 8 bytes.now }
-{
-    let at = place(places, unit);
-    if at == 0 {
-        return 0;
-    }
-    wire::read_u64(bytes, at)
+    T::read(bytes, at)
 }
 
 // The fields of a request, which is most packets: three of them it never has.
@@ -52,15 +41,15 @@ fn read_request(row: TypeRow, bytes: &[u8]) -> Fields
     ensures { result ≡ fields_in (layout row) 4 bytes.now }
 {
     Fields {
-        msg_id: number_u32(bytes, row.places, MSG_ID),
+        msg_id: number(bytes, row.places, MSG_ID),
         recv_id: 0,
-        send_id: number_u32(bytes, row.places, SEND_ID),
-        msg_length: number_u64(bytes, row.places, MSG_LENGTH),
+        send_id: number(bytes, row.places, SEND_ID),
+        msg_length: number(bytes, row.places, MSG_LENGTH),
         seg_length: 0,
         recv_length: 0,
-        seg_offset: number_u64(bytes, row.places, SEG_OFFSET),
-        credit_request: number_u32(bytes, row.places, CREDIT_REQUEST),
-        tag: number_u64(bytes, row.places, TAG),
+        seg_offset: number(bytes, row.places, SEG_OFFSET),
+        credit_request: number(bytes, row.places, CREDIT_REQUEST),
+        tag: number(bytes, row.places, TAG),
     }
 }
 
@@ -71,15 +60,15 @@ fn read_any(row: TypeRow, bytes: &[u8]) -> Fields
     ensures { result ≡ fields_in (layout row) 4 bytes.now }
 {
     Fields {
-        msg_id: number_u32(bytes, row.places, MSG_ID),
-        recv_id: number_u32(bytes, row.places, RECV_ID),
-        send_id: number_u32(bytes, row.places, SEND_ID),
-        msg_length: number_u64(bytes, row.places, MSG_LENGTH),
-        seg_length: number_u64(bytes, row.places, SEG_LENGTH),
-        recv_length: number_u64(bytes, row.places, RECV_LENGTH),
-        seg_offset: number_u64(bytes, row.places, SEG_OFFSET),
-        credit_request: number_u32(bytes, row.places, CREDIT_REQUEST),
-        tag: number_u64(bytes, row.places, TAG),
+        msg_id: number(bytes, row.places, MSG_ID),
+        recv_id: number(bytes, row.places, RECV_ID),
+        send_id: number(bytes, row.places, SEND_ID),
+        msg_length: number(bytes, row.places, MSG_LENGTH),
+        seg_length: number(bytes, row.places, SEG_LENGTH),
+        recv_length: number(bytes, row.places, RECV_LENGTH),
+        seg_offset: number(bytes, row.places, SEG_OFFSET),
+        credit_request: number(bytes, row.places, CREDIT_REQUEST),
+        tag: number(bytes, row.places, TAG),
     }
 }
 
@@ -101,32 +90,20 @@ pub(crate) fn count(row: TypeRow, bytes: &[u8]) -> u32
     requires header_in_bounds { row.header ≤ length bytes.now }
     ensures { result ≡ count_in row bytes.now }
 {
-    number_u32(bytes, row.places, COUNT)
+    number(bytes, row.places, COUNT)
 }
 
 // Puts a number there, if the type has the field.
-fn put_u32(out: &mut [u8], places: u64, unit: u64, x: u32)
+fn put<T: LittleEndian>(out: &mut [u8], places: u64, unit: u64, x: T)
     requires unit_nonzero { 0 < unit }
-    requires unit_in_bounds { place_by places unit + 4 ≤ length out.old }
-    ensures { out.new ≡ put_there (place_by places unit) 4 x out.old }
+    requires unit_in_bounds { place_by places unit + T.width ≤ length out.old }
+    ensures { out.new ≡ put_there (place_by places unit) T.width (T.value x) out.old }
 {
     let at = place(places, unit);
     if at == 0 {
         return;
     }
-    wire::write_u32(out, at, x);
-}
-
-fn put_u64(out: &mut [u8], places: u64, unit: u64, x: u64)
-    requires unit_nonzero { 0 < unit }
-    requires unit_in_bounds { place_by places unit + 8 ≤ length out.old }
-    ensures { out.new ≡ put_there (place_by places unit) 8 x out.old }
-{
-    let at = place(places, unit);
-    if at == 0 {
-        return;
-    }
-    wire::write_u64(out, at, x);
+    x.write(out, at);
 }
 
 // The identifiers. They stand as they are, whatever the count of an array.
@@ -136,9 +113,9 @@ fn write_ids(row: TypeRow, header: Header, out: &mut [u8])
     ensures { out.new ≡ put_fields row 0 header (msg_id ∷ recv_id ∷ send_id ∷ []) out.old }
 {
     let fields = header.fields;
-    put_u32(out, row.places, MSG_ID, fields.msg_id);
-    put_u32(out, row.places, RECV_ID, fields.recv_id);
-    put_u32(out, row.places, SEND_ID, fields.send_id);
+    put(out, row.places, MSG_ID, fields.msg_id);
+    put(out, row.places, RECV_ID, fields.recv_id);
+    put(out, row.places, SEND_ID, fields.send_id);
 }
 
 // The lengths, and the offset.
@@ -148,10 +125,10 @@ fn write_lengths(row: TypeRow, header: Header, out: &mut [u8])
     ensures { out.new ≡ put_fields row 0 header (msg_length ∷ seg_length ∷ recv_length ∷ seg_offset ∷ []) out.old }
 {
     let fields = header.fields;
-    put_u64(out, row.places, MSG_LENGTH, fields.msg_length);
-    put_u64(out, row.places, SEG_LENGTH, fields.seg_length);
-    put_u64(out, row.places, RECV_LENGTH, fields.recv_length);
-    put_u64(out, row.places, SEG_OFFSET, fields.seg_offset);
+    put(out, row.places, MSG_LENGTH, fields.msg_length);
+    put(out, row.places, SEG_LENGTH, fields.seg_length);
+    put(out, row.places, RECV_LENGTH, fields.recv_length);
+    put(out, row.places, SEG_OFFSET, fields.seg_offset);
 }
 
 // Credit request and tag.
@@ -161,8 +138,8 @@ fn write_others(row: TypeRow, header: Header, out: &mut [u8])
     ensures { out.new ≡ put_fields row 0 header (credit_request ∷ tag ∷ []) out.old }
 {
     let fields = header.fields;
-    put_u32(out, row.places, CREDIT_REQUEST, fields.credit_request);
-    put_u64(out, row.places, TAG, fields.tag);
+    put(out, row.places, CREDIT_REQUEST, fields.credit_request);
+    put(out, row.places, TAG, fields.tag);
 }
 
 // The fields that are no values: multiuse with the connid, if there is one, padding with zero, and the
@@ -177,9 +154,9 @@ fn write_valueless(row: TypeRow, header: Header, count: u32, out: &mut [u8])
         return;
     }
     let connid = header.connid;
-    put_u32(out, row.places, MULTIUSE, options::connid_or_zero(connid));
-    put_u32(out, row.places, PADDING, 0);
-    put_u32(out, row.places, COUNT, count);
+    put(out, row.places, MULTIUSE, options::connid_or_zero(connid));
+    put(out, row.places, PADDING, 0u32);
+    put(out, row.places, COUNT, count);
 }
 
 // All fields of a packet are written, with this count.

@@ -7,13 +7,14 @@ ghost use Rattle.wire.specs.LittleEndian.{le_bytes};
 ghost use Rattle.protocol.specs.Rules.{Sound, NumberWidth};
 
 use protocol::{Connid, CqData, TypeRow};
+use wire::LittleEndian;
 
 pub fn read_cq_data(there: bool, bytes: &[u8], at: usize) -> CqData
     requires { there ≡ true → at + 8 ≤ length bytes.now }
     ensures { result ≡ cq_data_in there bytes.now at }
 {
     if there {
-        CqData::Present(wire::read_u64(bytes, at))
+        CqData::Present(u64::read(bytes, at))
     } else {
         CqData::Absent
     }
@@ -24,7 +25,7 @@ pub fn read_connid(there: bool, bytes: &[u8], at: usize) -> Connid
     ensures { result ≡ connid_in there bytes.now at }
 {
     if there {
-        Connid::Present(wire::read_u32(bytes, at))
+        Connid::Present(u32::read(bytes, at))
     } else {
         Connid::Absent
     }
@@ -38,7 +39,7 @@ pub fn write_raw_address(out: &mut [u8], at: usize, there: bool, raw: &[u8]) -> 
     if !there {
         return at;
     }
-    wire::write_u32(out, at, raw.len() as u32);
+    (raw.len() as u32).write(out, at);
     wire::write_bytes(out, at + 4, raw)
 }
 
@@ -49,7 +50,7 @@ pub fn write_cq_data(out: &mut [u8], at: usize, cq_data: CqData) -> usize
     match cq_data {
         CqData::Absent => at,
         CqData::Present(value) => {
-            wire::write_u64(out, at, value);
+            value.write(out, at);
             at + 8
         }
     }
@@ -65,10 +66,10 @@ fn write_number(out: &mut [u8], at: usize, width: usize, x: u32) -> usize
         return at;
     }
     if width == 4 {
-        wire::write_u32(out, at, x);
+        x.write(out, at);
         return at + 4;
     }
-    wire::write_u64(out, at, x as u64);
+    (x as u64).write(out, at);
     at + 8
 }
 

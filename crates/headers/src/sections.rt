@@ -6,6 +6,7 @@ ghost use Rattle.protocol.specs.Rules.{Sound};
 
 use crate::{arrays, flags, layout};
 use protocol::{CONNID, Extent, MULTIUSE, Sections, Span, TypeRow};
+use wire::LittleEndian;
 
 // The bytes that CQ data and connid take where they are flagged.
 pub fn cq_data_length(row: TypeRow, flags: u16) -> usize
@@ -64,7 +65,7 @@ fn behind(row: TypeRow, flags: u16, bytes: &[u8], at: usize) -> Extent
     if n < start {
         return Extent::Cut;
     }
-    let size = wire::read_u32(bytes, at) as usize;
+    let size = u32::read(bytes, at) as usize;
     from(row, flags, Span { at: start, size }, start + size, n)
 }
 

@@ -11,6 +11,7 @@ use protocol::{
     ABOVE_LIMIT, BAD_FLAGS, BAD_LENGTH, BAD_TYPE, BAD_VERSION, CONNID, CUT_SHORT, Extent, FoundRow,
     Header, PACKET_LIMIT, Packet, Read, Refusal, Sections, Span, TypeRow,
 };
+use wire::LittleEndian;
 
 fn refused(refusal: Refusal) -> Read
     ensures { result ≡ Read.Refused refusal }
@@ -68,7 +69,7 @@ fn typed(row: TypeRow, bytes: &[u8]) -> Read
     requires in_bounds { 4 ≤ length bytes.now }
     ensures { result ≡ read_flags row bytes.now }
 {
-    let flags = wire::read_u16(bytes, 2);
+    let flags = u16::read(bytes, 2);
     if !flags::fit(row, flags) {
         return refused(BAD_FLAGS);
     }

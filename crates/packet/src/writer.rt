@@ -16,6 +16,7 @@ use protocol::{
     ABOVE_LIMIT, BAD_FLAGS, BAD_LENGTH, BAD_TYPE, FoundRow, Header, Length, NO_ROOM, PACKET_LIMIT,
     Refusal, TypeRow, Written,
 };
+use wire::LittleEndian;
 
 fn refused(refusal: Refusal) -> Written
     ensures { result ≡ Written.Refused refusal }
@@ -71,7 +72,7 @@ fn put_base(out: &mut [u8], kind: u8, flags: u16)
 {
     out[0] = kind;
     out[1] = VERSION;
-    wire::write_u16(out, 2, flags);
+    flags.write(out, 2);
 }
 
 // The mandatory header of a packet with an array of n bytes.

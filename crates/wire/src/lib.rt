@@ -2,53 +2,84 @@
 // where bytes end.
 #![tactic(auto)]
 
-ghost use Rattle.std.specs.Prelude.{◌≡◌, ◌+◌, ◌≤◌, length, leb};
+ghost use Rattle.std.specs.Prelude.{◌≡◌, ℕ, ◌+◌, ◌≤◌, length, leb};
 ghost use Rattle.laws.specs.Parts.{store_at};
 ghost use Rattle.wire.specs.LittleEndian.{le_bytes, le_at};
 
-pub fn read_u16(s: &[u8], at: usize) -> u16
-    requires { at + 2 ≤ length s.now }
-    ensures { result ≡ le_at 2 s.now at }
-{
-    (s[at] as u16) + 256 * (s[at + 1] as u16)
+// Integers that stand on the wire with their least byte first.
+pub trait LittleEndian: Copy {
+    // how many bytes one takes, and its value as a number
+    ghost width: { ℕ };
+
+    ghost value: { Self → ℕ };
+
+    fn zero() -> Self
+        ensures { value result ≡ 0 };
+
+    fn read(s: &[u8], at: usize) -> Self
+        requires { at + width ≤ length s.now }
+        ensures { value result ≡ le_at width s.now at };
+
+    fn write(self, s: &mut [u8], at: usize)
+        requires { at + width ≤ length s.old }
+        ensures { s.new ≡ store_at s.old at (le_bytes width (value self)) };
 }
 
-pub fn read_u32(s: &[u8], at: usize) -> u32
-    requires { at + 4 ≤ length s.now }
-    ensures { result ≡ le_at 4 s.now at }
-{
-    (read_u16(s, at) as u32) + 65536 * (read_u16(s, at + 2) as u32)
+impl LittleEndian for u16 {
+    ghost width = { 2 };
+
+    ghost value = { λ x. x };
+
+    fn zero() -> u16 {
+        0
+    }
+
+    fn read(s: &[u8], at: usize) -> u16 {
+        (s[at] as u16) + 256 * (s[at + 1] as u16)
+    }
+
+    fn write(self, s: &mut [u8], at: usize) {
+        s[at] = (self % 256) as u8;
+        s[at + 1] = (self / 256 % 256) as u8;
+    }
 }
 
-pub fn read_u64(s: &[u8], at: usize) -> u64
-    requires { at + 8 ≤ length s.now }
-    ensures { result ≡ le_at 8 s.now at }
-{
-    (read_u32(s, at) as u64) + 4294967296 * (read_u32(s, at + 4) as u64)
+impl LittleEndian for u32 {
+    ghost width = { 4 };
+
+    ghost value = { λ x. x };
+
+    fn zero() -> u32 {
+        0
+    }
+
+    fn read(s: &[u8], at: usize) -> u32 {
+        (u16::read(s, at) as u32) + 65536 * (u16::read(s, at + 2) as u32)
+    }
+
+    fn write(self, s: &mut [u8], at: usize) {
+        ((self % 65536) as u16).write(s, at);
+        ((self / 65536) as u16).write(s, at + 2);
+    }
 }
 
-pub fn write_u16(s: &mut [u8], at: usize, x: u16)
-    requires { at + 2 ≤ length s.old }
-    ensures { s.new ≡ store_at s.old at (le_bytes 2 x) }
-{
-    s[at] = (x % 256) as u8;
-    s[at + 1] = (x / 256 % 256) as u8;
-}
+impl LittleEndian for u64 {
+    ghost width = { 8 };
 
-pub fn write_u32(s: &mut [u8], at: usize, x: u32)
-    requires { at + 4 ≤ length s.old }
-    ensures { s.new ≡ store_at s.old at (le_bytes 4 x) }
-{
-    write_u16(s, at, (x % 65536) as u16);
-    write_u16(s, at + 2, (x / 65536) as u16);
-}
+    ghost value = { λ x. x };
 
-pub fn write_u64(s: &mut [u8], at: usize, x: u64)
-    requires { at + 8 ≤ length s.old }
-    ensures { s.new ≡ store_at s.old at (le_bytes 8 x) }
-{
-    write_u32(s, at, (x % 4294967296) as u32);
-    write_u32(s, at + 4, (x / 4294967296) as u32);
+    fn zero() -> u64 {
+        0
+    }
+
+    fn read(s: &[u8], at: usize) -> u64 {
+        (u32::read(s, at) as u64) + 4294967296 * (u32::read(s, at + 4) as u64)
+    }
+
+    fn write(self, s: &mut [u8], at: usize) {
+        ((self % 4294967296) as u32).write(s, at);
+        ((self / 4294967296) as u32).write(s, at + 4);
+    }
 }
 
 // Puts bytes at a place, and answers the place behind them.
@@ -56,23 +87,14 @@ pub fn write_bytes(s: &mut [u8], at: usize, bytes: &[u8]) -> usize
     requires { at + length bytes.now ≤ length s.old }
     ensures { (result ≡ at + length bytes.now) × (s.new ≡ store_at s.old at bytes.now) }
 {
-    let mut i: usize = 0;
-    while i < bytes.len() {
-        s[at + i] = bytes[i];
-        i += 1;
-    }
-    at + i
+    let end = at + bytes.len();
+    s[at..end].copy_from_slice(bytes);
+    end
 }
 
 // Whether `size` bytes from `at` on end at `end` or before, as whole numbers.
 pub fn ends_by(at: usize, size: usize, end: usize) -> bool
     ensures { result ≡ leb (at + size) end }
 {
-    if end < at {
-        return false;
-    }
-    if end - at < size {
-        return false;
-    }
-    true
+    at <= end && size <= end - at
 }

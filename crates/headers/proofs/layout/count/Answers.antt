@@ -4,10 +4,10 @@ use Rattle.protocol.specs.Layout as fields
 use native.Mathlib.Omega.{arith}
 use Rattle.headers.proofs.layout.count.Goals as goal
 
-pub number_u32-requires-clause-unit_in_bounds : goal.number_u32-requires-clause-unit_in_bounds
-number_u32-requires-clause-unit_in_bounds c =
+pub number-requires-clause-unit_in_bounds : goal.number-requires-clause-unit_in_bounds
+number-requires-clause-unit_in_bounds c =
     omega (arith, c.requires.sound.inside fields.count)
 
 pub returns : goal.returns
 unfolding count_in
-returns c = c.number_u32.ensures
+returns c = c.number.ensures

@@ -4,23 +4,23 @@ use Rattle.laws.specs.Choose.{pick}
 use Rattle.protocol.specs.Layout.{msg_length, recv_length, seg_length, seg_offset}
 use Rattle.headers.proofs.layout.write_lengths.Goals as goal
 
-pub put_u64-requires-clause-unit_in_bounds : goal.put_u64-requires-clause-unit_in_bounds
-put_u64-requires-clause-unit_in_bounds c =
+pub put-requires-clause-unit_in_bounds : goal.put-requires-clause-unit_in_bounds
+put-requires-clause-unit_in_bounds c =
     omega (arith, c.requires.sound.inside msg_length)
 
-pub put_u64-requires-2-clause-unit_in_bounds : goal.put_u64-requires-2-clause-unit_in_bounds
-put_u64-requires-2-clause-unit_in_bounds c =
+pub put-requires-2-clause-unit_in_bounds : goal.put-requires-2-clause-unit_in_bounds
+put-requires-2-clause-unit_in_bounds c =
     omega (arith, c.requires.sound.inside seg_length)
 
-pub put_u64-requires-3-clause-unit_in_bounds : goal.put_u64-requires-3-clause-unit_in_bounds
-put_u64-requires-3-clause-unit_in_bounds c =
+pub put-requires-3-clause-unit_in_bounds : goal.put-requires-3-clause-unit_in_bounds
+put-requires-3-clause-unit_in_bounds c =
     omega (arith, c.requires.sound.inside recv_length)
 
-pub put_u64-requires-4-clause-unit_in_bounds : goal.put_u64-requires-4-clause-unit_in_bounds
-put_u64-requires-4-clause-unit_in_bounds c =
+pub put-requires-4-clause-unit_in_bounds : goal.put-requires-4-clause-unit_in_bounds
+put-requires-4-clause-unit_in_bounds c =
     omega (arith, c.requires.sound.inside seg_offset)
 
 pub returns : goal.returns
 unfolding pick
 returns c =
-    rw (c.put_u64-4.ensures, c.put_u64-3.ensures, c.put_u64-2.ensures, c.put_u64.ensures)
+    rw (c.put-4.ensures, c.put-3.ensures, c.put-2.ensures, c.put.ensures)

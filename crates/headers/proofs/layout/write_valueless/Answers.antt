@@ -11,19 +11,19 @@ returns-then-row-lt-MULTIUSE c =
     let r = c.args.row in
     rw (not_put r multiuse _ _ c.if-row-lt-MULTIUSE.true, not_put r padding _ _ (omega arith), not_put r count _ _ (omega arith))
 
-pub put_u32-requires-clause-unit_in_bounds : goal.put_u32-requires-clause-unit_in_bounds
-put_u32-requires-clause-unit_in_bounds c =
+pub put-requires-clause-unit_in_bounds : goal.put-requires-clause-unit_in_bounds
+put-requires-clause-unit_in_bounds c =
     omega (arith, c.requires.sound.inside multiuse)
 
-pub put_u32-requires-2-clause-unit_in_bounds : goal.put_u32-requires-2-clause-unit_in_bounds
-put_u32-requires-2-clause-unit_in_bounds c =
-    omega (arith, c.requires.sound.inside padding, c.put_u32.auto)
+pub put-requires-2-clause-unit_in_bounds : goal.put-requires-2-clause-unit_in_bounds
+put-requires-2-clause-unit_in_bounds c =
+    omega (arith, c.requires.sound.inside padding, c.put.auto)
 
-pub put_u32-requires-3-clause-unit_in_bounds : goal.put_u32-requires-3-clause-unit_in_bounds
-put_u32-requires-3-clause-unit_in_bounds c =
-    omega (arith, c.requires.sound.inside count, c.put_u32-2.auto, c.put_u32.auto)
+pub put-requires-3-clause-unit_in_bounds : goal.put-requires-3-clause-unit_in_bounds
+put-requires-3-clause-unit_in_bounds c =
+    omega (arith, c.requires.sound.inside count, c.put-2.auto, c.put.auto)
 
 pub returns : goal.returns
 unfolding pick
 returns c =
-    rw (c.put_u32-3.ensures, c.put_u32-2.ensures, c.put_u32.ensures, c.connid_or_zero.ensures)
+    rw (c.put-3.ensures, c.put-2.ensures, c.put.ensures, c.connid_or_zero.ensures)

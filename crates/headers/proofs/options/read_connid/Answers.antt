@@ -5,7 +5,7 @@ use Rattle.headers.proofs.options.read_connid.Goals as goal
 
 pub returns-then-there : goal.returns-then-there
 unfolding connid_in pick
-returns-then-there c = rw (c.if-there.true, c.read_u32.ensures)
+returns-then-there c = rw (c.if-there.true, c.read.ensures)
 
 pub returns-else-there : goal.returns-else-there
 unfolding connid_in pick

@@ -5,7 +5,7 @@ use Rattle.headers.proofs.options.read_cq_data.Goals as goal
 
 pub returns-then-there : goal.returns-then-there
 unfolding cq_data_in pick
-returns-then-there c = rw (c.if-there.true, c.read_u64.ensures)
+returns-then-there c = rw (c.if-there.true, c.read.ensures)
 
 pub returns-else-there : goal.returns-else-there
 unfolding cq_data_in pick

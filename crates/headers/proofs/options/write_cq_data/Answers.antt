@@ -6,9 +6,9 @@ use Rattle.laws.proofs.Storing.{store_nothing}
 use Rattle.wire.proofs.Laws.{length_le}
 use Rattle.headers.proofs.options.write_cq_data.Goals as goal
 
-pub write_u64-requires : goal.write_u64-requires
+pub write-requires : goal.write-requires
 unfolding cq_data_bytes
-write_u64-requires c = rw (c.in-Present.is, length_le) at c.requires
+write-requires c = rw (c.in-Present.is, length_le) at c.requires
 
 pub returns-in-Absent : goal.returns-in-Absent
 unfolding cq_data_bytes
@@ -16,4 +16,4 @@ returns-in-Absent c = rw c.in-Absent.is (omega arith, sym (store_nothing _ _))
 
 pub returns-in-Present : goal.returns-in-Present
 unfolding cq_data_bytes
-returns-in-Present c = rw (c.in-Present.is, length_le, c.write_u64.ensures) (refl, refl)
+returns-in-Present c = rw (c.in-Present.is, length_le, c.write.ensures) (refl, refl)

@@ -24,8 +24,8 @@ unfolding raw_address_bytes pick
 returns-then-not-there c =
     rw (c.if-not-there.true) (omega arith, sym (store_nothing _ _))
 
-pub write_u32-requires : goal.write_u32-requires
-write_u32-requires c = omega (arith, room (goal.at.write_u32-requires c).Else-not-there)
+pub write-requires : goal.write-requires
+write-requires c = omega (arith, room (goal.at.write-requires c).Else-not-there)
 
 pub write_bytes-requires : goal.write_bytes-requires
 write_bytes-requires c = omega (arith, room (goal.at.write_bytes-requires c).Else-not-there)
@@ -41,4 +41,4 @@ returns c =
     let w = c.write_bytes.ensures in
     let e = store_next a.out.now a.at size raw (a.at + 4) (omega arith) (omega arith) in
     rw (c.if-not-there.false, length-append)
-    (omega arith, w.1 ∙ rw c.write_u32.ensures e)
+    (omega arith, w.1 ∙ rw c.write.ensures e)

@@ -25,4 +25,4 @@ pub returns : goal.returns
 unfolding sections_behind raw_span pick
 returns c =
     let e = c.if-not-raw_address.false in
-    rw (c.from-2.ensures, ← c.raw_address.ensures, e, c.read_u32-size.ensures, add_assoc)
+    rw (c.from-2.ensures, ← c.raw_address.ensures, e, c.read-size.ensures, add_assoc)

@@ -10,16 +10,16 @@ use Rattle.packet.proofs.reader.typed.Goals.{Else-not-fit}
 -- past the test of the flags, the sections are read
 passed : (c : Else-not-fit) → let a = c.args in
     read_flags a.row a.bytes.now
-    ≡ read_sections a.row c.read_u16-flags.result a.bytes.now (extent_of a.row c.read_u16-flags.result a.bytes.now)
+    ≡ read_sections a.row c.read-flags.result a.bytes.now (extent_of a.row c.read-flags.result a.bytes.now)
 unfolding read_flags pick
 passed c =
-    rw (← c.read_u16-flags.ensures, ← c.fit.ensures, c.if-not-fit.false)
+    rw (← c.read-flags.ensures, ← c.fit.ensures, c.if-not-fit.false)
 
 pub returns-then-not-fit : goal.returns-then-not-fit
 unfolding read_flags pick
 returns-then-not-fit c =
     let e = c.if-not-fit.true in
-    rw (← c.read_u16-flags.ensures, ← c.fit.ensures, e, c.refused.ensures)
+    rw (← c.read-flags.ensures, ← c.fit.ensures, e, c.refused.ensures)
 
 pub returns-in-Cut : goal.returns-in-Cut
 unfolding read_sections

@@ -18,4 +18,4 @@ returns c =
     let first = a.kind ∷ 4 ∷ [] in
     let n = length_le 2 a.flags in
     let e : sets l 0 first ≡ store_at l 0 first = sets_store l 0 first (omega arith) in
-    rw (c.write_u16.ensures, e) (store_next l 0 first (le_bytes 2 a.flags) 2 refl (omega arith))
+    rw (c.write.ensures, e) (store_next l 0 first (le_bytes 2 a.flags) 2 refl (omega arith))

@@ -1,4 +1,4 @@
--- `wire::read_u16` meets its contract.
+-- `wire::U16LittleEndian::read` meets its contract.
 use Prim.Native.Nat.{suc, ◌<◌}
 use lib.ListN.{length}
 use lib.Seq.{drop-cons}
@@ -6,7 +6,7 @@ use native.Mathlib.Numerals.{add-one}
 use native.Mathlib.Omega.{arith}
 use Rattle.laws.specs.Parts.{part}
 use Rattle.wire.specs.LittleEndian.{le_at, le_of}
-use Rattle.wire.proofs.read_u16.Goals as goal
+use Rattle.wire.proofs.U16LittleEndian.read.Goals as goal
 
 pub returns : goal.returns
 unfolding le_at le_of part
