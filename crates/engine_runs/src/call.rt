@@ -1,32 +1,7 @@
 // A line of standard input, as the call that it asks for.
-ghost use Rattle.std.specs.Prelude.{◌≤◌, length};
-
-use crate::line::LineNumbers;
-use crate::{drive, line, print};
+use crate::drive;
+use crate::line::{self, Name, PacketBytes};
 use peer::{LocalCall, Receive};
-use std::io;
-
-// The names, as numbers in base 256.
-const TITLE: u64 = 0x7469746c65;
-
-const SET_UP: u64 = 0x7365745f7570;
-
-const POST: u64 = 0x706f7374;
-
-const PACKET: u64 = 0x7061636b6574;
-
-const CANCEL: u64 = 0x63616e63656c;
-
-const REPORT: u64 = 0x7265706f7274;
-
-const LEND: u64 = 0x6c656e64;
-
-const LIMIT: u64 = 0x6c696d6974;
-
-const SHOW: u64 = 0x73686f77;
-
-// More numbers than a line may have.
-const NEVER: usize = 8;
 
 // The lengths of arena, map and reply buffer that a call is lent.
 #[derive(Clone, Copy)]
@@ -38,131 +13,120 @@ pub(crate) struct LentLengths {
 
 // What a line asks for.
 #[derive(Clone, Copy)]
-pub(crate) enum Command {
-    None,
+pub(crate) enum Command<'a> {
     Bad,
-    SetUp(usize, usize, usize),
-    // of this peer
-    Local(usize, LocalCall),
-    // the peer, and how many bytes the packet has
-    Packet(usize, usize),
+    Title(&'a [u8]),
+    SetUp { n: usize, area: usize, limit: usize },
+    Local { peer: usize, call: LocalCall },
+    Packet { peer: usize, bytes: PacketBytes },
     Lend(LentLengths),
     Limit(usize),
     Show,
 }
 
-// A call, and the bytes of its packet.
-#[derive(Clone, Copy)]
-pub(crate) struct Line {
-    pub call: Command,
-    pub bytes: [u8; 128],
-}
-
-// How many numbers a line of a name has.
-fn takes(name: u64) -> usize {
-    match name {
-        SHOW => 0,
-        LIMIT | PACKET => 1,
-        CANCEL | REPORT => 2,
-        SET_UP | LEND => 3,
-        POST => 6,
-        _ => NEVER,
-    }
-}
-
 // A post's kind is 0, plain, or 1, tagged.
-fn post(v: [u64; 6]) -> Command {
-    let receive = Receive {
-        tagged: v[1] == 1,
-        tag: v[2],
-        ignore: v[3],
-        start: v[4] as usize,
-        capacity: v[5] as usize,
-    };
-    if v[1] < 2 {
-        Command::Local(v[0] as usize, LocalCall::Post(receive))
-    } else {
-        Command::Bad
+fn post(text: &[u8]) -> Option<Command<'_>> {
+    let [peer, kind, tag, ignore, start, capacity] = line::numbers::<6>(text)?;
+    if 1 < kind {
+        return None;
     }
+    let receive = Receive {
+        tagged: kind == 1,
+        tag,
+        ignore,
+        start: start as usize,
+        capacity: capacity as usize,
+    };
+    Some(Command::Local {
+        peer: peer as usize,
+        call: LocalCall::Post(receive),
+    })
 }
 
 // No more is lent than there is.
-fn lend(arena: usize, map: usize, reply: usize) -> Command {
-    if drive::ARENA < arena || drive::MAP < map || drive::REPLY < reply {
-        Command::Bad
-    } else {
-        Command::Lend(LentLengths { arena, map, reply })
-    }
-}
-
-fn packet(peer: usize, digits: usize) -> Command {
-    if digits % 2 == 0 {
-        Command::Packet(peer, digits / 2)
-    } else {
-        Command::Bad
-    }
-}
-
-// A call by its name, its numbers, and the digits of its packet.
-fn call_of(name: u64, numbers: LineNumbers, digits: usize) -> Command {
-    let v = numbers.values;
-    if numbers.n != takes(name) {
-        return Command::Bad;
-    }
-    let x = v[0] as usize;
-    let y = v[1] as usize;
-    let z = v[2] as usize;
-    match name {
-        SHOW => Command::Show,
-        LIMIT => Command::Limit(x),
-        PACKET => packet(x, digits),
-        CANCEL => Command::Local(x, LocalCall::Cancel(y)),
-        REPORT => Command::Local(x, LocalCall::Report(y)),
-        SET_UP => Command::SetUp(x, y, z),
-        LEND => lend(x, y, z),
-        _ => post(v),
-    }
-}
-
-// Where the numbers of a line end: a packet has one, and its bytes follow.
-fn numbers_end(text: &[u8], name: u64, at: usize) -> usize
-    requires { at ≤ length text.now }
-    ensures { result ≤ length text.now }
-{
-    if name == PACKET {
-        if at < text.len() {
-            return line::find(text, at + 1, b' ');
-        }
-    }
-    text.len()
-}
-
-// What a line of a name asks for: behind the name, which ends at a place, stand numbers and a packet.
-fn named(text: &[u8], name: u64, end: usize) -> Line
-    requires { end ≤ length text.now }
-{
-    let behind = numbers_end(text, name, end);
-    let numbers = line::read_numbers(text, end, behind);
-    let packet = line::read_packet(text, behind);
-    let call = call_of(name, numbers, packet.digits);
-    let bytes = packet.bytes;
-    Line { call, bytes }
-}
-
-// What a line asks for. Comments and blank lines are passed over, and a title is printed at once.
-pub(crate) fn read(rt: &impl Print, text: &[u8]) -> io::Result<Line> {
-    let none = Line {
-        call: Command::None,
-        bytes: [0; 128],
+fn lend(text: &[u8]) -> Option<Command<'_>> {
+    let [arena, map, reply] = line::numbers::<3>(text)?;
+    let lent = LentLengths {
+        arena: arena as usize,
+        map: map as usize,
+        reply: reply as usize,
     };
-    if text.len() == 0 || text[0] == b'#' {
-        return Ok(none);
+    if drive::ARENA < lent.arena || drive::MAP < lent.map || drive::REPLY < lent.reply {
+        return None;
     }
-    let end = line::find(text, 0, b' ');
-    let name = line::name(text, end);
-    if name == TITLE {
-        print::title(rt, &text[end..])?;
-        return Ok(none);
+    Some(Command::Lend(lent))
+}
+
+fn set_up(text: &[u8]) -> Option<Command<'_>> {
+    let [n, area, limit] = line::numbers::<3>(text)?;
+    Some(Command::SetUp {
+        n: n as usize,
+        area: area as usize,
+        limit: limit as usize,
+    })
+}
+
+// A call of a peer's slot: the two numbers.
+fn peer_and_slot(text: &[u8]) -> Option<(usize, usize)> {
+    let [peer, slot] = line::numbers::<2>(text)?;
+    Some((peer as usize, slot as usize))
+}
+
+fn cancel(text: &[u8]) -> Option<Command<'_>> {
+    let (peer, slot) = peer_and_slot(text)?;
+    let call = LocalCall::Cancel(slot);
+    Some(Command::Local { peer, call })
+}
+
+fn report(text: &[u8]) -> Option<Command<'_>> {
+    let (peer, slot) = peer_and_slot(text)?;
+    let call = LocalCall::Report(slot);
+    Some(Command::Local { peer, call })
+}
+
+fn limit(text: &[u8]) -> Option<Command<'_>> {
+    let [limit] = line::numbers::<1>(text)?;
+    Some(Command::Limit(limit as usize))
+}
+
+fn show(text: &[u8]) -> Option<Command<'_>> {
+    let [] = line::numbers::<0>(text)?;
+    Some(Command::Show)
+}
+
+// A packet's peer, and its bytes behind that.
+fn packet(text: &[u8]) -> Option<Command<'_>> {
+    let words = text.strip_prefix(b" ")?;
+    let (word, digits) = words.split_at(line::word_length(words));
+    let peer = line::number(word)? as usize;
+    let bytes = line::packet_bytes(digits)?;
+    Some(Command::Packet { peer, bytes })
+}
+
+// What a line of a name asks for, by what stands behind the name.
+fn named(name: Name, text: &[u8]) -> Option<Command<'_>> {
+    match name {
+        Name::Title => Some(Command::Title(text)),
+        Name::SetUp => set_up(text),
+        Name::Post => post(text),
+        Name::Packet => packet(text),
+        Name::Cancel => cancel(text),
+        Name::Report => report(text),
+        Name::Lend => lend(text),
+        Name::Limit => limit(text),
+        Name::Show => show(text),
     }
-    Ok(named(text, name, end))
+}
+
+// What a line asks for: nothing if it is a comment or blank.
+pub(crate) fn read(text: &[u8]) -> Option<Command<'_>> {
+    if text.is_empty() || text.starts_with(b"#") {
+        return None;
+    }
+    let (word, rest) = text.split_at(line::word_length(text));
+    let command = match line::name_of(word) {
+        Some(name) => named(name, rest),
+        None => None,
+    };
+    Some(command.unwrap_or(Command::Bad))
 }

@@ -1,11 +1,5 @@
-// Name, numbers and bytes of a line, each read byte by byte.
-ghost use Rattle.std.specs.Prelude.{◌≡◌, ◌+◌, ◌-◌, ◌≤◌, length};
-
-// The most numbers of a line.
-const MOST: usize = 6;
-
-// The count of numbers where something else is among them.
-const NO_NUMBERS: usize = 7;
+// Name, numbers and bytes of a line.
+ghost use Rattle.std.specs.Prelude.{◌≤◌, length};
 
 // The least number that takes no digit more, since that might not fit.
 const LARGE: u64 = 0x1000_0000_0000_0000;
@@ -13,197 +7,136 @@ const LARGE: u64 = 0x1000_0000_0000_0000;
 // The most bytes of a packet.
 const ROOM: usize = 128;
 
-// The digits of a packet where something else is among them: an odd count, and more than there is room for.
-const NO_PACKET: usize = 257;
-
+// What a line's first word asks for.
 #[derive(Clone, Copy)]
-pub(crate) struct LineNumbers {
-    pub values: [u64; 6],
-    pub n: usize,
+pub(crate) enum Name {
+    Title,
+    SetUp,
+    Post,
+    Packet,
+    Cancel,
+    Report,
+    Lend,
+    Limit,
+    Show,
 }
 
-// A number as far as it is read. No digit is below base 0, that of what is no number; `ends` says
-// whether a number may end here.
-#[derive(Clone, Copy)]
-struct Number {
-    value: u64,
-    base: u64,
-    ends: bool,
-}
-
-const NO_NUMBER: Number = Number {
-    value: 0,
-    base: 0,
-    ends: false,
-};
-
-// The bytes of a packet, with two digits each.
-#[derive(Clone, Copy)]
-pub(crate) struct HexPacket {
-    pub bytes: [u8; 128],
-    pub digits: usize,
-}
-
-// Where the first such byte from a place on is, or the text's end.
-pub(crate) fn find(text: &[u8], at: usize, byte: u8) -> usize
-    requires { at ≤ length text.now }
-    ensures { (at ≤ result) × (result ≤ length text.now) }
-{
-    let mut i = at;
-    while i < text.len() {
-        if text[i] == byte {
-            return i;
-        }
-        i += 1;
+// The name that a word is. What stands before its last eight bytes does not count, and neither do zeros.
+pub(crate) fn name_of(word: &[u8]) -> Option<Name> {
+    let last = word
+        .iter()
+        .fold(0u64, |value, byte| (value << 8) | u64::from(*byte));
+    match last {
+        0x74_69_74_6c_65 => Some(Name::Title),
+        0x73_65_74_5f_75_70 => Some(Name::SetUp),
+        0x70_6f_73_74 => Some(Name::Post),
+        0x70_61_63_6b_65_74 => Some(Name::Packet),
+        0x63_61_6e_63_65_6c => Some(Name::Cancel),
+        0x72_65_70_6f_72_74 => Some(Name::Report),
+        0x6c_65_6e_64 => Some(Name::Lend),
+        0x6c_69_6d_69_74 => Some(Name::Limit),
+        0x73_68_6f_77 => Some(Name::Show),
+        _ => None,
     }
-    i
 }
 
-// The place behind a byte that was found, or the text's end.
-pub(crate) fn behind(text: &[u8], at: usize) -> usize
-    requires { at ≤ length text.now }
-    ensures { (result ≤ length text.now) × (length text.now - result ≡ length text.now - (at + 1)) }
+// How many bytes stand before the first space.
+pub(crate) fn word_length(text: &[u8]) -> usize
+    ensures { result ≤ length text.now }
 {
-    if at < text.len() { at + 1 } else { at }
+    text.iter()
+        .position(|byte| *byte == b' ')
+        .unwrap_or(text.len())
 }
 
-fn wide(x: u8) -> u64 {
-    x as u64
-}
-
-// The bytes before a place, as a number in base 256. No name is as long as 8 bytes.
-pub(crate) fn name(text: &[u8], end: usize) -> u64
-    requires { end ≤ length text.now }
+// A number in so many digits of a base.
+fn in_base(digits: &[u8], base: u32) -> Option<u64>
+    requires { (2 ≤ base) × (base ≤ 36) }
 {
+    if digits.is_empty() {
+        return None;
+    }
     let mut value: u64 = 0;
-    let mut i: usize = 0;
-    while i < end {
-        value = (value << 8) | wide(text[i]);
-        i += 1;
-    }
-    value
-}
-
-// What a digit stands for; 16 where it is none.
-fn digit_of(byte: u8) -> u64 {
-    match byte {
-        b'0'..=b'9' => (byte - b'0') as u64,
-        b'a'..=b'f' => (byte - b'a') as u64 + 10,
-        b'A'..=b'F' => (byte - b'A') as u64 + 10,
-        _ => 16,
-    }
-}
-
-// A number with one byte more, at a place from its start. 0x begins a hexadecimal one.
-fn with_digit(number: Number, place: usize, byte: u8) -> Number {
-    let digit = digit_of(byte);
-    let value = number.value;
-    let base = number.base;
-    if byte == b'x' && place == 1 && value == 0 && base == 10 {
-        return Number {
-            value,
-            base: 16,
-            ends: false,
-        };
-    }
-    if base <= digit {
-        return NO_NUMBER;
-    }
-    if LARGE <= value {
-        return NO_NUMBER;
-    }
-    if base == 10 {
-        Number {
-            value: value * 10 + digit,
-            base,
-            ends: true,
+    for byte in digits {
+        let digit = char::from(*byte).to_digit(base)?;
+        if LARGE <= value {
+            return None;
         }
-    } else {
-        Number {
-            value: (value << 4) | digit,
-            base,
-            ends: true,
+        value = value
+            .checked_mul(u64::from(base))?
+            .checked_add(u64::from(digit))?;
+    }
+    Some(value)
+}
+
+// A decimal number, or a hexadecimal one behind 0x.
+pub(crate) fn number(word: &[u8]) -> Option<u64> {
+    match word.strip_prefix(b"0x") {
+        Some(digits) => in_base(digits, 16),
+        None => in_base(word, 10),
+    }
+}
+
+// The numbers of a text, with a space before each: just so many.
+pub(crate) fn numbers<const N: usize>(text: &[u8]) -> Option<[u64; N]> {
+    let mut values = [0u64; N];
+    let mut words = text.split(|byte| *byte == b' ').skip(1);
+    for value in &mut values {
+        *value = number(words.next()?)?;
+    }
+    if words.next().is_some() {
+        return None;
+    }
+    Some(values)
+}
+
+// The bytes of a packet: the first of a buffer, since a run allocates nothing.
+#[derive(Clone, Copy)]
+pub(crate) struct PacketBytes {
+    buffer: [u8; ROOM],
+    count: usize,
+    ghost inside: { count ≤ 128 },
+}
+
+impl PacketBytes {
+    fn none() -> PacketBytes {
+        PacketBytes {
+            buffer: [0; ROOM],
+            count: 0,
         }
     }
-}
 
-fn read_number(text: &[u8], start: usize, end: usize) -> Number
-    requires { end ≤ length text.now }
-{
-    let mut number = Number {
-        value: 0,
-        base: 10,
-        ends: false,
-    };
-    let mut i = start;
-    while i < end {
-        number = with_digit(number, i - start, text[i]);
-        i += 1;
-    }
-    number
-}
-
-// The numbers between two places, with a space before each.
-pub(crate) fn read_numbers(text: &[u8], start: usize, end: usize) -> LineNumbers
-    requires { end ≤ length text.now }
-{
-    let mut values = [0u64; 6];
-    let mut n: usize = 0;
-    let mut at = start;
-    while at < end {
-        let stop = find(text, at + 1, b' ');
-        let number = read_number(text, at + 1, stop);
-        if n == MOST || !number.ends {
-            return LineNumbers {
-                values,
-                n: NO_NUMBERS,
-            };
+    // One byte more, if there is room.
+    fn push(&mut self, byte: u8) -> Option<()> {
+        if self.count == ROOM {
+            return None;
         }
-        values[n] = number.value;
-        n += 1;
-        at = stop;
+        self.buffer[self.count] = byte;
+        self.count += 1;
+        Some(())
     }
-    LineNumbers { values, n }
-}
 
-// A packet with one byte of the text more: half a byte, or a space.
-fn with_half(packet: HexPacket, byte: u8) -> HexPacket {
-    let mut bytes = packet.bytes;
-    let digits = packet.digits;
-    let k = digits / 2;
-    let digit = digit_of(byte);
-    if byte == b' ' {
-        return packet;
-    }
-    if 16 <= digit {
-        return HexPacket {
-            bytes,
-            digits: NO_PACKET,
-        };
-    }
-    if ROOM <= k {
-        return HexPacket {
-            bytes,
-            digits: NO_PACKET,
-        };
-    }
-    bytes[k] = (bytes[k] << 4) | (digit as u8);
-    HexPacket {
-        bytes,
-        digits: digits + 1,
+    pub fn as_slice(&self) -> &[u8] {
+        &self.buffer[..self.count]
     }
 }
 
-// The bytes of a packet from a place on, with spaces between groups of digits.
-pub(crate) fn read_packet(text: &[u8], start: usize) -> HexPacket {
-    let mut packet = HexPacket {
-        bytes: [0; ROOM],
-        digits: 0,
-    };
-    let mut i = start;
-    while i < text.len() {
-        packet = with_half(packet, text[i]);
-        i += 1;
+// The bytes of a packet, two digits each, with spaces anywhere.
+pub(crate) fn packet_bytes(text: &[u8]) -> Option<PacketBytes> {
+    let mut bytes = PacketBytes::none();
+    let mut high = None;
+    for byte in text {
+        if *byte == b' ' {
+            continue;
+        }
+        let low = char::from(*byte).to_digit(16)? as u8;
+        match high {
+            None => high = Some(low << 4),
+            Some(upper) => {
+                bytes.push(upper | low)?;
+                high = None;
+            }
+        }
     }
-    packet
+    if high.is_some() { None } else { Some(bytes) }
 }

@@ -8,21 +8,16 @@ mod input;
 mod line;
 mod print;
 
+use drive::Run;
 use std::io;
 
 // Does what each line of the text says.
 fn run(rt: &impl Print, text: &[u8]) -> io::Result<()> {
-    let mut run = drive::unset();
-    let mut lines: usize = 0;
-    let mut at: usize = 0;
-    while at < text.len() {
-        let end = line::find(text, at, b'\n');
-        lines += 1;
-        let line = call::read(rt, &text[at..end])?;
-        let call = line.call;
-        let bytes = line.bytes;
-        run = drive::turn(rt, run, call, &bytes, lines)?;
-        at = line::behind(text, end);
+    let mut run = Run::unset();
+    for (i, line) in text.split(|byte| *byte == b'\n').enumerate() {
+        if let Some(command) = call::read(line) {
+            run.turn(rt, command, i + 1)?;
+        }
     }
     Ok(())
 }
@@ -31,7 +26,7 @@ fn main(rt: HostRuntime) -> io::Result<()> {
     let mut buffer = [0u8; 65536];
     let n = input::read_full(&mut rt.stdin(), &mut buffer)?;
     if n == buffer.len() {
-        print::text(&rt, b"too long\n")?;
+        rt.write_all(b"too long\n")?;
     }
     run(&rt, &buffer[..n])
 }

@@ -1,9 +1,0 @@
--- The index is never before the start.
-use Rattle.std.proofs.Common.{◌-◌, ◌≤◌}
-use Rattle.engine_runs.proofs.line.read_number.Given as goal
-
-abbrev pub invariant-loop-i : goal.invariant-loop-i
-invariant-loop-i l = l.start ≤ l.i
-
-abbrev pub decreases-loop-i : goal.decreases-loop-i
-decreases-loop-i l = l.end - l.i
