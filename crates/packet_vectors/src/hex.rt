@@ -1,21 +1,26 @@
 // Bytes in hexadecimal, in groups with a dash between two, then +N for N zeros more.
-ghost use Rattle.std.specs.Prelude.{◌≤◌, ◌<◌, length, IfOk};
+ghost use Rattle.std.specs.Prelude.{◌≤◌, ◌<◌, length, IfOk, IfSome};
 
 use crate::{print, words};
 use std::io;
 
-// The byte of the two digits at a place, or a number above 255.
-fn pair(text: &[u8], at: usize) -> u64
-    requires { at < length text.now }
+fn digit(c: u8) -> Option<u8>
+    ensures { IfSome result (λ d. d < 16) }
 {
-    if text.len() - at < 2 {
-        return 256;
+    match c {
+        b'0'..=b'9' => Some(c - b'0'),
+        b'a'..=b'f' => Some(c - b'a' + 10),
+        _ => None,
     }
-    let low = words::digit(text[at + 1]);
-    if 15 < low {
-        return 256;
-    }
-    words::digit(text[at]) * 16 + low
+}
+
+// The byte of the first two digits, and what stands behind them.
+fn pair(text: &[u8]) -> Option<(u8, &[u8])>
+    ensures { IfSome result (λ r. length r.1.now < length text.now) }
+{
+    let (high, tail) = text.split_first()?;
+    let (low, rest) = tail.split_first()?;
+    Some((digit(*high)? * 16 + digit(*low)?, rest))
 }
 
 // Puts the bytes behind so many words into a buffer of zeros, and answers how many there are. They
@@ -28,30 +33,28 @@ pub(crate) fn decode(
 ) -> io::Result<usize>
     ensures { IfOk result (λ n. n ≤ length out.new) }
 {
-    let word = words::word(line, others);
+    let mut rest = words::word(line, others);
     let mut count = 0;
-    let mut at = 0;
     while count < out.len() {
-        if word.len() <= at {
+        let Some((first, tail)) = rest.split_first() else {
             return Ok(count);
-        }
-        if word[at] == b'-' {
-            at += 1;
+        };
+        if *first == b'-' {
+            rest = tail;
             continue;
         }
-        if word[at] == b'+' {
+        if *first == b'+' {
             let room = out.len() - count;
-            let zeros = words::number(rt, &word[at + 1..], 0, room as u64)?;
+            let zeros = words::number(rt, tail, 0, room as u64)?;
             return Ok(count + zeros as usize);
         }
-        let byte = pair(word, at);
-        if 255 < byte {
+        let Some((byte, behind)) = pair(rest) else {
             print::bad(rt, line)?;
             return Ok(count);
-        }
-        out[count] = byte as u8;
+        };
+        out[count] = byte;
         count += 1;
-        at += 2;
+        rest = behind;
     }
     print::bad(rt, line)?;
     Ok(count)

@@ -3,7 +3,6 @@
 // specification, not from this program.
 #![tactic(auto)]
 
-mod fields;
 mod hex;
 mod input;
 mod outcome;

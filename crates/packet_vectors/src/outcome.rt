@@ -1,5 +1,5 @@
 // A vector is read, or values are written, and one line says what came of it.
-use crate::{fields, print};
+use crate::print::Said;
 use protocol::{Header, PACKET_LIMIT, Packet, Read, Refusal, Span, Written};
 use std::io;
 
@@ -10,69 +10,37 @@ pub(crate) const FILL: u8 = 0xEE;
 pub(crate) const LARGE: usize = 8200;
 
 fn refused(rt: &impl Print, refusal: Refusal) -> io::Result<()> {
-    print::number(rt, b" refused ", refusal.number as u64)
-}
-
-fn raw_address(rt: &impl Print, there: bool, span: Span) -> io::Result<()> {
-    if there {
-        print::span(rt, b" raw_address at ", span)
-    } else {
-        print::text(rt, b" raw_address none")
-    }
-}
-
-fn values(rt: &impl Print, packet: Packet) -> io::Result<()> {
-    let header = packet.header;
-    let fields = header.fields;
-    print::number(rt, b" type ", header.kind as u64)?;
-    fields::own(rt, header.kind, fields)?;
-    let raw = packet.raw_address;
-    raw_address(rt, header.raw_address, raw)?;
-    let cq_data = header.cq_data;
-    print::cq_data(rt, cq_data)?;
-    let connid = header.connid;
-    print::connid(rt, connid)?;
-    let data = packet.data;
-    print::span(rt, b" data at ", data)
+    print!(rt; " refused {}", refusal.number)
 }
 
 fn answer(rt: &impl Print, name: &[u8], read: Read) -> io::Result<()> {
-    print::text(rt, name)?;
+    rt.write_all(name)?;
     match read {
         Read::Refused(refusal) => refused(rt, refusal),
-        Read::Packet(packet) => values(rt, packet),
+        Read::Packet(packet) => rt.print(Said(packet)),
     }
 }
 
 // The bytes of a span, or none if it leaves the packet: the reader's spans never do.
 fn part(bytes: &[u8], span: Span) -> &[u8] {
-    let at = span.at;
-    let size = span.size;
-    if bytes.len() < at {
-        return &bytes[..0];
+    match bytes.get(span.at..) {
+        Some(rest) => match rest.get(..span.size) {
+            Some(part) => part,
+            None => &bytes[..0],
+        },
+        None => &bytes[..0],
     }
-    if bytes.len() - at < size {
-        return &bytes[..0];
-    }
-    &bytes[at..at + size]
 }
 
-// Prints each byte from `from` on that is not as it was, up to where one of the two ends, and
-// answers whether there is none.
+// Prints each byte from `from` on that is not as it was, up to where one of the two ends: its place, and
+// both values. Answers whether there is none.
 fn unchanged(rt: &impl Print, was: &[u8], is: &[u8], from: usize) -> io::Result<bool> {
     let mut none = true;
-    let mut i = from;
-    while i < was.len() {
-        if is.len() <= i {
-            return Ok(none);
-        }
-        let a = was[i];
-        let b = is[i];
+    for (i, (a, b)) in was.iter().zip(is).enumerate().skip(from) {
         if a != b {
             none = false;
-            print::change(rt, i, a, b)?;
+            print!(rt; " {i}:{a:02x}>{b:02x}")?;
         }
-        i += 1;
     }
     Ok(none)
 }
@@ -80,23 +48,23 @@ fn unchanged(rt: &impl Print, was: &[u8], is: &[u8], from: usize) -> io::Result<
 // Says that the bytes of the buffer from `from` on still are FILL, or which are not.
 fn kept(rt: &impl Print, out: &[u8], from: usize, words: &[u8]) -> io::Result<()> {
     let filled = [FILL; LARGE];
-    print::text(rt, b",")?;
+    print!(rt; ",")?;
     if unchanged(rt, &filled, out, from)? {
-        print::text(rt, words)?;
+        rt.write_all(words)?;
     }
-    print::text(rt, b"\n")
+    println!(rt; "")
 }
 
 fn write_refused(rt: &impl Print, refusal: Refusal, out: &[u8]) -> io::Result<()> {
-    print::text(rt, b" write")?;
+    print!(rt; " write")?;
     refused(rt, refusal)?;
     kept(rt, out, 0, b" buffer kept")
 }
 
 fn written(rt: &impl Print, n: usize, bytes: &[u8], out: &[u8]) -> io::Result<()> {
-    print::number(rt, b" written ", n as u64)?;
+    print!(rt; " written {n}")?;
     if unchanged(rt, bytes, out, 0)? {
-        print::text(rt, b" same")?;
+        print!(rt; " same")?;
     }
     kept(rt, out, n, b" rest kept")
 }
@@ -111,7 +79,7 @@ pub(crate) fn write(
     bytes: &[u8],
     out: &mut [u8],
 ) -> io::Result<()> {
-    print::text(rt, name)?;
+    rt.write_all(name)?;
     match packet::write(header, raw, data, out) {
         Written::Refused(refusal) => write_refused(rt, refusal, out),
         Written::Length(n) => written(rt, n, bytes, out),
@@ -120,23 +88,20 @@ pub(crate) fn write(
 
 // Writes the values that were read from the bytes.
 fn write_back(rt: &impl Print, name: &[u8], bytes: &[u8], packet: Packet) -> io::Result<()> {
-    let header = packet.header;
-    let raw = packet.raw_address;
-    let data = packet.data;
     let mut out = [FILL; 128];
     write(
         rt,
         name,
-        header,
-        part(bytes, raw),
-        part(bytes, data),
+        packet.header,
+        part(bytes, packet.raw_address),
+        part(bytes, packet.data),
         bytes,
         &mut out,
     )
 }
 
 fn served(rt: &impl Print, bytes: &[u8]) -> io::Result<()> {
-    print::text(rt, b", served")?;
+    print!(rt; ", served")?;
     if let Read::Refused(refusal) = packet::read_served(bytes, PACKET_LIMIT) {
         refused(rt, refusal)?;
     }
@@ -148,7 +113,7 @@ pub(crate) fn good(rt: &impl Print, name: &[u8], bytes: &[u8]) -> io::Result<()>
     let read = packet::read(bytes);
     answer(rt, name, read)?;
     served(rt, bytes)?;
-    print::text(rt, b"\n")?;
+    println!(rt; "")?;
     if let Read::Packet(packet) = read {
         write_back(rt, name, bytes, packet)?;
     }
@@ -157,7 +122,7 @@ pub(crate) fn good(rt: &impl Print, name: &[u8], bytes: &[u8]) -> io::Result<()>
 
 pub(crate) fn read(rt: &impl Print, name: &[u8], bytes: &[u8]) -> io::Result<()> {
     answer(rt, name, packet::read(bytes))?;
-    print::text(rt, b"\n")
+    println!(rt; "")
 }
 
 pub(crate) fn read_served(
@@ -167,5 +132,5 @@ pub(crate) fn read_served(
     limit: usize,
 ) -> io::Result<()> {
     answer(rt, name, packet::read_served(bytes, limit))?;
-    print::text(rt, b"\n")
+    println!(rt; "")
 }

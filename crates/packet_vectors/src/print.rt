@@ -1,68 +1,75 @@
-// Words and numbers of a line on standard output. A name is given with the spaces around it.
-use crate::words::word;
-use protocol::{Connid, CqData, Span};
-use std::io;
+// What is printed of packets and values.
+use protocol::{Connid, CqData, Packet, Shape};
+use std::{fmt, io};
 
-pub(crate) fn text(rt: &impl Print, bytes: &[u8]) -> io::Result<()> {
-    rt.write_all(bytes)
-}
+// A packet that was read, as its line says it: its type, its own fields by name and in the order of their
+// table, and where its sections lie. Of a medium packet 01 calls the message's length what table 3.4 calls seg_length.
+#[derive(Clone, Copy)]
+pub(crate) struct Said(pub Packet);
 
-pub(crate) fn number(rt: &impl Print, name: &[u8], x: u64) -> io::Result<()> {
-    text(rt, name)?;
-    print!(rt; "{x}")
-}
-
-// A number whose name has no spaces around it.
-fn named(rt: &impl Print, name: &[u8], x: u64) -> io::Result<()> {
-    text(rt, b" ")?;
-    text(rt, name)?;
-    number(rt, b" ", x)
-}
-
-// Numbers with their names, which are the words of a text.
-pub(crate) fn numbers(rt: &impl Print, names: &[u8], values: &[u64]) -> io::Result<()> {
-    let mut i = 0;
-    while i < values.len() {
-        named(rt, word(names, i), values[i])?;
-        i += 1;
+impl Said {
+    fn fields<W: fmt::Write>(&self, f: &mut fmt::Formatter<W>) -> fmt::Result {
+        let v = self.0.header.fields;
+        match self.0.shape {
+            Shape::Cts => {
+                write!(f, " send_id {} recv_id {}", v.send_id, v.recv_id)?;
+                write!(f, " recv_length {}", v.recv_length)
+            }
+            Shape::CtsData => {
+                write!(f, " recv_id {} seg_length {}", v.recv_id, v.seg_length)?;
+                write!(f, " seg_offset {}", v.seg_offset)
+            }
+            Shape::Eager => write!(f, " msg_id {}", v.msg_id),
+            Shape::Medium => {
+                write!(f, " msg_id {} msg_length {}", v.msg_id, v.msg_length)?;
+                write!(f, " seg_offset {}", v.seg_offset)
+            }
+            Shape::LongCts => {
+                write!(f, " msg_id {} msg_length {}", v.msg_id, v.msg_length)?;
+                write!(
+                    f,
+                    " send_id {} credit_request {}",
+                    v.send_id, v.credit_request
+                )
+            }
+        }
     }
-    Ok(())
-}
 
-fn byte(rt: &impl Print, name: &[u8], x: u8) -> io::Result<()> {
-    text(rt, name)?;
-    print!(rt; "{x:02x}")
-}
-
-pub(crate) fn span(rt: &impl Print, name: &[u8], span: Span) -> io::Result<()> {
-    number(rt, name, span.at as u64)?;
-    number(rt, b" size ", span.size as u64)
-}
-
-pub(crate) fn cq_data(rt: &impl Print, cq_data: CqData) -> io::Result<()> {
-    match cq_data {
-        CqData::Absent => text(rt, b" cq_data none"),
-        CqData::Present(value) => number(rt, b" cq_data ", value),
+    fn options<W: fmt::Write>(&self, f: &mut fmt::Formatter<W>) -> fmt::Result {
+        let header = self.0.header;
+        let raw = self.0.raw_address;
+        if header.raw_address {
+            write!(f, " raw_address at {} size {}", raw.at, raw.size)?;
+        } else {
+            write!(f, " raw_address none")?;
+        }
+        match header.cq_data {
+            CqData::Absent => write!(f, " cq_data none")?,
+            CqData::Present(value) => write!(f, " cq_data {value}")?,
+        }
+        match header.connid {
+            Connid::Absent => write!(f, " connid none"),
+            Connid::Present(value) => write!(f, " connid {value}"),
+        }
     }
 }
 
-pub(crate) fn connid(rt: &impl Print, connid: Connid) -> io::Result<()> {
-    match connid {
-        Connid::Absent => text(rt, b" connid none"),
-        Connid::Present(value) => number(rt, b" connid ", value as u64),
+impl fmt::Display for Said {
+    fn fmt<W: fmt::Write>(&self, f: &mut fmt::Formatter<W>) -> fmt::Result {
+        let packet = self.0;
+        write!(f, " type {}", packet.header.kind)?;
+        self.fields(f)?;
+        if packet.tagged {
+            write!(f, " tag {}", packet.header.fields.tag)?;
+        }
+        self.options(f)?;
+        write!(f, " data at {} size {}", packet.data.at, packet.data.size)
     }
-}
-
-// A byte that was one value and is another: its place, and both values in hexadecimal.
-pub(crate) fn change(rt: &impl Print, at: usize, was: u8, is: u8) -> io::Result<()> {
-    number(rt, b" ", at as u64)?;
-    byte(rt, b":", was)?;
-    byte(rt, b">", is)
 }
 
 // A line, or the number behind a +, that is not understood.
 pub(crate) fn bad(rt: &impl Print, part: &[u8]) -> io::Result<()> {
-    text(rt, b"bad ")?;
-    text(rt, part)?;
-    text(rt, b"\n")
+    rt.write_all(b"bad ")?;
+    rt.write_all(part)?;
+    rt.write_all(b"\n")
 }

@@ -1,27 +1,60 @@
 // The lines of standard input. A line's first letter says what is done with it.
 use crate::outcome::{FILL, LARGE};
-use crate::words::{find, number, others, word};
+use crate::words::{number, others, word};
 use crate::{hex, outcome, print};
 use protocol::{Connid, CqData, Fields, Header, PACKET_LIMIT};
 use std::io;
 
 // The largest number of 64 bits: a field may have any.
-const ANY: u64 = 18446744073709551615;
+const ANY: u64 = u64::MAX;
+
+// What a line asks for.
+#[derive(Clone, Copy)]
+enum Task {
+    Good,
+    Read,
+    Served,
+    Limited,
+    Write,
+}
+
+impl Task {
+    // by a line's first letter
+    fn of(letter: u8) -> Option<Task> {
+        match letter {
+            b'g' => Some(Task::Good),
+            b'r' => Some(Task::Read),
+            b's' => Some(Task::Served),
+            b'l' => Some(Task::Limited),
+            b'w' => Some(Task::Write),
+            _ => None,
+        }
+    }
+
+    // How many words a line has behind the first.
+    fn words(self) -> usize {
+        match self {
+            Task::Good | Task::Read | Task::Served => 2,
+            Task::Limited => 3,
+            Task::Write => 11,
+        }
+    }
+}
 
 // good NAME BYTES, read NAME BYTES, served NAME BYTES or limited NAME BYTES LIMIT
-fn read(rt: &impl Print, line: &[u8], kind: u8) -> io::Result<()> {
+fn read(rt: &impl Print, line: &[u8], task: Task) -> io::Result<()> {
     let mut buffer = [0u8; LARGE];
     let n = hex::decode(rt, line, 2, &mut buffer)?;
-    let bytes = &buffer[0..n];
+    let bytes = &buffer[..n];
     let name = word(line, 1);
-    match kind {
-        b'g' => outcome::good(rt, name, bytes),
-        b's' => outcome::read_served(rt, name, bytes, PACKET_LIMIT),
-        b'l' => {
+    match task {
+        Task::Good => outcome::good(rt, name, bytes),
+        Task::Served => outcome::read_served(rt, name, bytes, PACKET_LIMIT),
+        Task::Limited => {
             let limit = number(rt, line, 3, PACKET_LIMIT as u64)?;
             outcome::read_served(rt, name, bytes, limit as usize)
         }
-        _ => outcome::read(rt, name, bytes),
+        Task::Read | Task::Write => outcome::read(rt, name, bytes),
     }
 }
 
@@ -84,43 +117,28 @@ fn write(rt: &impl Print, line: &[u8]) -> io::Result<()> {
     write_parts(rt, line, &raw[0..n], &data[0..m])
 }
 
-// How many words a line has behind the first: for a kind that is none, more than a line can have.
-fn form(kind: u8) -> usize {
-    match kind {
-        b'g' | b'r' | b's' => 2,
-        b'l' => 3,
-        b'w' => 11,
-        _ => 65536,
-    }
-}
-
 fn run_line(rt: &impl Print, line: &[u8]) -> io::Result<()> {
-    if line.len() == 0 {
+    let Some(letter) = line.first() else {
+        return Ok(());
+    };
+    if *letter == b'#' {
         return Ok(());
     }
-    let kind = line[0];
-    if kind == b'#' {
-        return Ok(());
-    }
-    if others(line) != form(kind) {
+    let Some(task) = Task::of(*letter) else {
+        return print::bad(rt, line);
+    };
+    if others(line) != Some(task.words()) {
         return print::bad(rt, line);
     }
-    if kind == b'w' {
-        write(rt, line)
-    } else {
-        read(rt, line, kind)
+    match task {
+        Task::Write => write(rt, line),
+        _ => read(rt, line, task),
     }
 }
 
 pub(crate) fn run(rt: &impl Print, text: &[u8]) -> io::Result<()> {
-    let mut at = 0;
-    while at < text.len() {
-        let end = find(text, at, b'\n');
-        run_line(rt, &text[at..end])?;
-        if end == text.len() {
-            return Ok(());
-        }
-        at = end + 1;
+    for line in text.split(|byte| *byte == b'\n') {
+        run_line(rt, line)?;
     }
     Ok(())
 }

@@ -1,90 +1,51 @@
 // The words of a line, with a space between two, and numbers.
-ghost use Rattle.std.specs.Prelude.{◌≤◌, length, IfOk};
+ghost use Rattle.std.specs.Prelude.{◌≤◌, IfOk, IfSome};
 
 use crate::print;
 use std::io;
 
-// The place of a byte, from a place on, or the text's end.
-pub(crate) fn find(text: &[u8], from: usize, byte: u8) -> usize
-    requires { from ≤ length text.now }
-    ensures { (from ≤ result) × (result ≤ length text.now) }
-{
-    let mut at = from;
-    while at < text.len() {
-        if text[at] == byte {
-            return at;
-        }
-        at += 1;
+// How many words there are behind the first, if none of them is empty.
+pub(crate) fn others(line: &[u8]) -> Option<usize> {
+    let mut words = line.split(|byte| *byte == b' ').skip(1);
+    if words.any(|word| word.is_empty()) {
+        return None;
     }
-    at
-}
-
-// How many words there are behind the first, or more than a form has if one of them is empty.
-pub(crate) fn others(line: &[u8]) -> usize {
-    let mut n = 0;
-    let mut at = find(line, 0, b' ');
-    while at < line.len() {
-        let next = find(line, at + 1, b' ');
-        if next == at + 1 {
-            return 65535;
-        }
-        n += 1;
-        at = next;
-    }
-    n
+    Some(line.iter().filter(|byte| **byte == b' ').count())
 }
 
 // The word behind so many others, or nothing if there is none.
 pub(crate) fn word(line: &[u8], others: usize) -> &[u8] {
-    let mut from = 0;
-    let mut end = find(line, 0, b' ');
-    let mut i = 0;
-    while i < others {
-        if end == line.len() {
-            return &line[end..];
-        }
-        from = end + 1;
-        end = find(line, from, b' ');
-        i += 1;
+    let mut words = line.split(|byte| *byte == b' ');
+    match words.nth(others) {
+        Some(word) => word,
+        None => &line[..0],
     }
-    &line[from..end]
 }
 
-// The value of a digit, up to 15, or 16.
-pub(crate) fn digit(c: u8) -> u64
-    ensures { result ≤ 16 }
+// The decimal number that a word is, if it is at most `most`.
+fn number_in(word: &[u8], most: u64) -> Option<u64>
+    ensures { IfSome result (λ n. n ≤ most) }
 {
-    match c {
-        b'0'..=b'9' => (c - b'0') as u64,
-        b'a'..=b'f' => (c - b'a' + 10) as u64,
-        _ => 16,
+    let mut value: u64 = 0;
+    for byte in word {
+        let digit = char::from(*byte).to_digit(10)?;
+        value = value.checked_mul(10)?.checked_add(u64::from(digit))?;
+        if most < value {
+            return None;
+        }
     }
+    Some(value)
 }
 
-// The number behind so many words, which is at most `most`.
+// The number behind so many words, which is at most `most`; 0, and a line that says so, where it is none.
 pub(crate) fn number(rt: &impl Print, line: &[u8], others: usize, most: u64) -> io::Result<u64>
     ensures { IfOk result (λ n. n ≤ most) }
 {
-    let word = word(line, others);
-    let mut value: u64 = 0;
-    let mut i = 0;
-    while i < word.len() {
-        let last = digit(word[i]);
-        if 9 < last {
+    match number_in(word(line, others), most) {
+        Some(value) => Ok(value),
+        None => {
             print::bad(rt, line)?;
-            return Ok(0);
+            Ok(0)
         }
-        if most / 10 < value {
-            print::bad(rt, line)?;
-            return Ok(0);
-        }
-        value *= 10;
-        if most - value < last {
-            print::bad(rt, line)?;
-            return Ok(0);
-        }
-        value += last;
-        i += 1;
     }
-    Ok(value)
 }
