@@ -4,7 +4,6 @@
 
 mod call;
 mod drive;
-mod input;
 mod line;
 mod print;
 

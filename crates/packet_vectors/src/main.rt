@@ -4,7 +4,6 @@
 #![tactic(auto)]
 
 mod hex;
-mod input;
 mod outcome;
 mod print;
 mod script;

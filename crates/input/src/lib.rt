@@ -1,4 +1,6 @@
-// Standard input, read to its end.
+// Standard input, read to its end, for the programs.
+#![tactic(auto)]
+
 ghost use Rattle.std.specs.Io.{ReadsAtMost};
 
 use std::io;
@@ -6,7 +8,7 @@ use std::io::Read;
 
 // Reads until the buffer is full or the input ends, and returns how many bytes it put at the start
 // of the buffer.
-pub(crate) fn read_full<R: Read>(from: &mut R, buffer: &mut [u8]) -> io::Result<usize>
+pub fn read_full<R: Read>(from: &mut R, buffer: &mut [u8]) -> io::Result<usize>
     ensures { ReadsAtMost result buffer.new }
 {
     let mut done = 0;

@@ -1,6 +1,6 @@
 -- What was read lies within the buffer, which keeps its length. Each turn but the last reads at least one byte.
 use Rattle.std.proofs.Common.{length, ◌-◌, ◌≤◌}
-use Rattle.engine_runs.proofs.input.read_full.Given as goal
+use Rattle.input.proofs.read_full.Given as goal
 
 abbrev pub invariant-loop-done : goal.invariant-loop-done
 invariant-loop-done g l = l.done ≤ length l.buffer
