@@ -4,7 +4,6 @@ ghost use Rattle.std.specs.Prelude.{◌<◌, length};
 use crate::drive::FILL;
 use engine::Ready;
 use peer::Answer;
-use protocol::CqData;
 use std::io;
 
 pub(crate) fn text(rt: &impl Print, bytes: &[u8]) -> io::Result<()> {
@@ -37,11 +36,11 @@ pub(crate) fn bad(rt: &impl Print, line: usize) -> io::Result<()> {
     text(rt, b"\n")
 }
 
-fn cq_data(rt: &impl Print, cq_data: CqData) -> io::Result<()> {
-    match cq_data {
-        CqData::Absent => Ok(()),
-        CqData::Present(value) => print!(rt; " cq_data {value}"),
+fn cq_data(rt: &impl Print, cq_data: Option<u64>) -> io::Result<()> {
+    if let Some(value) = cq_data {
+        print!(rt; " cq_data {value}")?;
     }
+    Ok(())
 }
 
 // Slot, id and length of a message.

@@ -1,6 +1,6 @@
 // A vector is read, or values are written, and one line says what came of it.
 use crate::{fields, print};
-use protocol::{Header, PACKET_LIMIT, Packet, Read, Refusal, Span, Written};
+use protocol::{Header, PACKET_LIMIT, Packet, Refusal, Span};
 use std::io;
 
 // What a buffer holds before a packet is written to it.
@@ -36,11 +36,11 @@ fn values(rt: &impl Print, packet: Packet) -> io::Result<()> {
     print::span(rt, b" data at ", data)
 }
 
-fn answer(rt: &impl Print, name: &[u8], read: Read) -> io::Result<()> {
+fn answer(rt: &impl Print, name: &[u8], read: Result<Packet, Refusal>) -> io::Result<()> {
     print::text(rt, name)?;
     match read {
-        Read::Refused(refusal) => refused(rt, refusal),
-        Read::Packet(packet) => values(rt, packet),
+        Err(refusal) => refused(rt, refusal),
+        Ok(packet) => values(rt, packet),
     }
 }
 
@@ -113,8 +113,8 @@ pub(crate) fn write(
 ) -> io::Result<()> {
     print::text(rt, name)?;
     match packet::write(header, raw, data, out) {
-        Written::Refused(refusal) => write_refused(rt, refusal, out),
-        Written::Length(n) => written(rt, n, bytes, out),
+        Err(refusal) => write_refused(rt, refusal, out),
+        Ok(n) => written(rt, n, bytes, out),
     }
 }
 
@@ -137,7 +137,7 @@ fn write_back(rt: &impl Print, name: &[u8], bytes: &[u8], packet: Packet) -> io:
 
 fn served(rt: &impl Print, bytes: &[u8]) -> io::Result<()> {
     print::text(rt, b", served")?;
-    if let Read::Refused(refusal) = packet::read_served(bytes, PACKET_LIMIT) {
+    if let Err(refusal) = packet::read_served(bytes, PACKET_LIMIT) {
         refused(rt, refusal)?;
     }
     Ok(())
@@ -149,7 +149,7 @@ pub(crate) fn good(rt: &impl Print, name: &[u8], bytes: &[u8]) -> io::Result<()>
     answer(rt, name, read)?;
     served(rt, bytes)?;
     print::text(rt, b"\n")?;
-    if let Read::Packet(packet) = read {
+    if let Ok(packet) = read {
         write_back(rt, name, bytes, packet)?;
     }
     Ok(())

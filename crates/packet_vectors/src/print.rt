@@ -1,6 +1,6 @@
 // Words and numbers of a line on standard output. A name is given with the spaces around it.
 use crate::words::word;
-use protocol::{Connid, CqData, Span};
+use protocol::Span;
 use std::io;
 
 pub(crate) fn text(rt: &impl Print, bytes: &[u8]) -> io::Result<()> {
@@ -39,17 +39,17 @@ pub(crate) fn span(rt: &impl Print, name: &[u8], span: Span) -> io::Result<()> {
     number(rt, b" size ", span.size as u64)
 }
 
-pub(crate) fn cq_data(rt: &impl Print, cq_data: CqData) -> io::Result<()> {
+pub(crate) fn cq_data(rt: &impl Print, cq_data: Option<u64>) -> io::Result<()> {
     match cq_data {
-        CqData::Absent => text(rt, b" cq_data none"),
-        CqData::Present(value) => number(rt, b" cq_data ", value),
+        None => text(rt, b" cq_data none"),
+        Some(value) => number(rt, b" cq_data ", value),
     }
 }
 
-pub(crate) fn connid(rt: &impl Print, connid: Connid) -> io::Result<()> {
+pub(crate) fn connid(rt: &impl Print, connid: Option<u32>) -> io::Result<()> {
     match connid {
-        Connid::Absent => text(rt, b" connid none"),
-        Connid::Present(value) => number(rt, b" connid ", value as u64),
+        None => text(rt, b" connid none"),
+        Some(value) => number(rt, b" connid ", value as u64),
     }
 }
 
