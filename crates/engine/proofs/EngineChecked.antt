@@ -12,7 +12,7 @@ use native.Mathlib.Omega.{arith}
 use Rattle.laws.specs.Choose.{pick}
 use Rattle.peer.specs.Calls.{Call, peer_step}
 use Rattle.peer.specs.CannotBe.{CannotBeIfAClauseIsBroken}
-use Rattle.protocol.specs.Checks.{Result, gives, refused}
+use Rattle.protocol.specs.Checks.{Said, gives, refused}
 use Rattle.peer.specs.Checks.{checks_of}
 use Rattle.peer.specs.Claims.{AreBytes}
 use Rattle.peer.specs.Says.{Saying, said, say}
@@ -109,7 +109,7 @@ module _ (n area limit arena : ℕ) (map : List ℕ) where
           (and_fails (numbers_fit n area limit) (lent_fits n area arena (length map)) e)
       go (inr x) = inl (outside n area limit x)
 
-ready_or_refused : ◌≡◌ {A = Result (Unit {0})} (gives tt) (refused 1) → ⊥
+ready_or_refused : ◌≡◌ {A = Said (Unit {0})} (gives tt) (refused 1) → ⊥
 ready_or_refused x = let z : ◌≡◌ {A = ℕ} 0 1 = cc in omega arith
 
 pub set_up_is_checked : SetUpIsChecked

@@ -2,7 +2,7 @@
 -- first that fails, and by none exactly if it is not refused. Proved in proofs/EngineChecked.antt and proofs/AreaBits.antt.
 use Rattle.std.specs.Prelude.{ℕ, ◌+◌, ◌*◌, ◌/◌, ◌%◌, ◌^◌, ◌≤◌, ◌<◌, length, get_or, List, ◌∷◌, map, ◌⊎◌, ◌↔◌, ◌≢◌, ◌≡◌}
 use Rattle.bitmap.specs.Map.{bit_at}
-use Rattle.protocol.specs.Checks.{Result, gives, refused}
+use Rattle.protocol.specs.Checks.{Said, gives, refused}
 use Rattle.peer.specs.Calls.{Call}
 use Rattle.peer.specs.CannotBe.{Breaks, Clause}
 use Rattle.peer.specs.Checks.{CallCheck, CallFails, call_refused_as, checks_of}
@@ -35,7 +35,7 @@ WrongLengths n area arena map = (arena ≢ n * area) ⊎ (map ≢ n * area / 64)
 -- ---- set-up
 
 -- what set-up answers: 01's number, or nothing but that it is ready
-abbrev pub ready_says : Ready → Result (Unit {0})
+abbrev pub ready_says : Ready → Said (Unit {0})
 ready_says Ready.Ready = gives tt
 ready_says (Ready.Refused k) = refused k.number
 

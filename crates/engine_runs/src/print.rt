@@ -1,7 +1,6 @@
 // Lines on standard output.
 use crate::drive::FILL;
 use peer::Answer;
-use protocol::CqData;
 use std::{fmt, io};
 
 // An answer, as its line says it.
@@ -24,8 +23,8 @@ impl fmt::Display for Said {
             } => {
                 write!(f, "done {slot} {id} {length}")?;
                 match cq_data {
-                    CqData::Absent => Ok(()),
-                    CqData::Present(value) => write!(f, " cq_data {value}"),
+                    Some(value) => write!(f, " cq_data {value}"),
+                    None => Ok(()),
                 }
             }
             Answer::Truncated { slot, id, length } => write!(f, "truncated {slot} {id} {length}"),

@@ -1,5 +1,5 @@
 -- Demand 2, delivery: what a peer sees of a run is what the plain receiver makes of that peer's own calls. Proved in proofs/Seeing.antt, Delivering.antt and Ranges.antt.
-use Rattle.std.specs.Prelude.{ℕ, ◌+◌, ◌*◌, ◌<◌, eqb, length, true, List, [], ◌∷◌, ◌≡◌}
+use Rattle.std.specs.Prelude.{ℕ, ◌+◌, ◌*◌, ◌<◌, eqb, length, true, List, [], ◌∷◌, ◌≡◌, Ok}
 use Rattle.engine.specs.SetUp.{set_up}
 use Rattle.engine.specs.Steps.{World}
 use Rattle.engine.specs.declared.types.Ready.{Ready}
@@ -10,7 +10,6 @@ use Rattle.laws.specs.Choose.{pick}
 use Rattle.laws.specs.Parts.{store_at}
 use Rattle.protocol.specs.Reading.{read_of}
 use Rattle.protocol.specs.declared.types.Packet.{Packet}
-use Rattle.protocol.specs.declared.types.Read.{Read}
 use Rattle.protocol.specs.Types.{served_row}
 use Rattle.peer.specs.Claims.{AllBytes, BytesClaim, CountsUp, Distinct, DoneClaim, GrantClaim, InOrder, TruncateClaim, ids_of, is_done, is_match, receives_of, takes}
 use Rattle.peer.specs.Expected.{enter, expected, expected_bytes, plain_step, target_of_call}
@@ -53,10 +52,10 @@ pub record Delivered (area limit : ℕ) (l : Plain) (gs : List Origin) (c : Call
   -- done exactly at the packet with which accepted segments cover every byte
   pub done : DoneClaim (target_of_call limit l c) s.answer
   -- in message order, to the receive posted first of those that fit
-  pub order : (bs : List ℕ) (room : ℕ) (q : Packet) → c ≡ packet bs room → read_of served_row limit bs ≡ Read.Packet q → takes s.answer ≡ true
+  pub order : (bs : List ℕ) (room : ℕ) (q : Packet) → c ≡ packet bs room → read_of served_row limit bs ≡ Ok q → takes s.answer ≡ true
       → (target_of_call limit l c).matched ≡ true → InOrder l q (target_of_call limit l c)
   -- truncated exactly if the message is longer than the oldest fitting receive
-  pub truncated : (bs : List ℕ) (room : ℕ) (q : Packet) → c ≡ packet bs room → read_of served_row limit bs ≡ Read.Packet q
+  pub truncated : (bs : List ℕ) (room : ℕ) (q : Packet) → c ≡ packet bs room → read_of served_row limit bs ≡ Ok q
       → TruncateClaim l q (target_of_call limit l c) s.answer
   -- the message is that of the packet that matched it, in the receive that was posted; done answers that packet's CQ data
   pub origin : OriginClaim (origin_of_call limit l gs c s.answer) (target_of_call limit l c) s.answer

@@ -5,7 +5,6 @@ ghost use Rattle.protocol.specs.FieldNumbers.{count_in, field_bytes, fields_in, 
 ghost use Rattle.protocol.specs.Layout.{Field, credit_request, layout, msg_id, msg_length, multiuse, padding, place_by, recv_id, recv_length, seg_length, seg_offset, send_id, tag};
 ghost use Rattle.protocol.specs.Rules.{Sound};
 
-use crate::options;
 use protocol::{
     COUNT, CREDIT_REQUEST, Fields, Header, MSG_ID, MSG_LENGTH, MULTIUSE, PADDING, RECV_ID,
     RECV_LENGTH, SEG_LENGTH, SEG_OFFSET, SEND_ID, TAG, TypeRow,
@@ -153,8 +152,8 @@ fn write_valueless(row: TypeRow, header: Header, count: u32, out: &mut [u8])
     if row.places < MULTIUSE {
         return;
     }
-    let connid = header.connid;
-    put(out, row.places, MULTIUSE, options::connid_or_zero(connid));
+    let connid = header.connid.unwrap_or(0);
+    put(out, row.places, MULTIUSE, connid);
     put(out, row.places, PADDING, 0u32);
     put(out, row.places, COUNT, count);
 }

@@ -2,32 +2,32 @@
 // header begins.
 ghost use Rattle.std.specs.Prelude.{◌≡◌, true, ◌+◌, ◌≤◌, ◌<◌, ◌^◌, length};
 ghost use Rattle.laws.specs.Parts.{store_at};
-ghost use Rattle.protocol.specs.Options.{raw_address_bytes, cq_data_bytes, connid_bytes, connid_or_zero, cq_data_in, connid_in};
+ghost use Rattle.protocol.specs.Options.{raw_address_bytes, cq_data_bytes, connid_bytes, cq_data_in, connid_in};
 ghost use Rattle.wire.specs.LittleEndian.{le_bytes};
 ghost use Rattle.protocol.specs.Rules.{Sound, NumberWidth};
 
-use protocol::{Connid, CqData, TypeRow};
+use protocol::TypeRow;
 use wire::LittleEndian;
 
-pub fn read_cq_data(there: bool, bytes: &[u8], at: usize) -> CqData
+pub fn read_cq_data(there: bool, bytes: &[u8], at: usize) -> Option<u64>
     requires { there ≡ true → at + 8 ≤ length bytes.now }
     ensures { result ≡ cq_data_in there bytes.now at }
 {
     if there {
-        CqData::Present(u64::read(bytes, at))
+        Some(u64::read(bytes, at))
     } else {
-        CqData::Absent
+        None
     }
 }
 
-pub fn read_connid(there: bool, bytes: &[u8], at: usize) -> Connid
+pub fn read_connid(there: bool, bytes: &[u8], at: usize) -> Option<u32>
     requires { there ≡ true → at + 4 ≤ length bytes.now }
     ensures { result ≡ connid_in there bytes.now at }
 {
     if there {
-        Connid::Present(u32::read(bytes, at))
+        Some(u32::read(bytes, at))
     } else {
-        Connid::Absent
+        None
     }
 }
 
@@ -43,17 +43,15 @@ pub fn write_raw_address(out: &mut [u8], at: usize, there: bool, raw: &[u8]) -> 
     wire::write_bytes(out, at + 4, raw)
 }
 
-pub fn write_cq_data(out: &mut [u8], at: usize, cq_data: CqData) -> usize
+pub fn write_cq_data(out: &mut [u8], at: usize, cq_data: Option<u64>) -> usize
     requires { at + length (cq_data_bytes cq_data) ≤ length out.old }
     ensures { (result ≡ at + length (cq_data_bytes cq_data)) × (out.new ≡ store_at out.old at (cq_data_bytes cq_data)) }
 {
-    match cq_data {
-        CqData::Absent => at,
-        CqData::Present(value) => {
-            value.write(out, at);
-            at + 8
-        }
-    }
+    let Some(value) = cq_data else {
+        return at;
+    };
+    value.write(out, at);
+    at + 8
 }
 
 // A number in 0, 4 or 8 bytes.
@@ -74,23 +72,13 @@ fn write_number(out: &mut [u8], at: usize, width: usize, x: u32) -> usize
 }
 
 // The connid and its padding, of `row.connid` bytes.
-pub fn write_connid(out: &mut [u8], at: usize, row: TypeRow, connid: Connid) -> usize
+pub fn write_connid(out: &mut [u8], at: usize, row: TypeRow, connid: Option<u32>) -> usize
     requires sound { Sound row }
     requires connid_in_bounds { at + length (connid_bytes row connid) ≤ length out.old }
     ensures { (result ≡ at + length (connid_bytes row connid)) × (out.new ≡ store_at out.old at (connid_bytes row connid)) }
 {
     match connid {
-        Connid::Absent => at,
-        Connid::Present(value) => write_number(out, at, row.connid as usize, value),
-    }
-}
-
-// What the multiuse field holds.
-pub(crate) fn connid_or_zero(connid: Connid) -> u32
-    ensures { result ≡ connid_or_zero connid }
-{
-    match connid {
-        Connid::Absent => 0,
-        Connid::Present(value) => value,
+        None => at,
+        Some(value) => write_number(out, at, row.connid as usize, value),
     }
 }

@@ -5,7 +5,7 @@ ghost use Rattle.protocol.specs.SectionsInTurn.{cq_data_length, connid_length, s
 ghost use Rattle.protocol.specs.Rules.{Sound};
 
 use crate::{arrays, flags, layout};
-use protocol::{CONNID, Extent, MULTIUSE, Sections, Span, TypeRow};
+use protocol::{CONNID, MULTIUSE, Sections, Span, TypeRow};
 use wire::LittleEndian;
 
 // The bytes that CQ data and connid take where they are flagged.
@@ -33,7 +33,7 @@ fn connid_at(row: TypeRow, after: usize) -> usize
 }
 
 // The sections of a packet of n bytes, with its raw address, which ends before at.
-fn from(row: TypeRow, flags: u16, raw: Span, at: usize, n: usize) -> Extent
+fn from(row: TypeRow, flags: u16, raw: Span, at: usize, n: usize) -> Option<Sections>
     requires sound { Sound row }
     requires at_bound { at < 2 ^ 48 }
     ensures { result ≡ sections_from row flags raw at n }
@@ -41,9 +41,9 @@ fn from(row: TypeRow, flags: u16, raw: Span, at: usize, n: usize) -> Extent
     let after = at + cq_data_length(row, flags);
     let data_at = after + connid_length(row, flags);
     if n < data_at {
-        return Extent::Cut;
+        return None;
     }
-    Extent::Whole(Sections {
+    Some(Sections {
         raw,
         cq_at: at,
         connid_at: connid_at(row, after),
@@ -52,7 +52,7 @@ fn from(row: TypeRow, flags: u16, raw: Span, at: usize, n: usize) -> Extent
 }
 
 // The sections of a packet with these flags that follow its array, which ends before at.
-fn behind(row: TypeRow, flags: u16, bytes: &[u8], at: usize) -> Extent
+fn behind(row: TypeRow, flags: u16, bytes: &[u8], at: usize) -> Option<Sections>
     requires sound { Sound row }
     requires at_bound { at < 2 ^ 41 }
     ensures { result ≡ sections_behind row flags bytes.now at }
@@ -63,20 +63,20 @@ fn behind(row: TypeRow, flags: u16, bytes: &[u8], at: usize) -> Extent
     }
     let start = at + 4;
     if n < start {
-        return Extent::Cut;
+        return None;
     }
     let size = u32::read(bytes, at) as usize;
     from(row, flags, Span { at: start, size }, start + size, n)
 }
 
 // The sections of a packet with these flags.
-pub fn find(row: TypeRow, flags: u16, bytes: &[u8]) -> Extent
+pub fn find(row: TypeRow, flags: u16, bytes: &[u8]) -> Option<Sections>
     requires { Sound row }
     ensures { result ≡ extent_of row flags bytes.now }
 {
     let at = row.header as usize;
     if bytes.len() < at {
-        return Extent::Cut;
+        return None;
     }
     if row.unit == 0 {
         return behind(row, flags, bytes, at);

@@ -1,10 +1,11 @@
 // The table of packet types, which reader and writer share.
-ghost use Rattle.std.specs.Prelude.{◌≡◌};
+ghost use Rattle.std.specs.Prelude.{◌≡◌, eqb, option_copied};
+ghost use Rattle.std.specs.List.{find};
 ghost use Rattle.protocol.specs.Types.{admit, reader_rows, row_of};
 
 use protocol::{
-    CREDIT_REQUEST, FoundRow, MSG_ID, MSG_LENGTH, MULTIUSE, RECV_ID, RECV_LENGTH, SEG_LENGTH,
-    SEG_OFFSET, SEND_ID, Shape, TAG, TypeRow,
+    CREDIT_REQUEST, MSG_ID, MSG_LENGTH, MULTIUSE, RECV_ID, RECV_LENGTH, SEG_LENGTH, SEG_OFFSET,
+    SEND_ID, Shape, TAG, TypeRow,
 };
 
 // Flags that an RTM may have: raw address, CQ data and connid; and that CTS and CTSDATA may have.
@@ -138,37 +139,24 @@ const TYPES: [TypeRow; ROWS] = [
     },
 ];
 
+// The first of some rows with this type.
+fn first(rows: &[TypeRow], kind: u8) -> Option<&TypeRow>
+    ensures { option_copied result ≡ find (λ (r : TypeRow). eqb r.kind kind) rows.now }
+{
+    rows.iter().find(|row| row.kind == kind)
+}
+
 // The row of a packet type.
-pub fn find(kind: u8) -> FoundRow
+pub fn find(kind: u8) -> Option<TypeRow>
     ensures { result ≡ row_of kind }
 {
-    // once, and not at each turn: a constant is made anew wherever it is named
-    let types = TYPES;
-    let mut i: usize = 0;
-    while i < ROWS {
-        let row = types[i];
-        if row.kind == kind {
-            return FoundRow::Row(row);
-        }
-        i += 1;
-    }
-    FoundRow::Unknown
+    first(&TYPES, kind).copied()
 }
 
 // The same, of all types or only of those that the engine serves.
-pub fn find_among(kind: u8, all: bool) -> FoundRow
+#[tactic(auto, unfolding(protocol::specs::Types::admit, laws::specs::Choose::pick))]
+pub fn find_among(kind: u8, all: bool) -> Option<TypeRow>
     ensures { result ≡ admit (reader_rows all) (row_of kind) }
 {
-    match find(kind) {
-        FoundRow::Unknown => FoundRow::Unknown,
-        FoundRow::Row(row) => {
-            if all {
-                return FoundRow::Row(row);
-            }
-            if row.served {
-                return FoundRow::Row(row);
-            }
-            FoundRow::Unknown
-        }
-    }
+    find(kind).filter(|row| all || row.served)
 }

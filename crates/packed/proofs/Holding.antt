@@ -9,12 +9,12 @@ use mathlib.Core.Path.{◌≡◌, refl, sym, ap, ◌∙◌, subst}
 use native.Mathlib.Decide.{dec_lt}
 use native.Mathlib.Nat.{mod-lt}
 use native.Mathlib.Omega.{arith}
+use Rattle.std.specs.Prelude.{Ok}
 use Rattle.laws.proofs.Choosing.{pick_either}
 use Rattle.laws.proofs.Storing.{part_all}
 use Rattle.protocol.specs.Layout.{Field}
 use Rattle.protocol.specs.Reading.{read_of}
 use Rattle.protocol.specs.declared.types.Packet.{Packet}
-use Rattle.protocol.specs.declared.types.Read.{Read}
 use Rattle.protocol.specs.Types.{served_row}
 use Rattle.protocol.proofs.ReadNumbers.{read_numbers}
 use Rattle.protocol.proofs.Served.{any_read}
@@ -110,7 +110,7 @@ pub record IncomingHeld (h : Incoming) : Type 0 where
   pub send_id : h.send_id < 2 ^ 32
   pub credit_request : h.credit_request < 2 ^ 32
 
-read_held : (limit : ℕ) (bs : List ℕ) (q : Packet) → ((i : ℕ) → get_or bs i 0 < 256) → read_of served_row limit bs ≡ Read.Packet q → IncomingHeld (incoming_of q)
+read_held : (limit : ℕ) (bs : List ℕ) (q : Packet) → ((i : ℕ) → get_or bs i 0 < 256) → read_of served_row limit bs ≡ Ok q → IncomingHeld (incoming_of q)
 unfolding incoming_of
 read_held limit bs q b e =
     let there = any_read served_row limit bs q e in

@@ -1,11 +1,10 @@
 -- An answer as eight words: its number, then what it says in 01's order, then zeros.
-use Rattle.std.specs.Prelude.{ℕ, List, [], ◌∷◌}
-use Rattle.protocol.specs.declared.types.CqData.{CqData}
+use Rattle.std.specs.Prelude.{ℕ, List, [], ◌∷◌, Option}
 use Rattle.peer.specs.declared.types.Answer.{Answer}
-use Rattle.words.specs.Presence.{cq_bit, cq_value}
+use Rattle.words.specs.Presence.{option_bit, option_value}
 
-abbrev pub done_words : ℕ → ℕ → ℕ → CqData → List ℕ
-done_words slot id length cq = 5 ∷ slot ∷ id ∷ length ∷ cq_bit cq ∷ cq_value cq ∷ 0 ∷ 0 ∷ []
+abbrev pub done_words : ℕ → ℕ → ℕ → Option ℕ → List ℕ
+done_words slot id length cq = 5 ∷ slot ∷ id ∷ length ∷ option_bit cq ∷ option_value cq ∷ 0 ∷ 0 ∷ []
 
 unfoldable pub answer_words : Answer → List ℕ
 answer_words (Answer.Refused k) = 0 ∷ k.number ∷ 0 ∷ 0 ∷ 0 ∷ 0 ∷ 0 ∷ 0 ∷ []

@@ -5,13 +5,12 @@ ghost use Rattle.packed.specs.Answers.{done_words, answer_words};
 
 use crate::types::WORDS;
 use peer::Answer;
-use protocol::CqData;
 
-fn done_words(slot: usize, id: u32, length: usize, cq_data: CqData) -> [u64; WORDS]
+fn done_words(slot: usize, id: u32, length: usize, cq_data: Option<u64>) -> [u64; WORDS]
     ensures { result ≡ done_words slot id length cq_data }
 {
-    let present = words::cq_bit(cq_data);
-    let value = words::cq_value(cq_data);
+    let present = words::option_bit(cq_data);
+    let value = words::option_value(cq_data);
     [
         5,
         slot as u64,

@@ -8,16 +8,10 @@ ghost use Rattle.protocol.specs.Limits.{packet_limit};
 use crate::limits::VERSION;
 use headers::{flags, layout, lengths, options, sections, table};
 use protocol::{
-    ABOVE_LIMIT, BAD_FLAGS, BAD_LENGTH, BAD_TYPE, BAD_VERSION, CONNID, CUT_SHORT, Extent, FoundRow,
-    Header, PACKET_LIMIT, Packet, Read, Refusal, Sections, Span, TypeRow,
+    ABOVE_LIMIT, BAD_FLAGS, BAD_LENGTH, BAD_TYPE, BAD_VERSION, CONNID, CUT_SHORT, Header,
+    PACKET_LIMIT, Packet, Refusal, Sections, Span, TypeRow,
 };
 use wire::LittleEndian;
-
-fn refused(refusal: Refusal) -> Read
-    ensures { result ≡ Read.Refused refusal }
-{
-    Read::Refused(refusal)
-}
 
 // The numbers of a packet whose sections are known.
 fn header(row: TypeRow, flags: u16, bytes: &[u8], at: Sections) -> Header
@@ -40,7 +34,7 @@ fn header(row: TypeRow, flags: u16, bytes: &[u8], at: Sections) -> Header
 }
 
 // A packet whose headers are whole: its lengths are checked.
-fn whole(row: TypeRow, flags: u16, bytes: &[u8], at: Sections) -> Read
+fn whole(row: TypeRow, flags: u16, bytes: &[u8], at: Sections) -> Result<Packet, Refusal>
     requires sound { Sound row }
     requires sections_inside { SectionsInside row flags at (length bytes.now) }
     ensures { result ≡ read_lengths row (packet_in row flags bytes.now at) }
@@ -51,10 +45,10 @@ fn whole(row: TypeRow, flags: u16, bytes: &[u8], at: Sections) -> Read
     let shape = row.shape;
     let fields = header.fields;
     if !lengths::fit(shape, fields, size) {
-        return refused(BAD_LENGTH);
+        return Err(BAD_LENGTH);
     }
     let raw_address = at.raw;
-    Read::Packet(Packet {
+    Ok(Packet {
         header,
         shape,
         tagged: row.tagged,
@@ -64,51 +58,42 @@ fn whole(row: TypeRow, flags: u16, bytes: &[u8], at: Sections) -> Read
 }
 
 // A packet of a known type: its flags, then its headers.
-fn typed(row: TypeRow, bytes: &[u8]) -> Read
+fn typed(row: TypeRow, bytes: &[u8]) -> Result<Packet, Refusal>
     requires sound { Sound row }
     requires in_bounds { 4 ≤ length bytes.now }
     ensures { result ≡ read_flags row bytes.now }
 {
     let flags = u16::read(bytes, 2);
     if !flags::fit(row, flags) {
-        return refused(BAD_FLAGS);
+        return Err(BAD_FLAGS);
     }
-    // each arm returns: what arms give to their match is held once more before it is returned
-    match sections::find(row, flags, bytes) {
-        Extent::Cut => {
-            return refused(CUT_SHORT);
-        }
-        Extent::Whole(at) => {
-            return whole(row, flags, bytes, at);
-        }
-    }
+    let Some(at) = sections::find(row, flags, bytes) else {
+        return Err(CUT_SHORT);
+    };
+    whole(row, flags, bytes, at)
 }
 
-fn among(bytes: &[u8], limit: usize, all: bool) -> Read
+fn among(bytes: &[u8], limit: usize, all: bool) -> Result<Packet, Refusal>
     ensures { result ≡ read_of (reader_rows all) limit bytes.now }
 {
     let n = bytes.len();
     if limit < n {
-        return refused(ABOVE_LIMIT);
+        return Err(ABOVE_LIMIT);
     }
     if n < 4 {
-        return refused(CUT_SHORT);
+        return Err(CUT_SHORT);
     }
     if bytes[1] != VERSION {
-        return refused(BAD_VERSION);
+        return Err(BAD_VERSION);
     }
-    match table::find_among(bytes[0], all) {
-        FoundRow::Unknown => {
-            return refused(BAD_TYPE);
-        }
-        FoundRow::Row(row) => {
-            return typed(row, bytes);
-        }
-    }
+    let Some(row) = table::find_among(bytes[0], all) else {
+        return Err(BAD_TYPE);
+    };
+    typed(row, bytes)
 }
 
 // Reads a packet of any type of the table: the reader alone, whose limit is 8,192 bytes.
-pub fn read(bytes: &[u8]) -> Read
+pub fn read(bytes: &[u8]) -> Result<Packet, Refusal>
     ensures { result ≡ read_of every_row packet_limit bytes.now }
 {
     among(bytes, PACKET_LIMIT, true)
@@ -116,7 +101,7 @@ pub fn read(bytes: &[u8]) -> Read
 
 // Reads a packet that is at most limit bytes long, of the types that the receive engine serves: a
 // CTS is refused as a type.
-pub fn read_served(bytes: &[u8], limit: usize) -> Read
+pub fn read_served(bytes: &[u8], limit: usize) -> Result<Packet, Refusal>
     ensures { result ≡ read_of served_row limit bytes.now }
 {
     among(bytes, limit, false)

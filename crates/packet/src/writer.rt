@@ -13,16 +13,9 @@ ghost use Rattle.protocol.specs.Limits.{packet_limit};
 use crate::limits::VERSION;
 use headers::{arrays, flags, layout, lengths, options, sections, table};
 use protocol::{
-    ABOVE_LIMIT, BAD_FLAGS, BAD_LENGTH, BAD_TYPE, FoundRow, Header, Length, NO_ROOM, PACKET_LIMIT,
-    Refusal, TypeRow, Written,
+    ABOVE_LIMIT, BAD_FLAGS, BAD_LENGTH, BAD_TYPE, Header, NO_ROOM, PACKET_LIMIT, Refusal, TypeRow,
 };
 use wire::LittleEndian;
-
-fn refused(refusal: Refusal) -> Written
-    ensures { result ≡ Written.Refused refusal }
-{
-    Written::Refused(refusal)
-}
 
 // The bytes of the headers without the raw address.
 fn head_length(row: TypeRow, flags: u16) -> usize
@@ -34,34 +27,34 @@ fn head_length(row: TypeRow, flags: u16) -> usize
 
 // The length of a packet with these flags and so many bytes of array and raw address, where they
 // are there, and of data.
-fn total(row: TypeRow, flags: u16, array: usize, raw: usize, size: usize) -> Length
+fn total(row: TypeRow, flags: u16, array: usize, raw: usize, size: usize) -> Option<usize>
     requires sound { Sound row }
     requires array_value { array_allowed row array ≡ true }
     ensures { result ≡ total_of row flags array raw size }
 {
     let head = head_length(row, flags);
     if PACKET_LIMIT < size {
-        return Length::Above;
+        return None;
     }
     if PACKET_LIMIT < array {
-        return Length::Above;
+        return None;
     }
     if !flags::raw_address(row, flags) {
         return limited(head + array + size);
     }
     if PACKET_LIMIT < raw {
-        return Length::Above;
+        return None;
     }
     limited(head + array + 4 + raw + size)
 }
 
-fn limited(n: usize) -> Length
+fn limited(n: usize) -> Option<usize>
     ensures { result ≡ limited_to n }
 {
     if PACKET_LIMIT < n {
-        Length::Above
+        None
     } else {
-        Length::Bytes(n)
+        Some(n)
     }
 }
 
@@ -142,38 +135,35 @@ fn typed(
     raw: &[u8],
     data: &[u8],
     out: &mut [u8],
-) -> Written
+) -> Result<usize, Refusal>
     requires { Sound row }
     ensures { record { answer = result; out = out.new } ≡ write_as row header array.now raw.now «data».now out.old }
 {
     if !may_have(row, header, array.len()) {
-        return refused(BAD_FLAGS);
+        return Err(BAD_FLAGS);
     }
     if !lengths_fit(row, header, array.len(), data.len()) {
-        return refused(BAD_LENGTH);
+        return Err(BAD_LENGTH);
     }
     let flags = flags::written(row, header);
-    match total(row, flags, array.len(), raw.len(), data.len()) {
-        Length::Above => refused(ABOVE_LIMIT),
-        Length::Bytes(n) => {
-            if out.len() < n {
-                return refused(NO_ROOM);
-            }
-            put(out, row, header, flags, array, raw, data);
-            Written::Length(n)
-        }
+    let Some(n) = total(row, flags, array.len(), raw.len(), data.len()) else {
+        return Err(ABOVE_LIMIT);
+    };
+    if out.len() < n {
+        return Err(NO_ROOM);
     }
+    put(out, row, header, flags, array, raw, data);
+    Ok(n)
 }
 
 // Writes the packet with these numbers, this raw address, if the header says that it has one, and
 // these data to the start of out, and answers its length. Refused, it leaves out as it was.
 // No type of the table has an array yet, so that it is lent an empty one.
-pub fn write(header: Header, raw_address: &[u8], data: &[u8], out: &mut [u8]) -> Written
+pub fn write(header: Header, raw_address: &[u8], data: &[u8], out: &mut [u8]) -> Result<usize, Refusal>
     ensures { record { answer = result; out = out.new } ≡ write_of header raw_address.now «data».now out.old }
 {
-    let kind = header.kind;
-    match table::find(kind) {
-        FoundRow::Unknown => refused(BAD_TYPE),
-        FoundRow::Row(row) => typed(row, header, &[], raw_address, data, out),
-    }
+    let Some(row) = table::find(header.kind) else {
+        return Err(BAD_TYPE);
+    };
+    typed(row, header, &[], raw_address, data, out)
 }

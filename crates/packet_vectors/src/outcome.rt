@@ -1,6 +1,6 @@
 // A vector is read, or values are written, and one line says what came of it.
 use crate::print::Said;
-use protocol::{Header, PACKET_LIMIT, Packet, Read, Refusal, Span, Written};
+use protocol::{Header, PACKET_LIMIT, Packet, Refusal, Span};
 use std::io;
 
 // What a buffer holds before a packet is written to it.
@@ -13,11 +13,11 @@ fn refused(rt: &impl Print, refusal: Refusal) -> io::Result<()> {
     print!(rt; " refused {}", refusal.number)
 }
 
-fn answer(rt: &impl Print, name: &[u8], read: Read) -> io::Result<()> {
+fn answer(rt: &impl Print, name: &[u8], read: Result<Packet, Refusal>) -> io::Result<()> {
     rt.write_all(name)?;
     match read {
-        Read::Refused(refusal) => refused(rt, refusal),
-        Read::Packet(packet) => rt.print(Said(packet)),
+        Err(refusal) => refused(rt, refusal),
+        Ok(packet) => rt.print(Said(packet)),
     }
 }
 
@@ -81,8 +81,8 @@ pub(crate) fn write(
 ) -> io::Result<()> {
     rt.write_all(name)?;
     match packet::write(header, raw, data, out) {
-        Written::Refused(refusal) => write_refused(rt, refusal, out),
-        Written::Length(n) => written(rt, n, bytes, out),
+        Err(refusal) => write_refused(rt, refusal, out),
+        Ok(n) => written(rt, n, bytes, out),
     }
 }
 
@@ -102,7 +102,7 @@ fn write_back(rt: &impl Print, name: &[u8], bytes: &[u8], packet: Packet) -> io:
 
 fn served(rt: &impl Print, bytes: &[u8]) -> io::Result<()> {
     print!(rt; ", served")?;
-    if let Read::Refused(refusal) = packet::read_served(bytes, PACKET_LIMIT) {
+    if let Err(refusal) = packet::read_served(bytes, PACKET_LIMIT) {
         refused(rt, refusal)?;
     }
     Ok(())
@@ -114,7 +114,7 @@ pub(crate) fn good(rt: &impl Print, name: &[u8], bytes: &[u8]) -> io::Result<()>
     answer(rt, name, read)?;
     served(rt, bytes)?;
     println!(rt; "")?;
-    if let Read::Packet(packet) = read {
+    if let Ok(packet) = read {
         write_back(rt, name, bytes, packet)?;
     }
     Ok(())

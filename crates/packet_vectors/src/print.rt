@@ -1,5 +1,5 @@
 // What is printed of packets and values.
-use protocol::{Connid, CqData, Packet, Shape};
+use protocol::{Packet, Shape};
 use std::{fmt, io};
 
 // A packet that was read, as its line says it: its type, its own fields by name and in the order of their
@@ -44,12 +44,12 @@ impl Said {
             write!(f, " raw_address none")?;
         }
         match header.cq_data {
-            CqData::Absent => write!(f, " cq_data none")?,
-            CqData::Present(value) => write!(f, " cq_data {value}")?,
+            Some(value) => write!(f, " cq_data {value}")?,
+            None => write!(f, " cq_data none")?,
         }
         match header.connid {
-            Connid::Absent => write!(f, " connid none"),
-            Connid::Present(value) => write!(f, " connid {value}"),
+            Some(value) => write!(f, " connid {value}"),
+            None => write!(f, " connid none"),
         }
     }
 }

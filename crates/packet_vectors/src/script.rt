@@ -2,7 +2,7 @@
 use crate::outcome::{FILL, LARGE};
 use crate::words::{number, others, word};
 use crate::{hex, outcome, print};
-use protocol::{Connid, CqData, Fields, Header, PACKET_LIMIT};
+use protocol::{Fields, Header, PACKET_LIMIT};
 use std::io;
 
 // The largest number of 64 bits: a field may have any.
@@ -79,16 +79,8 @@ fn header(rt: &impl Print, line: &[u8]) -> io::Result<Header> {
         kind: number(rt, line, 6, 255)? as u8,
         fields: fields(rt, line)?,
         raw_address: options & 1 != 0,
-        cq_data: if options & 2 != 0 {
-            CqData::Present(10)
-        } else {
-            CqData::Absent
-        },
-        connid: if options & 4 != 0 {
-            Connid::Present(11)
-        } else {
-            Connid::Absent
-        },
+        cq_data: (options & 2 != 0).then_some(10),
+        connid: (options & 4 != 0).then_some(11),
     })
 }
 

@@ -9,6 +9,7 @@ use mathlib.Core.Logic.{⊎_elim}
 use mathlib.Core.Path.{◌≡◌, refl, sym, ap, ap₂, ◌∙◌}
 use native.Mathlib.Nat.{mod-eq_of_lt, mod-lt}
 use native.Mathlib.Omega.{arith}
+use Rattle.std.specs.Prelude.{Option, Some, None, Ok, unwrap_or}
 use Rattle.laws.specs.Choose.{pick}
 use Rattle.protocol.specs.Checks.{gives, refused}
 use Rattle.protocol.specs.FieldNumbers.{number_in}
@@ -16,21 +17,17 @@ use Rattle.protocol.specs.Sentences.{ReadTellsItsBytes}
 use Rattle.protocol.specs.Layout.{Field, width}
 use Rattle.protocol.specs.Optional.{options_fit}
 use Rattle.protocol.specs.Options.{connid_or_zero}
-use Rattle.protocol.specs.RoundTrip.{Numbers, cq_data_or_zero}
+use Rattle.protocol.specs.RoundTrip.{Numbers}
 use Rattle.protocol.specs.Says.{written_says}
 use Rattle.protocol.specs.Types.{every_row, row_of}
 use Rattle.protocol.specs.Values.{Values, values_in}
 use Rattle.protocol.specs.Values as packets
 use Rattle.protocol.specs.WriterSentences.{writer_checks}
 use Rattle.protocol.specs.Writing.{WriteLeaves, write_of}
-use Rattle.protocol.specs.declared.table.FoundRow.TheVariants.{Row}
 use Rattle.protocol.specs.declared.table.TypeRow.{TypeRow}
-use Rattle.protocol.specs.declared.types.Connid.{Connid}
-use Rattle.protocol.specs.declared.types.CqData.{CqData}
 use Rattle.protocol.specs.declared.types.Fields.{Fields}
 use Rattle.protocol.specs.declared.types.Header.{Header}
 use Rattle.protocol.specs.declared.types.Packet.{Packet}
-use Rattle.protocol.specs.declared.types.Written.{Written}
 use Rattle.laws.proofs.Choosing.{and_intro, and_left, and_right, branch, or_left}
 use Rattle.laws.proofs.Comparing.{le_or_lt}
 use Rattle.protocol.proofs.Accepted.{WrittenAs, as_read, as_written}
@@ -76,10 +73,10 @@ own_said v (f ∷ fs) e =
     (own_said v fs (and_right (ltb (field_word v f) (256 ^ width f)) _ e))
 
 connid_said : (t : Bool) (d : ℕ) → pick t true (ltb d (2 ^ 32)) ≡ true
-    → pick t Connid.Absent (Connid.Present (d % 2 ^ 32)) ≡ pick t Connid.Absent (Connid.Present d)
+    → pick t None (Some (d % 2 ^ 32)) ≡ pick t None (Some d)
 unfolding pick
 connid_said true d h = refl
-connid_said false d h = ap Connid.Present (mod-eq_of_lt (ltb-true d (2 ^ 32) h))
+connid_said false d h = ap Some (mod-eq_of_lt (ltb-true d (2 ^ 32) h))
 
 header_said : (v raw body : List ℕ) → type_word v < 256 → held v ≡ true → packets.values (words_header v) raw body ≡ words_say v raw body
 unfolding packets.values words_say
@@ -98,8 +95,8 @@ unfolding connid_or_zero
 numbers_said v words =
     record {
       fields = small;
-      cq_data = branch (λ (q : CqData). cq_data_or_zero q < 256 ^ 8) (eqb (cq_data_word v) 0) _ _ (λ x. lit< tt) (λ x. words 14);
-      connid = branch (λ (q : Connid). connid_or_zero q < 256 ^ 4) (eqb (connid_word v) 0) _ _ (λ x. lit< tt) (λ x. mod-lt (connid_number v) (lit< tt));
+      cq_data = branch (λ (q : Option ℕ). unwrap_or q 0 < 256 ^ 8) (eqb (cq_data_word v) 0) _ _ (λ x. lit< tt) (λ x. words 14);
+      connid = branch (λ (q : Option ℕ). connid_or_zero q < 256 ^ 4) (eqb (connid_word v) 0) _ _ (λ x. lit< tt) (λ x. mod-lt (connid_number v) (lit< tt));
     }
   where
     small : (f : Field) → number_in (words_fields v) f < 256 ^ width f
@@ -119,7 +116,7 @@ numbers_said v words =
 -- ---- words that pass their checks are left to the packet writer
 
 module _ (v raw body out : List ℕ) (size : ℕ) where
-  passed_on : (r : TypeRow) → 19 ≤ length v → row_of (type_word v) ≡ Row r → options_fit r (words_header v) ≡ true → held v ≡ true
+  passed_on : (r : TypeRow) → 19 ≤ length v → row_of (type_word v) ≡ Some r → options_fit r (words_header v) ≡ true → held v ≡ true
       → write_from v raw body out size ≡ put v raw body out size (write_of (words_header v) raw body out)
   unfolding write_from put_typed pick
   passed_on r long row options fit = rw (le-leb 19 (length v) long, row, options, numbers_held v r row ∙ fit)
@@ -128,11 +125,11 @@ module _ (v raw body out : List ℕ) (size : ℕ) where
   written_on : (r : TypeRow) → WrittenAs (words_header v) raw body out r → 19 ≤ length v → type_word v < 256 → held v ≡ true
       → (left : List ℕ) (n : ℕ)
       → (write_of (words_header v) raw body out).out ≡ left
-      → (write_of (words_header v) raw body out).answer ≡ Written.Length n
+      → (write_of (words_header v) raw body out).answer ≡ Ok n
       → write_from v raw body out size ≡ record { refusal = 0; out = left; size = n }
   written_on r w long small fit left n o a = passed_on r long row w.options fit ∙ ap₂ (put_as size) o a
     where
-      row : row_of (type_word v) ≡ Row r
+      row : row_of (type_word v) ≡ Some r
       row = ap row_of (sym (mod-eq_of_lt small)) ∙ w.row
 
   -- and its answer says the same
@@ -183,7 +180,7 @@ fields_held v a small (f ∷ fs) e =
     let rest : map (field_word v) fs ≡ map (number_in a) fs = cc in
     and_intro _ (fields_fit v fs) (lt-ltb (field_word v f) (256 ^ width f) (rw first (small f))) (fields_held v a small fs rest)
 
-connid_held : (t : Bool) (d : ℕ) (q : Connid) → connid_or_zero q < 256 ^ 4 → pick t Connid.Absent (Connid.Present d) ≡ q
+connid_held : (t : Bool) (d : ℕ) (q : Option ℕ) → connid_or_zero q < 256 ^ 4 → pick t None (Some d) ≡ q
     → pick t true (ltb d (2 ^ 32)) ≡ true
 unfolding pick connid_or_zero
 connid_held true d q h e = refl

@@ -9,9 +9,10 @@ use mathlib.Core.List.{List, [], ◌∷◌}
 use mathlib.Core.Logic.{⊎_elim}
 use mathlib.Core.Path.{◌≡◌, refl, sym, ◌∙◌}
 use native.Mathlib.Omega.{arith}
+use Rattle.std.specs.Prelude.{is_some}
 use Rattle.laws.specs.Choose.{pick}
 use Rattle.protocol.specs.Layout.{Field, count, credit_request, has, is_own, layout, msg_id, msg_length, multiuse, ordinal, own_fields, padding, place_of, recv_id, recv_length, same_field, seg_length, seg_offset, select, send_id, tag, width}
-use Rattle.protocol.specs.Optional.{has_cq_data, options_fit}
+use Rattle.protocol.specs.Optional.{options_fit}
 use Rattle.protocol.specs.Rules.{Sound}
 use Rattle.protocol.specs.declared.table.TypeRow.{TypeRow}
 use Rattle.packet_words.specs.Writing.{cq_data_word, words_cq, fields_fit, words_header, holds, field_word, raw_address_word}
@@ -26,7 +27,7 @@ same_test_lem false true p q = q refl
 same_test_lem false false p q = refl
 
 -- CQ data are there where their word is not 0
-pub cq_said : (v : List ℕ) → has_cq_data (words_cq v) ≡ not (eqb (cq_data_word v) 0)
+pub cq_said : (v : List ℕ) → is_some (words_cq v) ≡ not (eqb (cq_data_word v) 0)
 unfolding pick
 cq_said v = ⊎_elim (λ x. rw x) (λ x. rw x) (tested (eqb (cq_data_word v) 0))
 

@@ -9,6 +9,7 @@ use mathlib.Core.Logic.{⊎_elim}
 use mathlib.Core.Path.{◌≡◌, refl, sym, ap, ◌∙◌}
 use native.Mathlib.Nat.{mod-eq_of_lt}
 use native.Mathlib.Omega.{arith}
+use Rattle.std.specs.Prelude.{Option, Some, None}
 use Rattle.laws.specs.Choose.{pick}
 use Rattle.laws.proofs.Choosing.{and_intro, and_left, and_right, pick_false, pick_true, tested}
 use Rattle.protocol.specs.Layout.{Field, count, credit_request, msg_id, msg_length, multiuse, padding, recv_id, recv_length, seg_length, seg_offset, send_id, tag, width}
@@ -16,8 +17,6 @@ use Rattle.protocol.specs.Arrays.{array_allowed}
 use Rattle.protocol.specs.Optional.{options_fit}
 use Rattle.protocol.specs.Types.{row_of}
 use Rattle.protocol.specs.Writing.{WriteLeaves, write_as, write_of, write_typed}
-use Rattle.protocol.specs.declared.table.FoundRow.{FoundRow}
-use Rattle.protocol.specs.declared.table.FoundRow.TheVariants.{Row, Unknown}
 use Rattle.protocol.specs.declared.table.TypeRow.{TypeRow}
 use Rattle.packet_words.specs.Writing.{all_narrow, connid_fits, connid_word, fields_fit, words_header, field_word, words_fit, put_of, type_word, put_typed}
 
@@ -62,14 +61,14 @@ module _ (v : List ℕ) (words : (i : ℕ) → get_or v i 0 < 2 ^ 64) (narrow : 
   unfolding put_typed write_of write_typed write_as pick
   written_at_once raw body out size small = go (row_of (type_word v)) refl
     where
-      of_row : FoundRow → WriteLeaves
+      of_row : Option TypeRow → WriteLeaves
       of_row o = write_typed o (words_header v) [] raw body out
 
-      as_row : (o : FoundRow) → row_of (type_word v) ≡ o → write_of (words_header v) raw body out ≡ of_row o
+      as_row : (o : Option TypeRow) → row_of (type_word v) ≡ o → write_of (words_header v) raw body out ≡ of_row o
       as_row o e = ap (λ (n : ℕ). of_row (row_of n)) (mod-eq_of_lt (omega arith)) ∙ ap of_row e
 
-      go : (o : FoundRow) → row_of (type_word v) ≡ o → put_typed o v raw body out size ≡ put_of size (write_of (words_header v) raw body out)
-      go Unknown e = ap (put_of size) (sym (as_row Unknown e))
-      go (Row r) e =
+      go : (o : Option TypeRow) → row_of (type_word v) ≡ o → put_typed o v raw body out size ≡ put_of size (write_of (words_header v) raw body out)
+      go None e = ap (put_of size) (sym (as_row None e))
+      go (Some r) e =
           rw (words_fit_lem r)
-          (⊎_elim (λ t. rw t) (λ t. rw t (ap (put_of size) (sym (as_row (Row r) e ∙ pick_false _ _ (ap (λ (b : Bool). b && array_allowed r 0) t))))) (tested (options_fit r (words_header v))))
+          (⊎_elim (λ t. rw t) (λ t. rw t (ap (put_of size) (sym (as_row (Some r) e ∙ pick_false _ _ (ap (λ (b : Bool). b && array_allowed r 0) t))))) (tested (options_fit r (words_header v))))

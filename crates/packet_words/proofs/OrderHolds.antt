@@ -10,10 +10,11 @@ use mathlib.Core.Logic.{◌⊎◌, inl, inr, ⊎_elim}
 use mathlib.Core.Path.{◌≡◌, refl, sym, ap, ap₂, ◌∙◌, subst}
 use native.Mathlib.Nat.{mod-eq_of_lt}
 use native.Mathlib.Omega.{arith}
+use Rattle.std.specs.Prelude.{Option, Some, None}
 use Rattle.laws.specs.Choose.{pick}
 use Rattle.laws.specs.Parts.{store_at}
 use Rattle.protocol.specs.ByType.{Known, LengthRule}
-use Rattle.protocol.specs.Checks.{Result, gives, refused}
+use Rattle.protocol.specs.Checks.{Said, gives, refused}
 use Rattle.protocol.specs.Optional.{options_fit}
 use Rattle.protocol.specs.Sentences.{TypesAreTheTables}
 use Rattle.protocol.specs.Layout.{Field, width}
@@ -21,8 +22,6 @@ use Rattle.protocol.specs.Lengths.{lengths_fit}
 use Rattle.protocol.specs.Types.{admit, every_row, row_of}
 use Rattle.protocol.specs.WriterSentences.{connid_takes, cq_data_takes, packet_length, writer_checks}
 use Rattle.protocol.specs.Writing.{WriteLeaves, write_of}
-use Rattle.protocol.specs.declared.table.FoundRow.{FoundRow}
-use Rattle.protocol.specs.declared.table.FoundRow.TheVariants.{Row, Unknown}
 use Rattle.protocol.specs.declared.table.TypeRow.{TypeRow}
 use Rattle.protocol.specs.declared.types.Header.{Header}
 use Rattle.packet_words.specs.Order.{PutCheck, PutFails, PutIfNoneFails, PutRefusedByFirstToFail, RefusedPutChangesNothing, TooLarge, few_words, fields_said, no_room, over_limit, put_check_at, put_checks, put_length, put_refused_as, wrong_numbers, wrong_option, wrong_type}
@@ -85,7 +84,7 @@ module _ (v : List ℕ) where
       sym (pick_false true _ (ne_eqb (connid_word v) 0 t)) ∙ and_right (fields_fit v (own_by_type (type_word v))) (connid_fits v) x in
       omega (arith, ltb-true (connid_number v) (2 ^ 32) y)
 
-  module _ (r : TypeRow) (e : row_of (type_word v) ≡ Row r) where
+  module _ (r : TypeRow) (e : row_of (type_word v) ≡ Some r) where
     pub numbers_held : words_fit r v ≡ held
     unfolding words_fit
     numbers_held = ap (λ (fs : List Field). fields_fit v fs && connid_fits v) (ap own_of (sym e) ∙ own_fields_lem (type_word v))
@@ -93,7 +92,7 @@ module _ (v : List ℕ) where
     pub type_small : type_word v % 256 ≡ type_word v
     type_small = mod-eq_of_lt (row_small _ r e)
 
-    pub row_said : row_of (words_header v).kind ≡ Row r
+    pub row_said : row_of (words_header v).kind ≡ Some r
     row_said = ap row_of type_small ∙ e
 
     -- ---- optional headers
@@ -128,7 +127,7 @@ rule_said v n w = record { cts = w.cts; ctsdata = w.ctsdata; medium = w.medium; 
 rule_in : (v : List ℕ) (n : ℕ) → LengthRule (type_word v) (fields_said v) n → LengthRule (type_word v) (words_fields v) n
 rule_in v n w = record { cts = w.cts; ctsdata = w.ctsdata; medium = w.medium; long = w.long }
 
-known_row : (k : ℕ) (r : TypeRow) → row_of k ≡ Row r → Known true k
+known_row : (k : ℕ) (r : TypeRow) → row_of k ≡ Some r → Known true k
 unfolding TypesAreTheTables admit pick
 known_row k r e = (types_are_the_tables true k).0 (r, ap (admit every_row) e)
 
@@ -151,10 +150,10 @@ module _ (v raw body out : List ℕ) (size : ℕ) where
   -- ---- the writer is a list of checks
 
   -- with the type's row o
-  abbrev broken : FoundRow → Bool
+  abbrev broken : Option TypeRow → Bool
   broken o = of_row o (λ r. not (lengths_fit r.shape (words_fields v) (length body)))
 
-  abbrev fails_as : FoundRow → PutCheck → Bool
+  abbrev fails_as : Option TypeRow → PutCheck → Bool
   fails_as o few_words = ltb (length v) 19
   fails_as o wrong_type = is_unknown o
   fails_as o wrong_option = of_row o (λ r. not (options_fit r (words_header v)))
@@ -165,10 +164,10 @@ module _ (v raw body out : List ℕ) (size : ℕ) where
   abbrev refuse : PutCheck → Put
   refuse c = refused_put (put_refused_as c) out size
 
-  abbrev passed_as : FoundRow → Put
+  abbrev passed_as : Option TypeRow → Put
   passed_as o = record { refusal = 0; out = store_at out 0 (bytes_as (words_header v) raw body out o); size = n }
 
-  abbrev judged_as : FoundRow → List PutCheck → Put
+  abbrev judged_as : Option TypeRow → List PutCheck → Put
   judged_as o = judged (fails_as o) refuse (passed_as o)
 
   -- what the packet writer leaves, as the writer from words says it
@@ -176,13 +175,13 @@ module _ (v raw body out : List ℕ) (size : ℕ) where
   put o = put_as size o.out o.answer
 
   -- the packet writer's checks on lengths and room are the last
-  passed_on : (r : TypeRow) → row_of k ≡ Row r → options_fit r (words_header v) ≡ true
+  passed_on : (r : TypeRow) → row_of k ≡ Some r → options_fit r (words_header v) ≡ true
       → put (write_of (words_header v) raw body out)
-      ≡ pick (broken (Row r)) (refuse wrong_numbers) (judged_as (Row r) (over_limit ∷ no_room ∷ []))
+      ≡ pick (broken (Some r)) (refuse wrong_numbers) (judged_as (Some r) (over_limit ∷ no_room ∷ []))
   passed_on r e x =
       ap put (write_judged h raw body out)
       ∙ judged_ap put (write_failing h raw body out) (refusing h raw body out) (written h raw body out (row_of h.kind)) writer_checks
-      ∙ ap₂ (λ (o : FoundRow) (m : ℕ). tests o m) (row_said v r e) (length_said v r e (length raw) (length body))
+      ∙ ap₂ (λ (o : Option TypeRow) (m : ℕ). tests o m) (row_said v r e) (length_said v r e (length raw) (length body))
       ∙ pick_false _ _ refl
       ∙ pick_false _ _ (ap not x)
     where
@@ -190,7 +189,7 @@ module _ (v raw body out : List ℕ) (size : ℕ) where
       h = words_header v
 
       -- for the row o, with a packet of m bytes
-      tests : FoundRow → ℕ → Put
+      tests : Option TypeRow → ℕ → Put
       tests o m =
           pick (is_unknown o) (refuse wrong_type)
           (pick (of_row o (λ q. not (options_fit q h))) (refuse wrong_option)
@@ -198,13 +197,13 @@ module _ (v raw body out : List ℕ) (size : ℕ) where
           (pick (ltb packet_limit m) (refuse over_limit)
           (pick (ltb (length out) m) (refuse no_room) (record { refusal = 0; out = store_at out 0 (bytes_as h raw body out o); size = m })))))
 
-  row_judged : (r : TypeRow) → row_of k ≡ Row r
-      → put_typed (Row r) v raw body out size ≡ judged_as (Row r) (wrong_option ∷ wrong_numbers ∷ over_limit ∷ no_room ∷ [])
+  row_judged : (r : TypeRow) → row_of k ≡ Some r
+      → put_typed (Some r) v raw body out size ≡ judged_as (Some r) (wrong_option ∷ wrong_numbers ∷ over_limit ∷ no_room ∷ [])
   unfolding put_typed pick
   row_judged r e = go (tested (options_fit r (words_header v))) (tested (words_fit r v))
     where
       go : (options_fit r (words_header v) ≡ true) ⊎ (options_fit r (words_header v) ≡ false) → (words_fit r v ≡ true) ⊎ (words_fit r v ≡ false)
-          → put_typed (Row r) v raw body out size ≡ judged_as (Row r) (wrong_option ∷ wrong_numbers ∷ over_limit ∷ no_room ∷ [])
+          → put_typed (Some r) v raw body out size ≡ judged_as (Some r) (wrong_option ∷ wrong_numbers ∷ over_limit ∷ no_room ∷ [])
       go (inr x) y = rw x
       go (inl x) (inr y) = rw (x, y, sym (numbers_held v r e) ∙ y)
       go (inl x) (inl y) = rw (x, y, sym (numbers_held v r e) ∙ y) (passed_on r e x)
@@ -220,23 +219,23 @@ module _ (v raw body out : List ℕ) (size : ℕ) where
       pick_beyond 19 (length v) _ _
       ∙ ap (λ (p : Put). pick (ltb (length v) 19) (refuse few_words) p) (go (row_of k) refl)
     where
-      go : (o : FoundRow) → row_of k ≡ o
+      go : (o : Option TypeRow) → row_of k ≡ o
           → put_typed o v raw body out size ≡ judged_as o (wrong_type ∷ wrong_option ∷ wrong_numbers ∷ over_limit ∷ no_room ∷ [])
-      go Unknown e = unfold put_typed in unfold pick in refl
-      go (Row r) e = row_judged r e ∙ sym (pick_false (refuse wrong_type) _ refl)
+      go None e = unfold put_typed in unfold pick in refl
+      go (Some r) e = row_judged r e ∙ sym (pick_false (refuse wrong_type) _ refl)
 
   -- ---- a test that fails is a check that fails
 
   abbrev failing : PutCheck → Bool
   failing = fails_as (row_of k)
 
-  rule_passes : (o : FoundRow) → row_of k ≡ o → broken o ≡ false → LengthRule k (fields_said v) (length body)
-  rule_passes Unknown e t = unknown_lengths k (fields_said v) (length body) e
-  rule_passes (Row r) e t = rule_said v (length body) ((lengths_in_words (words_fields v) (length body) k r e).0 (not-false _ t))
+  rule_passes : (o : Option TypeRow) → row_of k ≡ o → broken o ≡ false → LengthRule k (fields_said v) (length body)
+  rule_passes None e t = unknown_lengths k (fields_said v) (length body) e
+  rule_passes (Some r) e t = rule_said v (length body) ((lengths_in_words (words_fields v) (length body) k r e).0 (not-false _ t))
 
-  options_pass : (o : FoundRow) → row_of k ≡ o → fails_as o wrong_option ≡ false → PutFails v raw body out wrong_option → ⊥
-  options_pass Unknown e t w = unknown_type k e (⊎_elim (λ y. inl (y, refl)) (λ y. inr (inl y)) w.0)
-  options_pass (Row r) e t w = options_in v r e (not-false _ t) w
+  options_pass : (o : Option TypeRow) → row_of k ≡ o → fails_as o wrong_option ≡ false → PutFails v raw body out wrong_option → ⊥
+  options_pass None e t w = unknown_type k e (⊎_elim (λ y. inl (y, refl)) (λ y. inr (inl y)) w.0)
+  options_pass (Some r) e t w = options_in v r e (not-false _ t) w
 
   holds : (c : PutCheck) → failing c ≡ true → PutFails v raw body out c
   holds few_words e = ltb-true _ _ e
@@ -262,7 +261,7 @@ module _ (v raw body out : List ℕ) (size : ℕ) where
 
   -- ---- in words
 
-  abbrev refuse_said : PutCheck → Result ℕ
+  abbrev refuse_said : PutCheck → Said ℕ
   refuse_said c = refused (put_refused_as c)
 
   is_said : put_says (write_from v raw body out size) ≡ judged failing refuse_said (gives n) put_checks

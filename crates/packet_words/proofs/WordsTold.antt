@@ -6,9 +6,9 @@ use lib.ListN.{length, get_or, drop, get_or-append}
 use mathlib.Core.Bool.{Bool, true, false}
 use mathlib.Core.List.{List, [], ◌∷◌, map}
 use mathlib.Core.Logic.{⊎_elim}
-use mathlib.Core.Option.{Option, some, none}
 use mathlib.Core.Path.{◌≡◌, refl, sym, ap, ap₂, ◌∙◌}
 use native.Mathlib.Omega.{arith}
+use Rattle.std.specs.Prelude.{Option, Some, None, Result, Ok, Err}
 use Rattle.laws.specs.Choose.{pick}
 use Rattle.laws.specs.Parts.{part, store_at}
 use Rattle.protocol.specs.Checks.{gives, refused}
@@ -21,26 +21,21 @@ use Rattle.protocol.specs.Says.{read_says}
 use Rattle.protocol.specs.Types.{every_row, row_of}
 use Rattle.protocol.specs.Values.{Values, own_numbers, values_in}
 use Rattle.protocol.specs.Values as packets
-use Rattle.protocol.specs.declared.table.FoundRow.{FoundRow}
-use Rattle.protocol.specs.declared.table.FoundRow.TheVariants.{Row, Unknown}
-use Rattle.protocol.specs.declared.types.Connid.{Connid}
-use Rattle.protocol.specs.declared.types.CqData.{CqData}
 use Rattle.protocol.specs.declared.types.Fields.{Fields}
 use Rattle.protocol.specs.declared.types.Packet.{Packet}
-use Rattle.protocol.specs.declared.types.Read.{Read}
 use Rattle.protocol.specs.declared.types.Refusal.{Refusal}
 use Rattle.laws.proofs.Choosing.{pick_false, pick_true}
 use Rattle.laws.proofs.Comparing.{le_or_lt}
 use Rattle.laws.proofs.Storing.{store_start}
 use Rattle.protocol.proofs.OrderHolds.{refused_by_first_to_fail}
-use Rattle.words.specs.Presence.{bool_bit, cq_bit, cq_value}
-use Rattle.packet_words.specs.Presence.{connid_bit, connid_value}
+use Rattle.words.specs.Presence.{bool_bit, option_bit, option_value}
 use Rattle.packet_words.specs.ReaderSentences.{ReadsIntoWords, RefusedReadChangesNothing}
 use Rattle.packet_words.specs.Says.{own_by_type, took_says, words_data, words_raw_address, words_say}
 use Rattle.packet_words.specs.Values.{read_into, took_as, value_words}
 use Rattle.packet_words.specs.Writing.{field_word, type_word}
 use Rattle.packet_words.proofs.Rows.{own_fields_lem, own_of}
 use Rattle.protocol.specs.Limits.{packet_limit}
+use Rattle.protocol.specs.declared.table.TypeRow.{TypeRow}
 
 -- ---- values
 
@@ -55,26 +50,26 @@ same_values a b k o r q c d = λ i. record { kind = k i; own = o i; raw_address 
 pub own_numbers_lem : (k : ℕ) (v : Fields) → own_numbers (row_of k) v ≡ map (number_in v) (own_by_type k)
 own_numbers_lem k v = go (row_of k) ∙ ap (map (number_in v)) (own_fields_lem k)
   where
-    go : (o : FoundRow) → own_numbers o v ≡ map (number_in v) (own_of o)
-    go Unknown = unfold own_numbers in refl
-    go (Row r) = unfold own_numbers in refl
+    go : (o : Option TypeRow) → own_numbers o v ≡ map (number_in v) (own_of o)
+    go None = unfold own_numbers in refl
+    go (Some r) = unfold own_numbers in refl
 
 -- ---- the words of a packet that was read
 
-bit_told : (t : Bool) (raw : List ℕ) → ◌≡◌ {A = Option (List ℕ)} (pick (eqb (bool_bit t) 0) none (some raw)) (pick t (some raw) none)
+bit_told : (t : Bool) (raw : List ℕ) → ◌≡◌ {A = Option (List ℕ)} (pick (eqb (bool_bit t) 0) None (Some raw)) (pick t (Some raw) None)
 unfolding pick
 bit_told true raw = refl
 bit_told false raw = refl
 
-cq_told : (q : CqData) → pick (eqb (cq_bit q) 0) CqData.Absent (CqData.Present (cq_value q)) ≡ q
+cq_told : (q : Option ℕ) → pick (eqb (option_bit q) 0) None (Some (option_value q)) ≡ q
 unfolding pick
-cq_told CqData.Absent = refl
-cq_told (CqData.Present d) = refl
+cq_told None = refl
+cq_told (Some d) = refl
 
-connid_told : (q : Connid) → pick (eqb (connid_bit q) 0) Connid.Absent (Connid.Present (connid_value q)) ≡ q
+connid_told : (q : Option ℕ) → pick (eqb (option_bit q) 0) None (Some (option_value q)) ≡ q
 unfolding pick
-connid_told Connid.Absent = refl
-connid_told (Connid.Present d) = refl
+connid_told None = refl
+connid_told (Some d) = refl
 
 module _ (values : List ℕ) (p : Packet) where
   abbrev words_of : List ℕ
@@ -109,10 +104,10 @@ module _ (values : List ℕ) (p : Packet) where
   words_told bs =
       same_values _ _ kind
       (own_words (own_by_type (type_word words_of)) ∙ ap (λ (k : ℕ). map (number_in p.header.fields) (own_by_type k)) kind ∙ sym (own_numbers_lem p.header.kind _))
-      (ap₂ (λ (n : ℕ) (raw : List ℕ). pick (eqb n 0) none (some raw)) (word_at 10 (lit< tt)) (ap₂ (part bs) (word_at 11 (lit< tt)) (word_at 12 (lit< tt)))
+      (ap₂ (λ (n : ℕ) (raw : List ℕ). pick (eqb n 0) None (Some raw)) (word_at 10 (lit< tt)) (ap₂ (part bs) (word_at 11 (lit< tt)) (word_at 12 (lit< tt)))
       ∙ bit_told p.header.raw_address _)
-      (ap₂ (λ (n d : ℕ). pick (eqb n 0) CqData.Absent (CqData.Present d)) (word_at 13 (lit< tt)) (word_at 14 (lit< tt)) ∙ cq_told p.header.cq_data)
-      (ap₂ (λ (n d : ℕ). pick (eqb n 0) Connid.Absent (Connid.Present d)) (word_at 15 (lit< tt)) (word_at 16 (lit< tt)) ∙ connid_told p.header.connid)
+      (ap₂ (λ (n d : ℕ). pick (eqb n 0) None (Some d)) (word_at 13 (lit< tt)) (word_at 14 (lit< tt)) ∙ cq_told p.header.cq_data)
+      (ap₂ (λ (n d : ℕ). pick (eqb n 0) None (Some d)) (word_at 15 (lit< tt)) (word_at 16 (lit< tt)) ∙ connid_told p.header.connid)
       (ap₂ (part bs) (word_at 17 (lit< tt)) (word_at 18 (lit< tt)))
     where
       kind : type_word words_of ≡ p.header.kind
@@ -130,7 +125,7 @@ some_number reader.header_cut = lit< tt
 some_number reader.wrong_lengths = lit< tt
 
 -- no refusal has the number 0
-no_refusal : (bs : List ℕ) (k : Refusal) → read_of every_row packet_limit bs ≡ Read.Refused k → k.number ≡ 0 → ⊥
+no_refusal : (bs : List ℕ) (k : Refusal) → read_of every_row packet_limit bs ≡ Err k → k.number ≡ 0 → ⊥
 unfolding RefusedByFirstToFail
 no_refusal bs k e z =
     let (i, l, same, f) = (refused_by_first_to_fail true packet_limit bs k.number).0 (ap (read_says bs) e) in
@@ -145,10 +140,10 @@ module _ (bs values : List ℕ) where
   unfolding read_into
   few l = pick_false _ _ (lt-leb 19 (length values) l)
 
-  same_said : (o : Read) → read_of every_row packet_limit bs ≡ o → took_says bs (took_as values o) ≡ read_says bs o
+  same_said : (o : Result Packet Refusal) → read_of every_row packet_limit bs ≡ o → took_says bs (took_as values o) ≡ read_says bs o
   unfolding took_says
-  same_said (Read.Refused k) e = pick_false _ _ (ne_eqb k.number 0 (no_refusal bs k e))
-  same_said (Read.Packet p) e = pick_true _ _ refl ∙ ap gives (words_told values p bs)
+  same_said (Err k) e = pick_false _ _ (ne_eqb k.number 0 (no_refusal bs k e))
+  same_said (Ok p) e = pick_true _ _ refl ∙ ap gives (words_told values p bs)
 
 pub reads_into_words : ReadsIntoWords
 unfolding ReadsIntoWords
@@ -167,12 +162,12 @@ refused_read_changes_nothing bs values n e = ⊎_elim (λ l. read l (read_of eve
         let same : 21 ≡ n = cc in
         few bs values l ∙ ap (λ (k : ℕ). record { refusal = k; values = values }) same
 
-    read : 19 ≤ length values → (o : Read) → read_of every_row packet_limit bs ≡ o → read_into bs values ≡ record { refusal = n; values = values }
-    read l (Read.Refused k) y =
+    read : 19 ≤ length values → (o : Result Packet Refusal) → read_of every_row packet_limit bs ≡ o → read_into bs values ≡ record { refusal = n; values = values }
+    read l (Err k) y =
         let x : refused k.number ≡ refused n = sym ((reads_into_words bs values).0 l ∙ ap (read_says bs) y) ∙ e in
         let same : k.number ≡ n = cc in
         enough bs values l ∙ ap (took_as values) y ∙ ap (λ (k : ℕ). record { refusal = k; values = values }) same
-    read l (Read.Packet p) y =
+    read l (Ok p) y =
         let x : gives (values_in p bs) ≡ refused n = sym ((reads_into_words bs values).0 l ∙ ap (read_says bs) y) ∙ e in
         let z : ◌≡◌ {A = ℕ} 0 1 = cc in
         absurd (omega arith)

@@ -1,4 +1,3 @@
-pub mod Presence
 pub mod Values
 pub mod Writing
 pub mod Says

@@ -1,15 +1,12 @@
 -- What words say, and what the reader and the writer on words answer, by 01's numbers and values (01: "A packet's values are its type, that
 -- type's own fields (padding and multiuse are none; a flagged multiuse is the connid), the optional headers present and the data").
-use Rattle.std.specs.Prelude.{ℕ, eqb, get_or, List, [], ◌∷◌, map}
-use Rattle.std.proofs.Math.Option.{some, none}
+use Rattle.std.specs.Prelude.{ℕ, eqb, get_or, List, [], ◌∷◌, map, Some, None}
 use Rattle.laws.specs.Choose.{pick}
 use Rattle.laws.specs.Parts.{part}
 use Rattle.protocol.specs.ByType.{column}
-use Rattle.protocol.specs.Checks.{Result, gives, refused}
+use Rattle.protocol.specs.Checks.{Said, gives, refused}
 use Rattle.protocol.specs.Layout.{Field, credit_request, msg_id, msg_length, recv_id, recv_length, seg_length, seg_offset, send_id, tag}
 use Rattle.protocol.specs.Values.{Values}
-use Rattle.protocol.specs.declared.types.Connid.{Connid}
-use Rattle.protocol.specs.declared.types.CqData.{CqData}
 use Rattle.packet_words.specs.Values.{Took}
 use Rattle.packet_words.specs.Writing.{Put, connid_number, connid_word, cq_data_number, cq_data_word, field_word, raw_address_word, type_word}
 
@@ -33,9 +30,9 @@ words_say v raw body =
     record {
       kind = type_word v;
       own = map (field_word v) (own_by_type (type_word v));
-      raw_address = pick (eqb (raw_address_word v) 0) none (some raw);
-      cq_data = pick (eqb (cq_data_word v) 0) CqData.Absent (CqData.Present (cq_data_number v));
-      connid = pick (eqb (connid_word v) 0) Connid.Absent (Connid.Present (connid_number v));
+      raw_address = pick (eqb (raw_address_word v) 0) None (Some raw);
+      cq_data = pick (eqb (cq_data_word v) 0) None (Some (cq_data_number v));
+      connid = pick (eqb (connid_word v) 0) None (Some (connid_number v));
       body = body;
     }
 
@@ -47,13 +44,13 @@ abbrev pub words_data : List ℕ → List ℕ → List ℕ
 words_data v bs = part bs (get_or v 17 0) (get_or v 18 0)
 
 -- an answer on words: 0 and what was asked for, or "its number alone"
-abbrev pub answer_says : {A : Type 0} → ℕ → A → Result A
+abbrev pub answer_says : {A : Type 0} → ℕ → A → Said A
 answer_says answer asked = pick (eqb answer 0) (gives asked) (refused answer)
 
 -- the writer's: the packet's length
-abbrev pub put_says : Put → Result ℕ
+abbrev pub put_says : Put → Said ℕ
 put_says p = answer_says p.refusal p.size
 
 -- the reader's, of the packet in the bytes bs: its values
-unfoldable pub took_says : List ℕ → Took → Result Values
+unfoldable pub took_says : List ℕ → Took → Said Values
 took_says bs t = answer_says t.refusal (words_say t.values (words_raw_address t.values bs) (words_data t.values bs))

@@ -1,21 +1,17 @@
 -- Writing a packet from its 19 words, with the checks in 01's order: "Writer: 9, 10 (an optional header its type can't have), 11, 6, 21".
 -- Too few words come first. Only the type's own fields are looked at.
-use Rattle.std.specs.Prelude.{ℕ, ◌%◌, ◌^◌, List, [], ◌∷◌, Bool, true, not, ◌&&◌, length, get_or, leb, ltb, eqb}
+use Rattle.std.specs.Prelude.{ℕ, ◌%◌, ◌^◌, List, [], ◌∷◌, Bool, true, not, ◌&&◌, length, get_or, leb, ltb, eqb, Option, Some, None, Result, Ok, Err}
 use Rattle.laws.specs.Choose.{pick}
 use Rattle.protocol.specs.Refusals.{bad_flags, bad_length, bad_type, no_room}
-use Rattle.protocol.specs.declared.table.FoundRow.{FoundRow}
-use Rattle.protocol.specs.declared.table.FoundRow.TheVariants.{Row, Unknown}
 use Rattle.protocol.specs.declared.table.TypeRow.{TypeRow}
-use Rattle.protocol.specs.declared.types.Connid.{Connid}
-use Rattle.protocol.specs.declared.types.CqData.{CqData}
 use Rattle.protocol.specs.declared.types.Fields.{Fields}
 use Rattle.protocol.specs.declared.types.Header.{Header}
-use Rattle.protocol.specs.declared.types.Written.{Written}
 use Rattle.protocol.specs.Layout.{Field, own_fields, width}
 use Rattle.protocol.specs.Optional.{options_fit}
 use Rattle.protocol.specs.Types.{row_of}
 use Rattle.protocol.specs.Writing.{WriteLeaves, write_of}
 use Rattle.packet_words.specs.Values.{value_count}
+use Rattle.protocol.specs.declared.types.Refusal.{Refusal}
 
 -- ---- the words of the values
 
@@ -70,11 +66,11 @@ words_fields v =
       tag = field_word v Field.tag;
     }
 
-abbrev pub words_cq : List ℕ → CqData
-words_cq v = pick (eqb (cq_data_word v) 0) CqData.Absent (CqData.Present (cq_data_number v))
+abbrev pub words_cq : List ℕ → Option ℕ
+words_cq v = pick (eqb (cq_data_word v) 0) None (Some (cq_data_number v))
 
-abbrev pub words_connid : List ℕ → Connid
-words_connid v = pick (eqb (connid_word v) 0) Connid.Absent (Connid.Present (connid_number v % 2 ^ 32))
+abbrev pub words_connid : List ℕ → Option ℕ
+words_connid v = pick (eqb (connid_word v) 0) None (Some (connid_number v % 2 ^ 32))
 
 abbrev pub words_header : List ℕ → Header
 words_header v =
@@ -119,9 +115,9 @@ pub record Put : Type 0 where
   pub out : List ℕ
   pub size : ℕ
 
-abbrev pub put_as : ℕ → List ℕ → Written → Put
-put_as size out (Written.Refused k) = record { refusal = k.number; out = out; size = size }
-put_as size out (Written.Length n) = record { refusal = 0; out = out; size = n }
+abbrev pub put_as : ℕ → List ℕ → Result ℕ Refusal → Put
+put_as size out (Err k) = record { refusal = k.number; out = out; size = size }
+put_as size out (Ok n) = record { refusal = 0; out = out; size = n }
 
 -- of what the packet writer leaves
 abbrev pub put_of : ℕ → WriteLeaves → Put
@@ -132,9 +128,9 @@ refused_put k out size = record { refusal = k; out = out; size = size }
 
 -- 9; then 10 (an optional header its type can't have); then a number that its field cannot hold, the first cause of 11; then the packet
 -- writer's own checks: lengths 11, 6, 21
-unfoldable pub put_typed : FoundRow → List ℕ → List ℕ → List ℕ → List ℕ → ℕ → Put
-put_typed Unknown v raw body out size = refused_put bad_type.number out size
-put_typed (Row r) v raw body out size =
+unfoldable pub put_typed : Option TypeRow → List ℕ → List ℕ → List ℕ → List ℕ → ℕ → Put
+put_typed None v raw body out size = refused_put bad_type.number out size
+put_typed (Some r) v raw body out size =
     pick (options_fit r (words_header v))
     (pick (words_fit r v)
     (put_of size (write_of (words_header v) raw body out))

@@ -1,7 +1,6 @@
 // A packet's values as 64-bit words, for callers in other languages.
 #![tactic(auto)]
 
-mod presence;
 mod reading;
 mod types;
 mod writing;

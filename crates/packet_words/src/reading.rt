@@ -2,9 +2,8 @@
 ghost use Rattle.std.specs.Prelude.{◌≡◌};
 ghost use Rattle.packet_words.specs.Values.{value_words, read_into};
 
-use crate::presence;
 use crate::types::{FEW_WORDS, TAKEN, VALUES};
-use protocol::{Packet, Read};
+use protocol::Packet;
 
 fn value_words(packet: Packet) -> [u64; 19]
     ensures { result ≡ value_words packet }
@@ -29,10 +28,10 @@ fn value_words(packet: Packet) -> [u64; 19]
         words::bit_of(header.raw_address),
         raw.at as u64,
         raw.size as u64,
-        words::cq_bit(cq),
-        words::cq_value(cq),
-        presence::connid_bit(connid),
-        presence::connid_value(connid),
+        words::option_bit(cq),
+        words::option_value(cq),
+        words::option_bit(connid),
+        words::option_value(connid.map(u64::from)),
         data.at as u64,
         data.size as u64,
     ]
@@ -47,8 +46,8 @@ pub fn read(bytes: &[u8], values: &mut [u64]) -> usize
         return FEW_WORDS;
     }
     match packet::read(bytes) {
-        Read::Refused(refusal) => refusal.number as usize,
-        Read::Packet(packet) => {
+        Err(refusal) => refusal.number as usize,
+        Ok(packet) => {
             words::put_words(values, 0, &value_words(packet));
             TAKEN
         }

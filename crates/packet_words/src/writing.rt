@@ -7,10 +7,7 @@ ghost use Rattle.protocol.specs.Writing.{write_of};
 ghost use Rattle.packet_words.specs.Writing.{all_narrow, fields_fit, holds, words_fit, words_fields, words_cq, words_connid, words_header, put_of, put_typed, write_from};
 
 use crate::types::{BAD_NUMBER, BAD_OPTION, BAD_TYPE, FEW_WORDS, TAKEN, VALUES};
-use protocol::{
-    CREDIT_REQUEST, Connid, CqData, Fields, FoundRow, Header, MSG_ID, RECV_ID, SEND_ID, TypeRow,
-    Written,
-};
+use protocol::{CREDIT_REQUEST, Fields, Header, MSG_ID, RECV_ID, SEND_ID, TypeRow};
 
 // The least number that 32 bits do not hold.
 const WIDE: u64 = 0x1_0000_0000;
@@ -84,25 +81,25 @@ fn fields_in(values: &[u64]) -> Fields
     }
 }
 
-fn cq_in(values: &[u64]) -> CqData
+fn cq_in(values: &[u64]) -> Option<u64>
     requires { 19 ≤ length values.now }
     ensures { result ≡ words_cq values.now }
 {
     if values[13] == 0 {
-        CqData::Absent
+        None
     } else {
-        CqData::Present(values[14])
+        Some(values[14])
     }
 }
 
-fn connid_in(values: &[u64]) -> Connid
+fn connid_in(values: &[u64]) -> Option<u32>
     requires { 19 ≤ length values.now }
     ensures { result ≡ words_connid values.now }
 {
     if values[15] == 0 {
-        Connid::Absent
+        None
     } else {
-        Connid::Present((values[16] % 0x1_0000_0000) as u32)
+        Some((values[16] % 0x1_0000_0000) as u32)
     }
 }
 
@@ -155,8 +152,8 @@ fn write_header(
     ensures { record { refusal = result; out = out.new; size = size.new } ≡ put_of size.old (write_of (words_header values.now) raw_address.now «data».now out.old) }
 {
     match packet::write(header_in(values), raw_address, data, out) {
-        Written::Refused(refusal) => refusal.number as usize,
-        Written::Length(n) => {
+        Err(refusal) => refusal.number as usize,
+        Ok(n) => {
             *size = n;
             TAKEN
         }
@@ -174,7 +171,7 @@ fn write_as(
 ) -> usize
     requires sound { Sound row }
     requires in_bounds { 19 ≤ length values.now }
-    ensures { record { refusal = result; out = out.new; size = size.new } ≡ put_typed (FoundRow.Row row) values.now raw_address.now «data».now out.old size.old }
+    ensures { record { refusal = result; out = out.new; size = size.new } ≡ put_typed (Some row) values.now raw_address.now «data».now out.old size.old }
 {
     if !options_fit(row, values) {
         return BAD_OPTION;
@@ -208,7 +205,7 @@ pub fn write(
         return write_header(values, raw_address, data, out, size);
     }
     match headers::table::find(kind as u8) {
-        FoundRow::Unknown => BAD_TYPE,
-        FoundRow::Row(row) => write_as(row, values, raw_address, data, out, size),
+        None => BAD_TYPE,
+        Some(row) => write_as(row, values, raw_address, data, out, size),
     }
 }

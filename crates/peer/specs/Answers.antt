@@ -1,7 +1,6 @@
 -- What is made of an answer: one table for a post's answer, one for a cancel's and one for a packet's. A definition by answers is made of
 -- these, so that an answer more is a line in each of them.
-use Rattle.std.specs.Prelude.{ℕ}
-use Rattle.protocol.specs.declared.types.CqData.{CqData}
+use Rattle.std.specs.Prelude.{ℕ, Option}
 use Rattle.peer.specs.declared.types.Answer.{Answer}
 
 -- ---- the tables: `other` at each answer that is not named
@@ -27,7 +26,7 @@ on_cancelled other cancelled (Answer.Truncated slot id length) = other
 on_cancelled other cancelled (Answer.Missing received first) = other
 
 -- the answers that take a packet
-abbrev pub on_taken {ℓ} : {A : Type ℓ} → A → A → (ℕ → A) → (ℕ → ℕ → ℕ → CqData → A) → (ℕ → ℕ → ℕ → A) → Answer → A
+abbrev pub on_taken {ℓ} : {A : Type ℓ} → A → A → (ℕ → A) → (ℕ → ℕ → ℕ → Option ℕ → A) → (ℕ → ℕ → ℕ → A) → Answer → A
 on_taken other stored granted done truncated (Answer.Refused k) = other
 on_taken other stored granted done truncated (Answer.Posted slot) = other
 on_taken other stored granted done truncated (Answer.Cancelled slot) = other
@@ -42,7 +41,7 @@ on_taken other stored granted done truncated (Answer.Missing received first) = o
 abbrev pub on_granted {ℓ} : {A : Type ℓ} → A → (ℕ → A) → Answer → A
 on_granted other granted a = on_taken other other granted (λ slot id n cq. other) (λ slot id n. other) a
 
-abbrev pub on_done {ℓ} : {A : Type ℓ} → A → (ℕ → ℕ → ℕ → CqData → A) → Answer → A
+abbrev pub on_done {ℓ} : {A : Type ℓ} → A → (ℕ → ℕ → ℕ → Option ℕ → A) → Answer → A
 on_done other done a = on_taken other other (λ n. other) done (λ slot id n. other) a
 
 -- the packet's segment is accepted

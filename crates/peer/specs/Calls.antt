@@ -1,9 +1,8 @@
 -- One peer's step: a call on the peer and its own map words (01's table of refusals: the order of each call's checks from 5 on).
-use Rattle.std.specs.Prelude.{ℕ, ◌+◌, Bool, false, ◌||◌, List, [], ◌∷◌, length, set, nat_le, nat_lt}
+use Rattle.std.specs.Prelude.{ℕ, ◌+◌, Bool, false, ◌||◌, List, [], ◌∷◌, length, set, nat_le, nat_lt, Result, Ok, Err}
 use Rattle.laws.specs.Choose.{pick}
 use Rattle.bitmap.specs.Map.{count_set, first_clear}
 use Rattle.protocol.specs.Refusals.{bad_length, bad_slot, no_slot, overlaps, short_reply}
-use Rattle.protocol.specs.declared.types.Read.{Read}
 use Rattle.protocol.specs.Reading.{read_of}
 use Rattle.protocol.specs.Values.{bytes_at}
 use Rattle.protocol.specs.Types.{served_row}
@@ -19,6 +18,8 @@ use Rattle.peer.specs.Incomings.{incoming_of}
 use Rattle.peer.specs.Judging.{judge}
 use Rattle.peer.specs.Matching.{vacancy}
 use Rattle.peer.specs.State.{slot_count, slot_with, phase_at, overlaps_use}
+use Rattle.protocol.specs.declared.types.Packet.{Packet}
+use Rattle.protocol.specs.declared.types.Refusal.{Refusal}
 
 -- ---- a call
 
@@ -112,9 +113,9 @@ post_effect area p ws r =
 -- ---- packet
 
 -- a packet that was read is judged, and the verdict carried out
-unfoldable pub read_effect : ℕ → Peer → List ℕ → List ℕ → Read → Effect
-read_effect limit p ws bs (Read.Refused k) = refuse p ws k
-read_effect limit p ws bs (Read.Packet q) = carry limit p ws (incoming_of q) (bytes_at bs q.«data») (judge p ws (incoming_of q))
+unfoldable pub read_effect : ℕ → Peer → List ℕ → List ℕ → Result Packet Refusal → Effect
+read_effect limit p ws bs (Err k) = refuse p ws k
+read_effect limit p ws bs (Ok q) = carry limit p ws (incoming_of q) (bytes_at bs q.«data») (judge p ws (incoming_of q))
 
 -- "Packet order: .. 5, 6, then 7 if under 4 bytes, 8, 9, 10, 7, 11; then" the judgement's
 unfoldable pub packet_effect : ℕ → Peer → List ℕ → List ℕ → ℕ → Effect

@@ -1,8 +1,7 @@
 -- What demand 2 says of a peer's calls, from its history alone. Each claim is about every call after every history.
-use Rattle.std.specs.Prelude.{◌≡◌, ℕ, ◌+◌, ◌-◌, ◌/◌, ◌%◌, ◌^◌, ◌<◌, ◌≤◌, Bool, true, false, List, [], ◌∷◌, length, slice_index, slice_index_or}
+use Rattle.std.specs.Prelude.{◌≡◌, ℕ, ◌+◌, ◌-◌, ◌/◌, ◌%◌, ◌^◌, ◌<◌, ◌≤◌, Bool, true, false, List, [], ◌∷◌, length, slice_index, slice_index_or, Ok}
 use Rattle.laws.specs.Choose.{pick}
 use Rattle.protocol.specs.declared.types.Packet.{Packet}
-use Rattle.protocol.specs.declared.types.Read.{Read}
 use Rattle.protocol.specs.Reading.{read_of}
 use Rattle.protocol.specs.Types.{served_row}
 use Rattle.peer.specs.declared.types.Answer.{Answer}
@@ -78,7 +77,7 @@ is_grant a = on_granted false (λ n. true) a
 unfoldable pub MatchedInOrder : Type 0
 MatchedInOrder =
     (area limit : ℕ) (calls : List Call) (bs : List ℕ) (room : ℕ) (q : Packet)
-    → read_of served_row limit bs ≡ Read.Packet q
+    → read_of served_row limit bs ≡ Ok q
     → takes (expected area limit (history area limit calls) (packet bs room)) ≡ true
     → (target_of_call limit (history area limit calls) (packet bs room)).matched ≡ true
     → InOrder (history area limit calls) q (target_of_call limit (history area limit calls) (packet bs room))
@@ -104,7 +103,7 @@ TruncateClaim l q t a =
 unfoldable pub TruncatedAboveCapacity : Type 0
 TruncatedAboveCapacity =
     (area limit : ℕ) (calls : List Call) (bs : List ℕ) (room : ℕ) (q : Packet)
-    → read_of served_row limit bs ≡ Read.Packet q
+    → read_of served_row limit bs ≡ Ok q
     → TruncateClaim (history area limit calls) q (target_of_call limit (history area limit calls) (packet bs room))
     (expected area limit (history area limit calls) (packet bs room))
 

@@ -1,12 +1,10 @@
 -- What 01 demands of a call after a history: every refusal from 5 on, in its order, every other answer with its numbers, and what comes with it.
-use Rattle.std.specs.Prelude.{ℕ, suc, ◌+◌, Bool, false, ◌&&◌, ◌||◌, List, [], ◌∷◌, nat_le, nat_lt}
+use Rattle.std.specs.Prelude.{ℕ, suc, ◌+◌, Bool, false, ◌&&◌, ◌||◌, List, [], ◌∷◌, nat_le, nat_lt, None, Result, Ok, Err}
 use Rattle.laws.specs.Choose.{pick}
 use Rattle.bitmap.specs.Offsets.{some_of, count_of, first_not}
 use Rattle.protocol.specs.Cts.{cts_bytes}
 use Rattle.protocol.specs.Refusals.{bad_length, bad_slot, beyond_grant, differs, early, late, no_receive, no_slot, overlaps, repeated, short_reply}
 use Rattle.protocol.specs.declared.table.Shape.TheVariants.{Eager}
-use Rattle.protocol.specs.declared.types.CqData.{CqData}
-use Rattle.protocol.specs.declared.types.Read.{Read}
 use Rattle.protocol.specs.declared.types.Refusal.{Refusal}
 use Rattle.protocol.specs.Reading.{read_of}
 use Rattle.protocol.specs.Values.{bytes_at}
@@ -27,6 +25,7 @@ use Rattle.peer.specs.Incomings.{incoming_of, is_rtm, is_long}
 use Rattle.peer.specs.Matching.{ahead, same_message}
 use Rattle.peer.specs.Plain.{Plain, Role, Target, begun_at, enter_at, first_posted, idle, more_at, nowhere, open_in, receiving, roles, segment_of, slot_entry, waiting}
 use Rattle.peer.specs.State.{slot_count, overlap}
+use Rattle.protocol.specs.declared.types.Packet.{Packet}
 
 -- ---- post: "11, 19, 18"
 
@@ -116,9 +115,9 @@ expect_found limit l h bytes (FoundOpen.At i o) = pick (is_rtm h.shape) (expect_
 expect_found limit l h bytes FoundOpen.Nothing = pick (is_rtm h.shape) (expect_new limit l h bytes) (refusing late)
 
 -- the reader's refusals come first
-unfoldable pub expect_read : ℕ → Plain → List ℕ → Read → Ruling
-expect_read limit l bs (Read.Refused k) = refusing k
-expect_read limit l bs (Read.Packet q) =
+unfoldable pub expect_read : ℕ → Plain → List ℕ → Result Packet Refusal → Ruling
+expect_read limit l bs (Err k) = refusing k
+expect_read limit l bs (Ok q) =
     expect_found limit l (incoming_of q) (bytes_at bs q.«data») (open_in (incoming_of q).id 0 (roles l.entries))
 
 -- 5 before all: "reply buffer below 24 bytes"
@@ -169,7 +168,7 @@ no_message =
       granted = 0;
       send_id = 0;
       credit_request = 0;
-      cq_data = CqData.Absent;
+      cq_data = None;
     }
 
 abbrev pub message_of : Role → Message

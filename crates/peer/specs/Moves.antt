@@ -1,11 +1,10 @@
 -- What each answer of a peer's call leaves of its slots, next id, map and area, in 01's own words, over roles, bits and bytes: accepted segments,
 -- the missing-byte report, and the statement of every answer. Proved in proofs/PeerSteps/MovesHold.antt and proofs/PeerSteps/SlotsRound.antt.
-use Rattle.std.specs.Prelude.{◌≡◌, ℕ, ◌+◌, ◌-◌, ◌*◌, ◌^◌, ◌<◌, ◌≤◌, min, max, true, ◌⊎◌, ◌↔◌, List, [], length, drop}
+use Rattle.std.specs.Prelude.{◌≡◌, ℕ, ◌+◌, ◌-◌, ◌*◌, ◌^◌, ◌<◌, ◌≤◌, min, max, true, ◌⊎◌, ◌↔◌, List, [], length, drop, Option}
 use mathlib.Core.List.{Memᴰ}
 use Rattle.bitmap.specs.Map.{bit_at}
 use Rattle.protocol.specs.CtsSentences.{ReadsAsCts}
 use Rattle.protocol.specs.Sentences.{head_in}
-use Rattle.protocol.specs.declared.types.CqData.{CqData}
 use Rattle.peer.specs.Calls.{Call, cancel, packet, peer_step, post, report}
 use Rattle.peer.specs.Checks.{Long}
 use Rattle.peer.specs.Effects.{Effect}
@@ -119,7 +118,7 @@ pub record Granting (limit : ℕ) (p : Peer) (ws : List ℕ) (c : Call) (i : ℕ
       → ReadsAsCts f.reply o.message.send_id o.message.id n
 
 -- "Done frees the slot and leaves the bits": the bits are those that the segment's acceptance leaves
-pub record Finishing (p : Peer) (ws : List ℕ) (c : Call) (i : ℕ) (o : Inbound) (id n : ℕ) (cq : CqData) (f : Effect) : Type 0 where
+pub record Finishing (p : Peer) (ws : List ℕ) (c : Call) (i : ℕ) (o : Inbound) (id n : ℕ) (cq : Option ℕ) (f : Effect) : Type 0 where
   pub taking : Taking p ws c i o f
   pub now : role_at f.peer i ≡ idle
   pub id_is : id ≡ o.message.id

@@ -1,10 +1,9 @@
 -- Where a message comes from, by the calls of a history: the post that its slot was posted with, and the packet that matched it, byte by byte.
 -- Proved in proofs/History/OriginsHold.antt and proofs/History/OriginReplies.antt.
-use Rattle.std.specs.Prelude.{◌≡◌, ℕ, ◌+◌, ◌<◌, ◌≤◌, false, ◌≢◌, ◌⊎◌, ◌↔◌, List, [], ◌∷◌, length, drop, set, replicate, slice_index, slice_index_or, slice_set}
+use Rattle.std.specs.Prelude.{◌≡◌, ℕ, ◌+◌, ◌<◌, ◌≤◌, false, ◌≢◌, ◌⊎◌, ◌↔◌, List, [], ◌∷◌, length, drop, set, replicate, slice_index, slice_index_or, slice_set, Option, Some, None}
 use Rattle.laws.specs.Choose.{pick}
 use Rattle.protocol.specs.CtsSentences.{ReadsAsCts}
 use Rattle.protocol.specs.Sentences.{bit_of, flags_in, head_in, raw_end}
-use Rattle.protocol.specs.declared.types.CqData.{CqData}
 use Rattle.peer.specs.Answers.{on_accepted, on_granted, on_posted, on_taken}
 use Rattle.peer.specs.Calls.{Call, cancel, packet, post, report}
 use Rattle.peer.specs.Checks.{Differs}
@@ -67,8 +66,8 @@ pub record BegunBy (bs : List ℕ) (m : Message) : Type 0 where
   -- "68/69 LONGCTS MSG/TAG RTM .. msg_id 4, msg_length 8, send_id 4, credit_request 4"
   pub long : (type_in bs ≡ 68) ⊎ (type_in bs ≡ 69) → (m.send_id ≡ le_at 4 bs 16) × (m.credit_request ≡ le_at 4 bs 20)
   -- "CQ data from the matching packet if any": flag 0x2, behind the raw address
-  pub cq_data : bit_of (flags_in bs) 1 ≡ 1 → m.cq_data ≡ CqData.Present (le_at 8 bs (raw_end (type_in bs) (flags_in bs) bs))
-  pub no_cq_data : bit_of (flags_in bs) 1 ≡ 0 → m.cq_data ≡ CqData.Absent
+  pub cq_data : bit_of (flags_in bs) 1 ≡ 1 → m.cq_data ≡ Some (le_at 8 bs (raw_end (type_in bs) (flags_in bs) bs))
+  pub no_cq_data : bit_of (flags_in bs) 1 ≡ 0 → m.cq_data ≡ None
 
 -- a receive waits as it was posted; a message is open in the receive that was posted, and is the matching packet's
 abbrev pub FromOrigin : Origin → Role → Type 0
@@ -104,7 +103,7 @@ pub record Comes (g : Origin) (t : Target) : Type 0 where
   pub begun : BegunBy g.rtm message.message
 
 -- "done (slot, id, length, CQ data from the matching packet if any)"
-pub record DoneFrom (g : Origin) (t : Target) (slot id n : ℕ) (cq : CqData) : Type 0 where
+pub record DoneFrom (g : Origin) (t : Target) (slot id n : ℕ) (cq : Option ℕ) : Type 0 where
   pub comes : Comes g t
   pub slot_is : slot ≡ t.index
   pub id_is : id ≡ comes.message.message.id

@@ -1,7 +1,6 @@
 -- What an answer of a call says, by 01's word and numbers ("For an answer that is an enum, a definition gives this paper's number and values for
 -- each of its cases").
-use Rattle.std.specs.Prelude.{ℕ, List, [], ◌∷◌}
-use Rattle.protocol.specs.declared.types.CqData.{CqData}
+use Rattle.std.specs.Prelude.{ℕ, List, [], ◌∷◌, Option, Some, None}
 use Rattle.peer.specs.declared.types.Answer.{Answer}
 
 -- 01's answers, with their numbers in its order
@@ -16,9 +15,9 @@ abbrev pub say : Word → List ℕ → Saying
 say w ns = record { word = w; numbers = ns }
 
 -- "CQ data from the matching packet if any"
-abbrev pub cq_numbers : CqData → List ℕ
-cq_numbers CqData.Absent = []
-cq_numbers (CqData.Present d) = d ∷ []
+abbrev pub cq_numbers : Option ℕ → List ℕ
+cq_numbers None = []
+cq_numbers (Some d) = d ∷ []
 
 abbrev pub said : Answer → Saying
 said (Answer.Refused k) = say refused (k.number ∷ [])

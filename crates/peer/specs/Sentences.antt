@@ -1,6 +1,6 @@
 -- The tests that engine and plain receiver share, in 01's own words, over numbers, bits and bytes.
 -- Proved in proofs/Sentences/SentencesHold.antt, proofs/Sentences/OffsetsHold.antt and proofs/Sentences/FieldsHold.antt.
-use Rattle.std.specs.Prelude.{◌≡◌, ℕ, ◌+◌, ◌%◌, ◌^◌, ◌<◌, ◌≤◌, Bool, true, false, ◌≢◌, ◌⊎◌, ◌↔◌, List, [], ◌∷◌, length, get_or, slice_index, slice_index_or}
+use Rattle.std.specs.Prelude.{◌≡◌, ℕ, ◌+◌, ◌%◌, ◌^◌, ◌<◌, ◌≤◌, Bool, true, false, ◌≢◌, ◌⊎◌, ◌↔◌, List, [], ◌∷◌, length, get_or, slice_index, slice_index_or, Ok}
 use mathlib.Core.List.{Memᴰ}
 use Rattle.bitmap.specs.Offsets.{count_of, first_not, some_of}
 use Rattle.protocol.specs.ByType.{tagged_told}
@@ -8,7 +8,6 @@ use Rattle.protocol.specs.Sentences.{bit_of}
 use Rattle.protocol.specs.Reading.{read_of}
 use Rattle.protocol.specs.declared.table.Shape.{Shape}
 use Rattle.protocol.specs.declared.types.Packet.{Packet}
-use Rattle.protocol.specs.declared.types.Read.{Read}
 use Rattle.protocol.specs.Types.{served_row}
 use Rattle.peer.specs.Coverage.{Segment, all_of, covers}
 use Rattle.peer.specs.Incomings.{incoming_of, is_eager, is_long, is_medium, is_rtm}
@@ -179,4 +178,4 @@ pub record IncomingTold (bs : List ℕ) (h : Incoming) : Type 0 where
   pub no_tag : tagged_told (slice_index bs 0) ≡ false → h.tag ≡ 0
 
 unfoldable pub ReadAsTheTableSays : Type 0
-ReadAsTheTableSays = (limit : ℕ) (bs : List ℕ) (q : Packet) → read_of served_row limit bs ≡ Read.Packet q → IncomingTold bs (incoming_of q)
+ReadAsTheTableSays = (limit : ℕ) (bs : List ℕ) (q : Packet) → read_of served_row limit bs ≡ Ok q → IncomingTold bs (incoming_of q)

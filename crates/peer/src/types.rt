@@ -1,5 +1,5 @@
 // The state of one peer, what a packet says, and what a call answers.
-use protocol::{CqData, Refusal, Shape, Span};
+use protocol::{Refusal, Shape, Span};
 
 // What a post asks for: a range of the peer's area, for messages of a kind and a tag.
 #[derive(Clone, Copy)]
@@ -24,7 +24,7 @@ pub struct Incoming {
     pub size: usize,
     pub send_id: u32,
     pub credit_request: u32,
-    pub cq_data: CqData,
+    pub cq_data: Option<u64>,
 }
 
 // An open message, as the matching packet began it: shape and tagged are the type's. CTSDATA may
@@ -39,7 +39,7 @@ pub struct Message {
     pub granted: usize,
     pub send_id: u32,
     pub credit_request: u32,
-    pub cq_data: CqData,
+    pub cq_data: Option<u64>,
 }
 
 // An open message in its receive.
@@ -117,7 +117,7 @@ pub enum Answer {
         slot: usize,
         id: u32,
         length: usize,
-        cq_data: CqData,
+        cq_data: Option<u64>,
     },
     Truncated {
         slot: usize,

@@ -6,6 +6,7 @@ use mathlib.Core.Bool.{true, false, not}
 use mathlib.Core.List.{List, []}
 use mathlib.Core.Path.{◌≡◌, sym, ap, ap₂, ◌∙◌, subst}
 use native.Mathlib.Omega.{arith}
+use Rattle.std.specs.Prelude.{Option, Some, Result, Ok, Err}
 use Rattle.laws.specs.Choose.{pick}
 use Rattle.laws.specs.Parts.{store_at}
 use Rattle.protocol.specs.ByType.{fields_told}
@@ -20,15 +21,11 @@ use Rattle.protocol.specs.Refusals.{refusal}
 use Rattle.protocol.specs.Types.{admit, every_row, row_of}
 use Rattle.protocol.specs.WriterSentences.{WriterCheck, broken_lengths, misplaced_header, no_type, over_longest, packet_length, short_buffer, write_refused_as, writer_check_at, writer_checks}
 use Rattle.protocol.specs.Writing.{WriteLeaves, packet_bytes, write_of}
-use Rattle.protocol.specs.declared.table.FoundRow.{FoundRow}
-use Rattle.protocol.specs.declared.table.FoundRow.TheVariants.{Row}
 use Rattle.protocol.specs.declared.table.TypeRow.{TypeRow}
 use Rattle.protocol.specs.declared.types.Fields.{Fields}
 use Rattle.protocol.specs.declared.types.Header.{Header}
 use Rattle.protocol.specs.declared.types.Packet.{Packet}
-use Rattle.protocol.specs.declared.types.Read.{Read}
 use Rattle.protocol.specs.declared.types.Refusal.{Refusal}
-use Rattle.protocol.specs.declared.types.Written.{Written}
 use Rattle.wire.specs.LittleEndian.{le_at}
 use Rattle.protocol.proofs.FirstFailing.{all_pass, judged_ap, none_of}
 use Rattle.protocol.proofs.FoundRows.{is_unknown, row_at, row_out}
@@ -44,18 +41,18 @@ pub record ReadAs (limit : ℕ) (bs : List ℕ) (r : TypeRow) : Type 0 where
   pub allowed : length bs ≤ limit
   pub based : 4 ≤ length bs
   pub version : get_or bs 1 0 ≡ 4
-  pub row : row_of (get_or bs 0 0) ≡ Row r
+  pub row : row_of (get_or bs 0 0) ≡ Some r
   pub flags : flags_fit r (le_at 2 bs 2) ≡ true
   pub inside : data_from r (le_at 2 bs 2) bs ≤ length bs
   pub lengths : lengths_fit r.shape (fields_in (layout r) 4 bs) (length bs - data_from r (le_at 2 bs 2) bs) ≡ true
 
-pub read_as : (limit : ℕ) (bs : List ℕ) (r : TypeRow) → ReadAs limit bs r → read_of every_row limit bs ≡ Read.Packet (packet_of r (le_at 2 bs 2) bs)
+pub read_as : (limit : ℕ) (bs : List ℕ) (r : TypeRow) → ReadAs limit bs r → read_of every_row limit bs ≡ Ok (packet_of r (le_at 2 bs 2) bs)
 unfolding admit pick
 read_as limit bs r a =
     is_judged true limit bs
-    ∙ none_of wrong_lengths (failing true limit bs) (λ c. Read.Refused (refusal (refused_as c))) (Read.Packet (passed_as true limit bs (row_of k))) reader_checks
+    ∙ none_of wrong_lengths (failing true limit bs) (λ c. Err (refusal (refused_as c))) (Ok (passed_as true limit bs (row_of k))) reader_checks
     (λ i l. pass (check_at i))
-    ∙ ap (λ (o : FoundRow). Read.Packet (passed_as true limit bs o)) a.row
+    ∙ ap (λ (o : Option TypeRow). Ok (passed_as true limit bs o)) a.row
   where
     k : ℕ
     k = get_or bs 0 0
@@ -69,33 +66,33 @@ read_as limit bs r a =
     pass over_limit = le-ltb limit (length bs) a.allowed
     pass no_base = le-ltb (length bs) 4 a.based
     pass wrong_version = ap not (eq-eqb (get_or bs 1 0) 4 a.version)
-    pass wrong_type = ap (λ (o : FoundRow). is_unknown (admit every_row o)) a.row
+    pass wrong_type = ap (λ (o : Option TypeRow). is_unknown (admit every_row o)) a.row
     pass wrong_flags = row_at _ r (λ q. not (flags_fit q (le_at 2 bs 2))) a.row ∙ ap not a.flags
     pass header_cut = le-ltb (length bs) (head_in bs) (rw (row_head bs r a.row a.flags) at a.inside)
     pass wrong_lengths = row_at _ r (λ q. not (lengths_fit q.shape (fields_told bs k) (length bs - head_in bs))) a.row ∙ ap not fit
 
-no_packet : (k : Refusal) (p : Packet) → Read.Refused k ≡ Read.Packet p → ⊥
+no_packet : (k : Refusal) (p : Packet) → Err k ≡ Ok p → ⊥
 no_packet k p e = let z : ◌≡◌ {A = ℕ} 0 1 = cc in omega arith
 
 pub as_read : (limit : ℕ) (bs : List ℕ) (p : Packet)
-    → read_of every_row limit bs ≡ Read.Packet p
+    → read_of every_row limit bs ≡ Ok p
     → (r : TypeRow) × ReadAs limit bs r × (p ≡ packet_of r (le_at 2 bs 2) bs)
 as_read limit bs p e = accepted (of_row true (row_of k) _ (row_out _ (pass wrong_type)).1).0
   where
     k : ℕ
     k = get_or bs 0 0
 
-    tests : ((i : ℕ) → i < 7 → failing true limit bs (check_at i) ≡ false) × (Read.Packet (passed_as true limit bs (row_of k)) ≡ Read.Packet p)
+    tests : ((i : ℕ) → i < 7 → failing true limit bs (check_at i) ≡ false) × (◌≡◌ {A = Result Packet Refusal} (Ok (passed_as true limit bs (row_of k))) (Ok p))
     tests =
-        all_pass wrong_lengths (failing true limit bs) (λ c. Read.Refused (refusal (refused_as c))) (Read.Packet (passed_as true limit bs (row_of k))) reader_checks
-        (Read.Packet p)
+        all_pass wrong_lengths (failing true limit bs) (λ c. Err (refusal (refused_as c))) (Ok (passed_as true limit bs (row_of k))) reader_checks
+        (Ok p)
         (λ c. no_packet _ p)
         (sym (is_judged true limit bs) ∙ e)
 
     pass : (c : ReaderCheck) → failing true limit bs c ≡ false
     pass c = let (i, l, same) = placed c in ap (failing true limit bs) (sym same) ∙ tests.0 i l
 
-    accepted : {r : TypeRow} → row_of k ≡ Row r → (r : TypeRow) × ReadAs limit bs r × (p ≡ packet_of r (le_at 2 bs 2) bs)
+    accepted : {r : TypeRow} → row_of k ≡ Some r → (r : TypeRow) × ReadAs limit bs r × (p ≡ packet_of r (le_at 2 bs 2) bs)
     accepted {r} x = (
       r,
       record {
@@ -116,13 +113,13 @@ as_read limit bs p e = accepted (of_row true (row_of k) _ (row_out _ (pass wrong
 
         same : p ≡ packet_of r (le_at 2 bs 2) bs
         same =
-            let y : Read.Packet (packet_of r (le_at 2 bs 2) bs) ≡ Read.Packet p =
-            ap (λ (o : FoundRow). Read.Packet (passed_as true limit bs o)) (sym x) ∙ tests.1 in
+            let y : Ok (packet_of r (le_at 2 bs 2) bs) ≡ Ok p =
+            ap (λ (o : Option TypeRow). Ok (passed_as true limit bs o)) (sym x) ∙ tests.1 in
             cc
 
 -- a packet of the type r is written
 pub record WrittenAs (h : Header) (raw body out : List ℕ) (r : TypeRow) : Type 0 where
-  pub row : row_of h.kind ≡ Row r
+  pub row : row_of h.kind ≡ Some r
   pub options : options_fit r h ≡ true
   pub lengths : lengths_fit r.shape h.fields (length body) ≡ true
   pub allowed : length (packet_bytes r h [] raw body) ≤ packet_limit
@@ -130,13 +127,13 @@ pub record WrittenAs (h : Header) (raw body out : List ℕ) (r : TypeRow) : Type
 
 pub write_as : (h : Header) (raw body out : List ℕ) (r : TypeRow)
     → WrittenAs h raw body out r
-    → write_of h raw body out ≡ record { answer = Written.Length (length (packet_bytes r h [] raw body)); out = store_at out 0 (packet_bytes r h [] raw body) }
+    → write_of h raw body out ≡ record { answer = Ok (length (packet_bytes r h [] raw body)); out = store_at out 0 (packet_bytes r h [] raw body) }
 write_as h raw body out r a =
     write_judged h raw body out
     ∙ none_of short_buffer (write_failing h raw body out) (refusing h raw body out) (written h raw body out (row_of h.kind)) writer_checks
     (λ i l. pass (writer_check_at i))
     ∙ ap (written h raw body out) a.row
-    ∙ ap (λ (m : ℕ). record { answer = Written.Length m; out = store_at out 0 (packet_bytes r h [] raw body) }) (sym size)
+    ∙ ap (λ (m : ℕ). record { answer = Ok m; out = store_at out 0 (packet_bytes r h [] raw body) }) (sym size)
   where
     size : length (packet_bytes r h [] raw body) ≡ packet_length h (length raw) (length body)
     size = length_in_words h raw body r a.row a.options
@@ -148,11 +145,11 @@ write_as h raw body out r a =
     pass over_longest = le-ltb packet_limit (packet_length h (length raw) (length body)) (omega (arith, size, a.allowed))
     pass short_buffer = le-ltb (length out) (packet_length h (length raw) (length body)) (omega (arith, size, a.room))
 
-no_length : (k : Refusal) (n : ℕ) → Written.Refused k ≡ Written.Length n → ⊥
+no_length : (k : Refusal) (n : ℕ) → Err k ≡ Ok n → ⊥
 no_length k n e = let z : ◌≡◌ {A = ℕ} 0 1 = cc in omega arith
 
 pub as_written : (h : Header) (raw body out : List ℕ) (n : ℕ)
-    → (write_of h raw body out).answer ≡ Written.Length n
+    → (write_of h raw body out).answer ≡ Ok n
     → (r : TypeRow) × WrittenAs h raw body out r × (n ≡ length (packet_bytes r h [] raw body))
 as_written h raw body out n e = accepted (row_out _ (pass no_type))
   where
@@ -162,12 +159,12 @@ as_written h raw body out n e = accepted (row_out _ (pass no_type))
     kept : WriteLeaves
     kept = written h raw body out (row_of h.kind)
 
-    tests : ((i : ℕ) → i < 5 → write_failing h raw body out (writer_check_at i) ≡ false) × (Written.Length (total) ≡ Written.Length n)
+    tests : ((i : ℕ) → i < 5 → write_failing h raw body out (writer_check_at i) ≡ false) × (◌≡◌ {A = Result ℕ Refusal} (Ok total) (Ok n))
     tests =
-        all_pass short_buffer (write_failing h raw body out) (λ c. Written.Refused (refusal (write_refused_as c)))
-        (Written.Length (total))
+        all_pass short_buffer (write_failing h raw body out) (λ c. Err (refusal (write_refused_as c)))
+        (Ok total)
         writer_checks
-        (Written.Length n)
+        (Ok n)
         (λ c. no_length _ n)
         (sym (judged_ap (λ (o : WriteLeaves). o.answer) (write_failing h raw body out) (refusing h raw body out) kept writer_checks)
         ∙ ap (λ (o : WriteLeaves). o.answer) (sym (write_judged h raw body out))
@@ -176,7 +173,7 @@ as_written h raw body out n e = accepted (row_out _ (pass no_type))
     pass : (c : WriterCheck) → write_failing h raw body out c ≡ false
     pass c = let (i, l, same) = write_placed c in ap (write_failing h raw body out) (sym same) ∙ tests.0 i l
 
-    accepted : (r : TypeRow) × (row_of h.kind ≡ Row r) → (r : TypeRow) × WrittenAs h raw body out r × (n ≡ length (packet_bytes r h [] raw body))
+    accepted : (r : TypeRow) × (row_of h.kind ≡ Some r) → (r : TypeRow) × WrittenAs h raw body out r × (n ≡ length (packet_bytes r h [] raw body))
     accepted (r, x) =
         let fits = not-false _ (sym (row_at _ r (λ q. not (options_fit q h)) x) ∙ pass misplaced_header) in
         let size = length_in_words h raw body r x fits in

@@ -6,10 +6,10 @@ use lib.ListN.{length, drop}
 use mathlib.Core.Bool.{Bool, true, false}
 use mathlib.Core.List.{List, [], ◌∷◌}
 use mathlib.Core.Logic.{inr, ⊎_elim}
-use mathlib.Core.Option.{some, none}
 use mathlib.Core.Path.{◌≡◌, refl, sym, ap, ap₂, subst, ◌∙◌}
 use native.Mathlib.Decide.{ℕ_discrete}
 use native.Mathlib.Omega.{arith}
+use Rattle.std.specs.Prelude.{Option, Some, None}
 use Rattle.laws.specs.Choose.{pick}
 use Rattle.laws.specs.Parts.{part}
 use Rattle.protocol.specs.ByType.{FlagRule, bit_of, column, fields_told, header_length, own_told}
@@ -24,11 +24,7 @@ use Rattle.protocol.specs.Sections.{connid_at, raw_span, span}
 use Rattle.protocol.specs.SectionsInTurn.{after_array, after_raw, cq_data_length}
 use Rattle.protocol.specs.Types.{row_of}
 use Rattle.protocol.specs.Values.{bytes_at, own_numbers, values, values_in}
-use Rattle.protocol.specs.declared.table.FoundRow.{FoundRow}
-use Rattle.protocol.specs.declared.table.FoundRow.TheVariants.{Row}
 use Rattle.protocol.specs.declared.table.TypeRow.{TypeRow}
-use Rattle.protocol.specs.declared.types.Connid.{Connid}
-use Rattle.protocol.specs.declared.types.CqData.{CqData}
 use Rattle.protocol.specs.declared.types.Fields.{Fields}
 use Rattle.protocol.specs.declared.types.Packet.{Packet}
 use Rattle.wire.specs.LittleEndian.{le_at}
@@ -59,7 +55,7 @@ ctsdata_end f bs w =
     omega arith
 
 -- the connid's place by the row, and by the type number
-connid_placed : (f : ℕ) (bs : List ℕ) (k : ℕ) (r : TypeRow) → row_of k ≡ Row r → FlagRule k f → connid_at r (cq_end k f bs) ≡ connid_place k f bs
+connid_placed : (f : ℕ) (bs : List ℕ) (k : ℕ) (r : TypeRow) → row_of k ≡ Some r → FlagRule k f → connid_at r (cq_end k f bs) ≡ connid_place k f bs
 unfolding connid_at pick
 connid_placed f bs k r e w = rw multiuse_at (⊎_elim cts (λ x. ⊎_elim (ctsdata x) (other x) (tested (eqb 4 k))) (tested (eqb 3 k)))
   where
@@ -150,21 +146,21 @@ module _ (limit : ℕ) (bs : List ℕ) (p : Packet) (r : TypeRow) (a : ReadAs li
         cq_data = λ b.
             ap (λ (y : Packet). y.header.cq_data) q
             ∙ ap (λ (t : Bool). cq_data_in t bs (after_raw r f bs)) (there cq_data refl)
-            ∙ set f 1 (CqData.Present (le_at 8 bs (after_raw r f bs))) CqData.Absent b
-            ∙ ap (λ (m : ℕ). CqData.Present (le_at 8 bs m)) raw_end_lem;
+            ∙ set f 1 (Some (le_at 8 bs (after_raw r f bs))) None b
+            ∙ ap (λ (m : ℕ). Some (le_at 8 bs m)) raw_end_lem;
         no_cq_data = λ b.
             ap (λ (y : Packet). y.header.cq_data) q
             ∙ ap (λ (t : Bool). cq_data_in t bs (after_raw r f bs)) (there cq_data refl)
-            ∙ clear f 1 (CqData.Present (le_at 8 bs (after_raw r f bs))) CqData.Absent b;
+            ∙ clear f 1 (Some (le_at 8 bs (after_raw r f bs))) None b;
         connid = λ b.
             ap (λ (y : Packet). y.header.connid) q
             ∙ ap (λ (t : Bool). connid_in t bs (connid_at r (after_raw r f bs + cq_data_length r f))) (there connid refl)
-            ∙ set f 15 (Connid.Present (le_at 4 bs (connid_at r (after_raw r f bs + cq_data_length r f)))) Connid.Absent b
-            ∙ ap (λ (m : ℕ). Connid.Present (le_at 4 bs m)) connid_from_lem;
+            ∙ set f 15 (Some (le_at 4 bs (connid_at r (after_raw r f bs + cq_data_length r f)))) None b
+            ∙ ap (λ (m : ℕ). Some (le_at 4 bs m)) connid_from_lem;
         no_connid = λ b.
             ap (λ (y : Packet). y.header.connid) q
             ∙ ap (λ (t : Bool). connid_in t bs (connid_at r (after_raw r f bs + cq_data_length r f))) (there connid refl)
-            ∙ clear f 15 (Connid.Present (le_at 4 bs (connid_at r (after_raw r f bs + cq_data_length r f)))) Connid.Absent b;
+            ∙ clear f 15 (Some (le_at 4 bs (connid_at r (after_raw r f bs + cq_data_length r f)))) None b;
         rest = ap (λ (y : Packet). bytes_at bs y.«data») q ∙ part_rest bs (data_from r f bs) ∙ ap (λ (m : ℕ). drop m bs) (row_head bs r a.row a.flags);
       }
 
@@ -182,18 +178,18 @@ by_flag f i x a b p q = go (ℕ_discrete (bit_of f i) 1)
     go (yes e) = p e ∙ sym (set f i a b e)
     go (no e) = let z : bit_of f i ≡ 0 = omega (arith, e) in q z ∙ sym (clear f i a b z)
 
-module _ (bs : List ℕ) (p : Packet) (r : TypeRow) (row : row_of (type_in bs) ≡ Row r) (t : PacketTold bs (type_in bs) (flags_in bs) p) where
+module _ (bs : List ℕ) (p : Packet) (r : TypeRow) (row : row_of (type_in bs) ≡ Some r) (t : PacketTold bs (type_in bs) (flags_in bs) p) where
   own_told_lem : own_numbers (row_of p.header.kind) p.header.fields ≡ own_told bs (type_in bs)
   unfolding own_numbers
   own_told_lem =
       ap₂ (λ (k : ℕ) (v : Fields). own_numbers (row_of k) v) t.kind t.fields
-      ∙ ap (λ (o : FoundRow). own_numbers o (fields_told bs (type_in bs))) row
+      ∙ ap (λ (o : Option TypeRow). own_numbers o (fields_told bs (type_in bs))) row
       ∙ own_in_words bs (type_in bs) r row
 
-  address_told : pick p.header.raw_address (some (bytes_at bs p.raw_address)) none
-      ≡ pick (eqb (bit_of (flags_in bs) 0) 1) (some (part bs (header_length (type_in bs) + 4) (le_at 4 bs (header_length (type_in bs))))) none
+  address_told : pick p.header.raw_address (Some (bytes_at bs p.raw_address)) None
+      ≡ pick (eqb (bit_of (flags_in bs) 0) 1) (Some (part bs (header_length (type_in bs) + 4) (le_at 4 bs (header_length (type_in bs))))) None
   address_told =
-      by_flag (flags_in bs) 0 _ _ _ (λ e. let (there, bytes, n) = t.raw_address e in pick_true _ _ there ∙ ap some bytes)
+      by_flag (flags_in bs) 0 _ _ _ (λ e. let (there, bytes, n) = t.raw_address e in pick_true _ _ there ∙ ap Some bytes)
       (λ e. pick_false _ _ (t.no_raw_address e).0)
 
   values_told_lem : values_in p bs ≡ values_told (type_in bs) (flags_in bs) bs

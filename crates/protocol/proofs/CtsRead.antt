@@ -5,6 +5,7 @@ use lib.ListN.{take, replicate}
 use mathlib.Core.List.{List, []}
 use mathlib.Core.Path.{◌≡◌, refl, ap, subst}
 use native.Mathlib.Omega.{arith}
+use Rattle.std.specs.Prelude.{Ok}
 use Rattle.protocol.specs.Arrays.{array_allowed, array_count, array_whole}
 use Rattle.protocol.specs.Checks.{gives}
 use Rattle.protocol.specs.Cts.{cts_bytes, cts_header}
@@ -20,7 +21,6 @@ use Rattle.protocol.specs.Says.{read_says, written_says}
 use Rattle.protocol.specs.Types.{every_row, row_in, row_of}
 use Rattle.protocol.specs.Values.{own_numbers, values}
 use Rattle.protocol.specs.Writing.{WriteLeaves, base_bytes, mandatory_bytes, packet_bytes, write_as, write_bytes, write_of, write_typed}
-use Rattle.protocol.specs.declared.types.Written.{Written}
 use Rattle.laws.specs.Choose.{pick}
 use Rattle.laws.specs.Parts.{part, store_at}
 use Rattle.wire.specs.LittleEndian.{le_at, le_bytes, le_of}
@@ -54,7 +54,7 @@ module _ (sender receiver amount : ℕ) (s : sender < 2 ^ 32) (r : receiver < 2 
       go count = omega arith
 
   -- as the writer writes it into 24 bytes
-  written : write_of (cts_header sender receiver amount) [] [] (replicate 24 0) ≡ record { answer = Written.Length 24; out = bytes }
+  written : write_of (cts_header sender receiver amount) [] [] (replicate 24 0) ≡ record { answer = Ok 24; out = bytes }
   unfolding bytes cts_bytes write_of write_typed write_as write_bytes row_of row_in options_fit array_allowed array_whole array_count flags_of lengths_fit pick store_at packet_bytes mandatory_bytes base_bytes field_bytes layout sections_of connid_or_zero le_bytes
   written = rw (le-leb 1 amount some)
 

@@ -7,7 +7,7 @@ use mathlib.Core.Logic.{◌⊎◌, ◌↔◌, inl, inr, ⊎_elim}
 use mathlib.Core.Path.{◌≡◌, refl, sym, ap, ◌∙◌}
 use native.Mathlib.Omega.{arith}
 use Rattle.laws.specs.Choose.{pick}
-use Rattle.protocol.specs.Checks.{First, Result, gives, refused}
+use Rattle.protocol.specs.Checks.{First, Said, gives, refused}
 use Rattle.laws.proofs.Choosing.{pick_ap, pick_false, pick_true, tested}
 
 -- the checks one after the other
@@ -72,10 +72,10 @@ module _ {C R : Type 0} (last : C) (fails : C → Bool) (refuse : C → R) (pass
 module _ {C A : Type 0} (last : C) (fails : C → Bool) (Fails : C → Type 0) (number : C → ℕ) (v : A) (cs : List C)
     (holds : (c : C) → fails c ≡ true → Fails c)
     (fails_not : (c : C) → fails c ≡ false → Fails c → ⊥) where
-  abbrev refuse : C → Result A
+  abbrev refuse : C → Said A
   refuse c = refused (number c)
 
-  abbrev said : Result A
+  abbrev said : Said A
   said = judged fails refuse (gives v) cs
 
   is_true : (c : C) → Fails c → fails c ≡ true

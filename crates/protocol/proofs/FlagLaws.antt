@@ -9,11 +9,12 @@ use mathlib.Core.Logic.{⊎_elim}
 use mathlib.Core.Path.{◌≡◌, refl, sym, ap, ◌∙◌}
 use native.Mathlib.Nat.{mod-lt}
 use native.Mathlib.Omega.{arith}
+use Rattle.std.specs.Prelude.{is_some}
 use Rattle.laws.specs.Choose.{pick}
 use Rattle.protocol.specs.Arrays.{has_array}
 use Rattle.protocol.specs.Flags.{connid_flag, flags_fit, has_flag}
 use Rattle.protocol.specs.Layout.{multiuse, place_of}
-use Rattle.protocol.specs.Optional.{Section, array, connid, cq_data, flag_sum, flagged, flags_of, flags_taken, has_connid, has_cq_data, is_among, may_have, options_fit, raw_address, same_section, sections_of}
+use Rattle.protocol.specs.Optional.{Section, array, connid, cq_data, flag_sum, flagged, flags_of, flags_taken, is_among, may_have, options_fit, raw_address, same_section, sections_of}
 use Rattle.protocol.specs.Rules.{Sound}
 use Rattle.protocol.specs.declared.table.TypeRow.{TypeRow}
 use Rattle.protocol.specs.declared.types.Header.{Header}
@@ -47,14 +48,14 @@ unfolding pick
 pick_bit true n = omega arith
 pick_bit false n = omega arith
 
-bits_small : (h : Header) → (bit h.raw_address ≤ 1) × (bit (has_cq_data h.cq_data) ≤ 1) × (bit (has_connid h.connid) ≤ 1)
-bits_small h = (bit_small h.raw_address, bit_small (has_cq_data h.cq_data), bit_small (has_connid h.connid))
+bits_small : (h : Header) → (bit h.raw_address ≤ 1) × (bit (is_some h.cq_data) ≤ 1) × (bit (is_some h.connid) ≤ 1)
+bits_small h = (bit_small h.raw_address, bit_small (is_some h.cq_data), bit_small (is_some h.connid))
 
 -- the flags that a packet is written with
 flags_as_bits : (r : TypeRow) (h : Header)
-    → flags_of r h ≡ r.must + bit h.raw_address + 2 * bit (has_cq_data h.cq_data) + 32768 * bit (has_connid h.connid)
+    → flags_of r h ≡ r.must + bit h.raw_address + 2 * bit (is_some h.cq_data) + 32768 * bit (is_some h.connid)
 unfolding flags_of
-flags_as_bits r h = rw (pick_bit h.raw_address 1, pick_bit (has_cq_data h.cq_data) 2, pick_bit (has_connid h.connid) 32768) (omega arith)
+flags_as_bits r h = rw (pick_bit h.raw_address 1, pick_bit (is_some h.cq_data) 2, pick_bit (is_some h.connid) 32768) (omega arith)
 
 pub flags_small : (r : TypeRow) (h : Header) → Sound r → flags_of r h < 2 ^ 16
 flags_small r h s = omega (arith, flags_as_bits r h, s.small, bits_small h)
@@ -141,11 +142,11 @@ module _ (r : TypeRow) (h : Header) (s : Sound r) where
   cq_allowed =
       ap (λ (t : Bool). t || false) (past_array (has_array r) r.request (eqb r.connid 0) cq_data refl) ∙ cq_listed r.request (eqb r.connid 0)
 
-  pub options_tested : options_fit r h ≡ (r.request || (not h.raw_address && not (has_cq_data h.cq_data)))
+  pub options_tested : options_fit r h ≡ (r.request || (not h.raw_address && not (is_some h.cq_data)))
   unfolding options_fit
   options_tested =
       rw (connid_allowed, raw_allowed, cq_allowed)
-      (go r.request h.raw_address (has_cq_data h.cq_data) (has_connid h.connid))
+      (go r.request h.raw_address (is_some h.cq_data) (is_some h.connid))
     where
       go : (q a b c : Bool) → ((not a || q) && ((not b || q) && ((not c || true) && true))) ≡ (q || (not a && not b))
       go true true true true = refl
@@ -164,13 +165,13 @@ module _ (r : TypeRow) (h : Header) (s : Sound r) where
   pub every_option_fits : r.request ≡ true → options_fit r h ≡ true
   every_option_fits q = options_tested ∙ rw q
 
-  pub connid_fits_lem : h.raw_address ≡ false → has_cq_data h.cq_data ≡ false → options_fit r h ≡ true
+  pub connid_fits_lem : h.raw_address ≡ false → is_some h.cq_data ≡ false → options_fit r h ≡ true
   connid_fits_lem x y = options_tested ∙ rw (x, y, or-true)
 
-  pub fits_connid : r.request ≡ false → options_fit r h ≡ true → (h.raw_address ≡ false) × (has_cq_data h.cq_data ≡ false)
+  pub fits_connid : r.request ≡ false → options_fit r h ≡ true → (h.raw_address ≡ false) × (is_some h.cq_data ≡ false)
   fits_connid q t =
-      let both : (not h.raw_address && not (has_cq_data h.cq_data)) ≡ true = rw q at (sym options_tested ∙ t) in
-      (not-true _ (and_left _ (not (has_cq_data h.cq_data)) both), not-true _ (and_right (not h.raw_address) _ both))
+      let both : (not h.raw_address && not (is_some h.cq_data)) ≡ true = rw q at (sym options_tested ∙ t) in
+      (not-true _ (and_left _ (not (is_some h.cq_data)) both), not-true _ (and_right (not h.raw_address) _ both))
 
 -- ---- the flags of a packet that is written
 
@@ -195,22 +196,22 @@ module _ (r : TypeRow) (h : Header) (s : Sound r) where
       eq-eqb _ _ (ap (λ (m : ℕ). f - m) c ∙ over)
 
   -- and any other a connid alone
-  other_fits : r.request ≡ false → h.raw_address ≡ false → has_cq_data h.cq_data ≡ false → flags_fit r (flags_of r h) ≡ true
+  other_fits : r.request ≡ false → h.raw_address ≡ false → is_some h.cq_data ≡ false → flags_fit r (flags_of r h) ≡ true
   unfolding flags_fit
   other_fits q x y =
       let b = and_high (flags_of r h) 1 15 in
       let c : bit_and (flags_of r h) r.may ≡ bit_and (flags_of r h) 0x8000 = ap (bit_and (flags_of r h)) (may_other r s q) in
       let e = flags_as_bits r h in
-      let top : flags_of r h / 32768 ≡ bit (has_connid h.connid) = omega (arith, e, s.small, bits_small h) in
+      let top : flags_of r h / 32768 ≡ bit (is_some h.connid) = omega (arith, e, s.small, bits_small h) in
       let rest : flags_of r h - bit_and (flags_of r h) r.may ≡ r.must = omega (arith, bits_small h, ap bit x, ap bit y) in
       eq-eqb _ _ rest
 
   -- an optional header that is written shows by its flag
 
-  pub connid_flag_lem : flagged r (flags_of r h) connid ≡ has_connid h.connid
+  pub connid_flag_lem : flagged r (flags_of r h) connid ≡ is_some h.connid
   unfolding flagged
   connid_flag_lem =
-      let b : flags_of r h / 32768 ≡ bit (has_connid h.connid) = rw flags_as_bits (omega (arith, s.small, bits_small h)) in
+      let b : flags_of r h / 32768 ≡ bit (is_some h.connid) = rw flags_as_bits (omega (arith, s.small, bits_small h)) in
       flag_of_bit _ 32768 _ (rw b (omega (arith, bits_small h)))
 
   module _ (t : options_fit r h ≡ true) where
@@ -226,7 +227,7 @@ module _ (r : TypeRow) (h : Header) (s : Sound r) where
         (λ q. rw q (sym (fits_connid r h s q t).0))
         (tested r.request)
 
-    pub cq_data_flag_lem : flagged r (flags_of r h) cq_data ≡ has_cq_data h.cq_data
+    pub cq_data_flag_lem : flagged r (flags_of r h) cq_data ≡ is_some h.cq_data
     unfolding flagged
     cq_data_flag_lem =
         ⊎_elim (λ q. rw q (flag_of_bit _ 2 _ (rw flags_as_bits (omega (arith, must_clear r s q, bits_small h)))))
@@ -256,8 +257,8 @@ module _ (r : TypeRow) (f : ℕ) (s : Sound r) (t : flags_fit r f ≡ true) wher
   -- the flags of a packet that was read are written again
   pub flags_again : (h : Header)
       → h.raw_address ≡ flagged r f raw_address
-      → has_cq_data h.cq_data ≡ flagged r f cq_data
-      → has_connid h.connid ≡ flagged r f connid
+      → is_some h.cq_data ≡ flagged r f cq_data
+      → is_some h.connid ≡ flagged r f connid
       → flags_of r h ≡ f
   unfolding flagged
   flags_again h a b c = ⊎_elim request other (tested r.request)
@@ -265,16 +266,16 @@ module _ (r : TypeRow) (f : ℕ) (s : Sound r) (t : flags_fit r f ≡ true) wher
       request : r.request ≡ true → flags_of r h ≡ f
       request q =
           let x : h.raw_address ≡ has_flag f 1 = a ∙ ap (λ (u : Bool). u && has_flag f 1) q in
-          let y : has_cq_data h.cq_data ≡ has_flag f 2 = b ∙ ap (λ (u : Bool). u && has_flag f 2) q in
+          let y : is_some h.cq_data ≡ has_flag f 2 = b ∙ ap (λ (u : Bool). u && has_flag f 2) q in
           rw (flags_as_bits, x, y, c, bit_of_flag f 1, bit_of_flag f 2, bit_of_flag f 32768) (sym (request_flags q))
 
       other : r.request ≡ false → flags_of r h ≡ f
       other q =
           let x : h.raw_address ≡ false = a ∙ ap (λ (u : Bool). u && has_flag f 1) q in
-          let y : has_cq_data h.cq_data ≡ false = b ∙ ap (λ (u : Bool). u && has_flag f 2) q in
+          let y : is_some h.cq_data ≡ false = b ∙ ap (λ (u : Bool). u && has_flag f 2) q in
           rw (flags_as_bits, x, y, c, bit_of_flag f 32768) (omega (arith, other_flags q))
 
-  pub options_again : (h : Header) → h.raw_address ≡ flagged r f raw_address → has_cq_data h.cq_data ≡ flagged r f cq_data → options_fit r h ≡ true
+  pub options_again : (h : Header) → h.raw_address ≡ flagged r f raw_address → is_some h.cq_data ≡ flagged r f cq_data → options_fit r h ≡ true
   unfolding flagged
   options_again h a b =
       ⊎_elim (every_option_fits r h s)

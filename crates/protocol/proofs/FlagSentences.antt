@@ -8,6 +8,7 @@ use mathlib.Core.Logic.{◌⊎◌, ◌↔◌, inl, inr, ⊎_elim, ⊎_map}
 use mathlib.Core.Path.{◌≡◌, refl, sym, ap, ◌∙◌}
 use native.Mathlib.Decide.{dec_lt, ℕ_discrete}
 use native.Mathlib.Omega.{arith}
+use Rattle.std.specs.Prelude.{Some}
 use Rattle.laws.specs.Choose.{pick}
 use Rattle.protocol.specs.ByType.{CtsFlags, CtsOrData, FlagRule, Rtm, RtmFlags, Tagged, bit_of}
 use Rattle.protocol.specs.Flags.{flags_fit, has_flag}
@@ -15,7 +16,6 @@ use Rattle.protocol.specs.Optional.{Section, array, connid, cq_data, flag_of, fl
 use Rattle.protocol.specs.Sentences.{TypesAreTheTables}
 use Rattle.protocol.specs.Rules.{Sound}
 use Rattle.protocol.specs.Types.{admit, every_row, row_of}
-use Rattle.protocol.specs.declared.table.FoundRow.TheVariants.{Row}
 use Rattle.protocol.specs.declared.table.TypeRow.{TypeRow}
 use Rattle.laws.proofs.Choosing.{clashing, or_cases, or_left, or_right, pick_false, pick_true, tested}
 use Rattle.protocol.proofs.NumberBits.{all_below, bit_of_past, bit_of_without, each_below, same_bits}
@@ -136,7 +136,7 @@ not_tagged : (k : ℕ) → (eqb k 65 || (eqb k 67 || eqb k 69)) ≡ false → Ta
 not_tagged k e t = true≢false (sym (is_tagged k t) ∙ e)
 
 -- the rule of each row, by what 01 says of its type
-module _ (f k : ℕ) (r : TypeRow) (e : row_of k ≡ Row r) where
+module _ (f k : ℕ) (r : TypeRow) (e : row_of k ≡ Some r) where
   must_told : r.must ≡ pick (eqb k 3 || eqb k 4) 0x0 (pick (eqb k 65 || (eqb k 67 || eqb k 69)) 0xc 0x4)
   unfolding pick
   must_told = rows_say (λ k r. r.must) (λ k. pick (eqb k 3 || eqb k 4) 0x0 (pick (eqb k 65 || (eqb k 67 || eqb k 69)) 0xc 0x4)) refl k r e
@@ -171,11 +171,11 @@ module _ (f k : ℕ) (r : TypeRow) (e : row_of k ≡ Row r) where
       (tested (eqb k 65 || (eqb k 67 || eqb k 69))))
       (tested (eqb k 3 || eqb k 4))
 
-pub flags_in_words : (k : ℕ) (r : TypeRow) (f : ℕ) → row_of k ≡ Row r → (flags_fit r f ≡ true) ↔ FlagRule k f
+pub flags_in_words : (k : ℕ) (r : TypeRow) (f : ℕ) → row_of k ≡ Some r → (flags_fit r f ≡ true) ↔ FlagRule k f
 flags_in_words k r f e = through (bit_by_bit r f (sound k r e)) (rule_by_bits f k r e)
 
 -- so an optional header is there exactly if its flag is set
-pub flagged_by_flag : (f k : ℕ) (r : TypeRow) → row_of k ≡ Row r → FlagRule k f → (s : Section) → is_among s options ≡ true
+pub flagged_by_flag : (f k : ℕ) (r : TypeRow) → row_of k ≡ Some r → FlagRule k f → (s : Section) → is_among s options ≡ true
     → flagged r f s ≡ has_flag f (flag_of s)
 flagged_by_flag f k r e w s o = ⊎_elim (λ q. request q s o) (λ q. plain q (w.0 ((request_in_words k r e).0 q)) s o) (tested r.request)
   where

@@ -7,9 +7,9 @@ use lib.ListN.{get_or}
 use mathlib.Core.Bool.{Bool, true, false, false≢true}
 use mathlib.Core.List.{List, [], ◌∷◌, map}
 use mathlib.Core.Logic.{⊎_elim}
-use mathlib.Core.Option.{Option, some, none}
 use mathlib.Core.Path.{◌≡◌, refl, sym, ap, ◌∙◌}
 use native.Mathlib.Omega.{arith}
+use Rattle.std.specs.Prelude.{Option, Some, None}
 use Rattle.laws.specs.Choose.{pick}
 use Rattle.protocol.specs.FieldNumbers.{fields_in, number_in}
 use Rattle.protocol.specs.Layout.{Field, count, credit_request, has, is_own, layout, msg_id, msg_length, multiuse, ordinal, own_fields, padding, place_of, recv_id, recv_length, same_field, seg_length, seg_offset, select, send_id, tag}
@@ -19,7 +19,6 @@ use Rattle.protocol.specs.Rules.{Sound}
 use Rattle.protocol.specs.Types.{admit, every_row, row_of}
 use Rattle.protocol.specs.Values.{Values, bytes_at, own_numbers, values, values_in}
 use Rattle.protocol.specs.Writing.{packet_bytes}
-use Rattle.protocol.specs.declared.table.FoundRow.TheVariants.{Row}
 use Rattle.protocol.specs.declared.table.TypeRow.{TypeRow}
 use Rattle.protocol.specs.declared.types.Header.{Header}
 use Rattle.wire.specs.LittleEndian.{le_at}
@@ -78,12 +77,12 @@ module _ (h g : Header) (r : TypeRow) (rule : Sound r) (own : map (number_in h.f
   }
 
 -- two headers with the same values and zeros outside their type's layout are the same
-pub same_header : (h g : Header) (raw raw' body body' : List ℕ) (r : TypeRow) → values h raw body ≡ values g raw' body' → row_of h.kind ≡ Row r
+pub same_header : (h g : Header) (raw raw' body body' : List ℕ) (r : TypeRow) → values h raw body ≡ values g raw' body' → row_of h.kind ≡ Some r
     → ZeroOutside r h → ZeroOutside r g → h ≡ g
 unfolding own_numbers
 same_header h g raw raw' body body' r same row zero_h zero_g =
     let k = kind_same h g raw raw' body body' same in
-    let row' : row_of g.kind ≡ Row r = ap row_of (sym k) ∙ row in
+    let row' : row_of g.kind ≡ Some r = ap row_of (sym k) ∙ row in
     let own : map (number_in h.fields) (own_fields r) ≡ map (number_in g.fields) (own_fields r) =
     rw (row, row') at (own_same h g raw raw' body body' same) in
     λ i. record {
@@ -113,13 +112,13 @@ zero_read r bs rule padding e = refl
 zero_read r bs rule count e = refl
 
 -- a reader that admits a packet's type reads it as the reader of all types does
-pub admitted_read : (which : TypeRow → Bool) (limit : ℕ) (bs : List ℕ) (r : TypeRow) → row_of (get_or bs 0 0) ≡ Row r → which r ≡ true
+pub admitted_read : (which : TypeRow → Bool) (limit : ℕ) (bs : List ℕ) (r : TypeRow) → row_of (get_or bs 0 0) ≡ Some r → which r ≡ true
     → read_of which limit bs ≡ read_of every_row limit bs
 unfolding read_of admit pick
 admitted_read which limit bs r row e = rw (row, e)
 
 -- a raw address that both have is the same
-same_raw : (a b : Bool) (x y : List ℕ) → ◌≡◌ {A = Option (List ℕ)} (pick a (some x) none) (pick b (some y) none) → b ≡ true → x ≡ y
+same_raw : (a b : Bool) (x y : List ℕ) → ◌≡◌ {A = Option (List ℕ)} (pick a (Some x) None) (pick b (Some y) None) → b ≡ true → x ≡ y
 unfolding pick
 same_raw true b x y e t = let e = rw t at e in cc
 same_raw false b x y e t = let e = rw t at e in let z : ◌≡◌ {A = ℕ} 0 1 = cc in absurd (omega arith)

@@ -4,21 +4,18 @@ use lib.ListN.{length, get_or, length-append}
 use mathlib.Core.Bool.{Bool, true, false}
 use mathlib.Core.List.{List, ◌++◌, append_assoc}
 use mathlib.Core.Logic.{⊎_elim}
-use mathlib.Core.Option.{some, none}
 use mathlib.Core.Path.{◌≡◌, refl}
 use native.Mathlib.Omega.{arith}
+use Rattle.std.specs.Prelude.{Option, Some, None, is_some, unwrap_or}
 use Rattle.laws.specs.Choose.{pick}
 use Rattle.laws.specs.Parts.{part}
-use Rattle.protocol.specs.Optional.{cq_data, flagged, flags_of, has_connid, has_cq_data, options_fit, raw_address}
+use Rattle.protocol.specs.Optional.{cq_data, flagged, flags_of, options_fit, raw_address}
 use Rattle.protocol.specs.Options.{connid_bytes, connid_in, connid_or_zero, cq_data_bytes, cq_data_in, raw_address_bytes}
-use Rattle.protocol.specs.RoundTrip.{cq_data_or_zero}
 use Rattle.protocol.specs.Rules.{Sound}
 use Rattle.protocol.specs.Sections.{raw_span}
 use Rattle.protocol.specs.SectionsInTurn.{after_array, after_raw, connid_length, cq_data_length, raw_length}
 use Rattle.protocol.specs.Values.{bytes_at}
 use Rattle.protocol.specs.declared.table.TypeRow.{TypeRow}
-use Rattle.protocol.specs.declared.types.Connid.{Connid}
-use Rattle.protocol.specs.declared.types.CqData.{CqData}
 use Rattle.protocol.specs.declared.types.Header.{Header}
 use Rattle.wire.specs.LittleEndian.{le_at, le_bytes}
 use Rattle.laws.proofs.Choosing.{tested}
@@ -33,15 +30,15 @@ unfolding raw_address_bytes pick
 length_raw true raw = rw (length-append, length_le)
 length_raw false raw = refl
 
-length_cq_data : (q : CqData) → length (cq_data_bytes q) ≡ pick (has_cq_data q) 8 0
+length_cq_data : (q : Option ℕ) → length (cq_data_bytes q) ≡ pick (is_some q) 8 0
 unfolding cq_data_bytes pick
-length_cq_data CqData.Absent = refl
-length_cq_data (CqData.Present d) = rw length_le
+length_cq_data None = refl
+length_cq_data (Some d) = rw length_le
 
-length_connid : (r : TypeRow) (q : Connid) → length (connid_bytes r q) ≡ pick (has_connid q) r.connid 0
+length_connid : (r : TypeRow) (q : Option ℕ) → length (connid_bytes r q) ≡ pick (is_some q) r.connid 0
 unfolding connid_bytes pick
-length_connid r Connid.Absent = refl
-length_connid r (Connid.Present c) = rw length_le
+length_connid r None = refl
+length_connid r (Some c) = rw length_le
 
 module _ (r : TypeRow) (h : Header) (s : Sound r) where
   pub cq_data_length_lem : options_fit r h ≡ true → cq_data_length r (flags_of r h) ≡ length (cq_data_bytes h.cq_data)
@@ -72,48 +69,48 @@ module _ (r : TypeRow) (f : ℕ) (raw m c : List ℕ) (at : ℕ) (p : length m �
   after_raw_lem false e x q = rw (e, q, length_raw false raw)
 
   pub raw_read : (there : Bool) → flagged r f raw_address ≡ there → length (raw_address_bytes there raw) < 256 ^ 4
-      → pick (flagged r f raw_address) (some (bytes_at (m ++ (raw_address_bytes there raw ++ c)) (raw_span (flagged r f raw_address) (m ++ (raw_address_bytes there raw ++ c)) at))) none
-      ≡ pick there (some raw) none
+      → pick (flagged r f raw_address) (Some (bytes_at (m ++ (raw_address_bytes there raw ++ c)) (raw_span (flagged r f raw_address) (m ++ (raw_address_bytes there raw ++ c)) at))) None
+      ≡ pick there (Some raw) None
   unfolding raw_span pick
   raw_read true e x = rw (e, raw_size x, raw_part)
   raw_read false e x = rw e
 
 -- CQ data that were written
-pub cq_data_read : (there : Bool) (q : CqData) (a c : List ℕ) (at : ℕ)
-    → there ≡ has_cq_data q
-    → cq_data_or_zero q < 256 ^ 8
+pub cq_data_read : (there : Bool) (q : Option ℕ) (a c : List ℕ) (at : ℕ)
+    → there ≡ is_some q
+    → unwrap_or q 0 < 256 ^ 8
     → length a ≡ at
     → cq_data_in there (a ++ (cq_data_bytes q ++ c)) at ≡ q
 unfolding cq_data_in cq_data_bytes pick
-cq_data_read there CqData.Absent a c at e x p = rw e
-cq_data_read there (CqData.Present d) a c at e x p = rw (e, le_behind 8 d a c at x p)
+cq_data_read there None a c at e x p = rw e
+cq_data_read there (Some d) a c at e x p = rw (e, le_behind 8 d a c at x p)
 
 -- a connid that was written behind the other optional headers
-pub connid_behind : (r : TypeRow) (there : Bool) (q : Connid) (a c : List ℕ) (at : ℕ)
+pub connid_behind : (r : TypeRow) (there : Bool) (q : Option ℕ) (a c : List ℕ) (at : ℕ)
     → 4 ≤ r.connid
-    → there ≡ has_connid q
+    → there ≡ is_some q
     → connid_or_zero q < 256 ^ 4
     → length a ≡ at
     → connid_in there (a ++ (connid_bytes r q ++ c)) at ≡ q
 unfolding connid_in connid_bytes connid_or_zero pick
-connid_behind r there Connid.Absent a c at w e x p = rw e
-connid_behind r there (Connid.Present d) a c at w e x p =
+connid_behind r there None a c at w e x p = rw e
+connid_behind r there (Some d) a c at w e x p =
     let n : r.connid ≡ 4 + (r.connid - 4) = omega arith in
     rw (e, n, le_behind_wide 4 (r.connid - 4) d a c at x p)
 
 -- a connid in multiuse
-pub connid_there : (there : Bool) (q : Connid) (bs : List ℕ) (at : ℕ) → there ≡ has_connid q → le_at 4 bs at ≡ connid_or_zero q → connid_in there bs at ≡ q
+pub connid_there : (there : Bool) (q : Option ℕ) (bs : List ℕ) (at : ℕ) → there ≡ is_some q → le_at 4 bs at ≡ connid_or_zero q → connid_in there bs at ≡ q
 unfolding connid_in connid_or_zero pick
-connid_there there Connid.Absent bs at e x = rw e
-connid_there there (Connid.Present d) bs at e x = rw (e, x)
+connid_there there None bs at e x = rw e
+connid_there there (Some d) bs at e x = rw (e, x)
 
 -- an optional header that was read is there where it was said to be
-pub has_cq_data_lem : (there : Bool) (bs : List ℕ) (at : ℕ) → has_cq_data (cq_data_in there bs at) ≡ there
+pub has_cq_data_lem : (there : Bool) (bs : List ℕ) (at : ℕ) → is_some (cq_data_in there bs at) ≡ there
 unfolding cq_data_in pick
 has_cq_data_lem true bs at = refl
 has_cq_data_lem false bs at = refl
 
-pub has_connid_lem : (there : Bool) (bs : List ℕ) (at : ℕ) → has_connid (connid_in there bs at) ≡ there
+pub has_connid_lem : (there : Bool) (bs : List ℕ) (at : ℕ) → is_some (connid_in there bs at) ≡ there
 unfolding connid_in pick
 has_connid_lem true bs at = refl
 has_connid_lem false bs at = refl

@@ -8,6 +8,7 @@ use mathlib.Core.List.{List, [], ◌∷◌}
 use mathlib.Core.Logic.{◌↔◌, ⊎_elim}
 use mathlib.Core.Path.{◌≡◌, refl, sym, ap, ap₂, ◌∙◌, subst}
 use native.Mathlib.Omega.{arith}
+use Rattle.std.specs.Prelude.{Option, Some, None, Result, Ok, Err}
 use Rattle.laws.specs.Choose.{pick}
 use Rattle.protocol.specs.ByType.{FlagRule, LengthRule, fields_told}
 use Rattle.protocol.specs.Checks.{gives, refused}
@@ -22,14 +23,10 @@ use Rattle.protocol.specs.Sections.{extent_of}
 use Rattle.protocol.specs.SectionsInTurn.{after_raw, connid_length, cq_data_length, sections_behind, sections_from}
 use Rattle.protocol.specs.Types.{admit, reader_rows, row, row_of}
 use Rattle.protocol.specs.Values.{Values, values_in}
-use Rattle.protocol.specs.declared.sections.Extent.TheVariants.{Cut}
-use Rattle.protocol.specs.declared.table.FoundRow.{FoundRow}
-use Rattle.protocol.specs.declared.table.FoundRow.TheVariants.{Row, Unknown}
 use Rattle.protocol.specs.declared.table.Shape.TheVariants.{Cts}
 use Rattle.protocol.specs.declared.table.TypeRow.{TypeRow}
 use Rattle.protocol.specs.declared.types.Fields.{Fields}
 use Rattle.protocol.specs.declared.types.Packet.{Packet}
-use Rattle.protocol.specs.declared.types.Read.{Read}
 use Rattle.laws.proofs.Choosing.{clashing, pick_ap, tested}
 use Rattle.protocol.proofs.WholePacket.{data_from, packet_of}
 use Rattle.protocol.proofs.FirstFailing.{given_if_none, judged, judged_ap, refused_by_first}
@@ -40,9 +37,10 @@ use Rattle.protocol.proofs.TableRule.{no_array}
 use Rattle.protocol.proofs.RowLaws.{after_no_array}
 use Rattle.protocol.proofs.TypeSentences.{connid_in_words, fields_in_words, header_in_words, lengths_in_words, unknown_flags, unknown_lengths}
 use Rattle.protocol.proofs.SentencesHold.{types_are_the_tables}
+use Rattle.protocol.specs.declared.types.Refusal.{Refusal}
 
 -- where a packet's headers end by its row, and by its type number
-pub row_head : (bs : List ℕ) (r : TypeRow) → row_of (type_in bs) ≡ Row r → flags_fit r (flags_in bs) ≡ true → data_from r (flags_in bs) bs ≡ head_in bs
+pub row_head : (bs : List ℕ) (r : TypeRow) → row_of (type_in bs) ≡ Some r → flags_fit r (flags_in bs) ≡ true → data_from r (flags_in bs) bs ≡ head_in bs
 unfolding after_raw cq_data_length connid_length has_flag
 row_head bs r e t =
     let there = flagged_by_flag (flags_in bs) (type_in bs) r e ((flags_in_words (type_in bs) r (flags_in bs) e).0 t) in
@@ -68,7 +66,7 @@ module _ (all : Bool) (limit : ℕ) (bs : List ℕ) where
   -- ---- the reader is such a list
 
   -- with the type's row o
-  abbrev pub fails_as : FoundRow → ReaderCheck → Bool
+  abbrev pub fails_as : Option TypeRow → ReaderCheck → Bool
   fails_as o over_limit = ltb limit (length bs)
   fails_as o no_base = ltb (length bs) 4
   fails_as o wrong_version = not (eqb (get_or bs 1 0) 4)
@@ -77,45 +75,45 @@ module _ (all : Bool) (limit : ℕ) (bs : List ℕ) where
   fails_as o header_cut = ltb (length bs) (head_in bs)
   fails_as o wrong_lengths = of_row o (λ r. not (lengths_fit r.shape (fields_told bs k) (length bs - head_in bs)))
 
-  abbrev pub passed_as : FoundRow → Packet
-  passed_as Unknown = packet_of (row 0 Cts 0 0 0 0 false false false 0 0) f bs
-  passed_as (Row r) = packet_of r f bs
+  abbrev pub passed_as : Option TypeRow → Packet
+  passed_as None = packet_of (row 0 Cts 0 0 0 0 false false false 0 0) f bs
+  passed_as (Some r) = packet_of r f bs
 
-  abbrev judged_as : FoundRow → List ReaderCheck → Read
-  judged_as o = judged (fails_as o) (λ c. Read.Refused (refusal (refused_as c))) (Read.Packet (passed_as o))
+  abbrev judged_as : Option TypeRow → List ReaderCheck → Result Packet Refusal
+  judged_as o = judged (fails_as o) (λ c. Err (refusal (refused_as c))) (Ok (passed_as o))
 
-  sections_judged : (r : TypeRow) → row_of k ≡ Row r → flags_fit r f ≡ true
-      → read_sections r f bs (extent_of r f bs) ≡ judged_as (Row r) (header_cut ∷ wrong_lengths ∷ [])
+  sections_judged : (r : TypeRow) → row_of k ≡ Some r → flags_fit r f ≡ true
+      → read_sections r f bs (extent_of r f bs) ≡ judged_as (Some r) (header_cut ∷ wrong_lengths ∷ [])
   unfolding sections_behind sections_from after_raw read_sections read_lengths packet_in header_in
   sections_judged r e t =
       ap (read_sections r f bs) (extent_in_steps r f bs)
-      ∙ pick_ap (read_sections r f bs) (ltb (length bs) (data_from r f bs)) Cut _
+      ∙ pick_ap (read_sections r f bs) (ltb (length bs) (data_from r f bs)) None _
       ∙ ap₂ whole (row_head bs r e t) (fields_in_words bs k r e)
-      ∙ ap (λ (x : Read). pick (ltb (length bs) (head_in bs)) (Read.Refused cut_short) x) (pick_not (lengths_fit _ _ _) _ _)
+      ∙ ap (λ (x : Result Packet Refusal). pick (ltb (length bs) (head_in bs)) (Err cut_short) x) (pick_not (lengths_fit _ _ _) _ _)
     where
-      whole : ℕ → Fields → Read
+      whole : ℕ → Fields → Result Packet Refusal
       whole m v =
-          pick (ltb (length bs) m) (Read.Refused cut_short)
-          (pick (lengths_fit r.shape v (length bs - m)) (Read.Packet (packet_of r f bs)) (Read.Refused bad_length))
+          pick (ltb (length bs) m) (Err cut_short)
+          (pick (lengths_fit r.shape v (length bs - m)) (Ok (packet_of r f bs)) (Err bad_length))
 
-  typed_judged : (o : FoundRow) → row_of k ≡ o → read_typed (admit (reader_rows all) o) bs ≡ judged_as o (wrong_type ∷ wrong_flags ∷ header_cut ∷ wrong_lengths ∷ [])
+  typed_judged : (o : Option TypeRow) → row_of k ≡ o → read_typed (admit (reader_rows all) o) bs ≡ judged_as o (wrong_type ∷ wrong_flags ∷ header_cut ∷ wrong_lengths ∷ [])
   unfolding admit read_typed read_flags
-  typed_judged Unknown e = unfold pick in refl
-  typed_judged (Row r) e = go (all || r.served)
+  typed_judged None e = unfold pick in refl
+  typed_judged (Some r) e = go (all || r.served)
     where
-      rest : Read
-      rest = judged_as (Row r) (wrong_flags ∷ header_cut ∷ wrong_lengths ∷ [])
+      rest : Result Packet Refusal
+      rest = judged_as (Some r) (wrong_flags ∷ header_cut ∷ wrong_lengths ∷ [])
 
-      go : (t : Bool) → read_typed (pick t (Row r) Unknown) bs ≡ pick (is_unknown (pick t (Row r) Unknown)) (Read.Refused bad_type) rest
+      go : (t : Bool) → read_typed (pick t (Some r) None) bs ≡ pick (is_unknown (pick t (Some r) None)) (Err bad_type) rest
       go true = unfold pick in ⊎_elim (λ t. rw t (sections_judged r e t)) (λ t. rw t) (tested (flags_fit r f))
       go false = unfold pick in refl
 
   pub is_judged : read_of (reader_rows all) limit bs ≡ judged_as (row_of k) reader_checks
   unfolding read_of
   is_judged =
-      ap (λ (x : Read). pick (ltb limit (length bs)) (Read.Refused above_limit) (pick (ltb (length bs) 4) (Read.Refused cut_short) x))
+      ap (λ (x : Result Packet Refusal). pick (ltb limit (length bs)) (Err above_limit) (pick (ltb (length bs) 4) (Err cut_short) x))
       (pick_not (eqb (get_or bs 1 0) 4) _ _
-      ∙ ap (λ (x : Read). pick (not (eqb (get_or bs 1 0) 4)) (Read.Refused bad_version) x) (typed_judged (row_of k) refl))
+      ∙ ap (λ (x : Result Packet Refusal). pick (not (eqb (get_or bs 1 0) 4)) (Err bad_version) x) (typed_judged (row_of k) refl))
 
   -- ---- a test that fails is a check that fails
 
@@ -133,13 +131,13 @@ module _ (all : Bool) (limit : ℕ) (bs : List ℕ) where
   holds header_cut e = ltb-true _ _ e
   holds wrong_lengths e = let (r, x, t) = row_in _ _ e in λ w. clashing _ ((lengths_in_words (fields_told bs k) _ k r x).1 w) (not-true _ t)
 
-  flags_hold : (o : FoundRow) → row_of k ≡ o → fails_as o wrong_flags ≡ false → FlagRule k f
-  flags_hold Unknown x e = unknown_flags k f x
-  flags_hold (Row r) x e = (flags_in_words k r f x).0 (not-false _ e)
+  flags_hold : (o : Option TypeRow) → row_of k ≡ o → fails_as o wrong_flags ≡ false → FlagRule k f
+  flags_hold None x e = unknown_flags k f x
+  flags_hold (Some r) x e = (flags_in_words k r f x).0 (not-false _ e)
 
-  lengths_hold : (o : FoundRow) → row_of k ≡ o → fails_as o wrong_lengths ≡ false → LengthRule k (fields_told bs k) (length bs - head_in bs)
-  lengths_hold Unknown x e = unknown_lengths k (fields_told bs k) _ x
-  lengths_hold (Row r) x e = (lengths_in_words (fields_told bs k) _ k r x).0 (not-false _ e)
+  lengths_hold : (o : Option TypeRow) → row_of k ≡ o → fails_as o wrong_lengths ≡ false → LengthRule k (fields_told bs k) (length bs - head_in bs)
+  lengths_hold None x e = unknown_lengths k (fields_told bs k) _ x
+  lengths_hold (Some r) x e = (lengths_in_words (fields_told bs k) _ k r x).0 (not-false _ e)
 
   passes : (c : ReaderCheck) → failing c ≡ false → ReadFails all limit bs c → ⊥
   passes over_limit e w = omega (arith, ltb-false limit (length bs) e)
@@ -158,7 +156,7 @@ module _ (all : Bool) (limit : ℕ) (bs : List ℕ) where
   is_said : read_says bs (read_of (reader_rows all) limit bs) ≡ judged failing (λ c. refused (refused_as c)) (gives passed) reader_checks
   is_said =
       ap (read_says bs) is_judged
-      ∙ judged_ap (read_says bs) failing (λ c. Read.Refused (refusal (refused_as c))) (Read.Packet (passed_as (row_of k))) reader_checks
+      ∙ judged_ap (read_says bs) failing (λ c. Err (refusal (refused_as c))) (Ok (passed_as (row_of k))) reader_checks
 
 pub refused_by_first_to_fail : RefusedByFirstToFail
 unfolding RefusedByFirstToFail

@@ -6,9 +6,9 @@ use lib.Seq.{drop-append_seam}
 use mathlib.Core.Bool.{true, false}
 use mathlib.Core.List.{List, [], ◌∷◌, ◌++◌, append_assoc, map}
 use mathlib.Core.Logic.{inl, inr, ⊎_elim}
-use mathlib.Core.Option.{some, none}
 use mathlib.Core.Path.{◌≡◌, refl, sym, ap, ◌∙◌, subst}
 use native.Mathlib.Omega.{arith}
+use Rattle.std.specs.Prelude.{Some, None}
 use Rattle.laws.specs.Choose.{pick}
 use Rattle.laws.specs.Parts.{part}
 use Rattle.protocol.specs.Arrays.{array_allowed, array_count, array_length, array_whole, has_array}
@@ -25,7 +25,6 @@ use Rattle.protocol.specs.SectionsInTurn.{after_array, after_raw}
 use Rattle.protocol.specs.Types.{row_of}
 use Rattle.protocol.specs.Values.{bytes_at, own_numbers, values, values_in}
 use Rattle.protocol.specs.Writing.{base_bytes, mandatory_bytes, packet_bytes}
-use Rattle.protocol.specs.declared.table.FoundRow.TheVariants.{Row}
 use Rattle.protocol.specs.declared.table.TypeRow.{TypeRow}
 use Rattle.protocol.specs.declared.types.Fields.{Fields}
 use Rattle.protocol.specs.declared.types.Header.{Header}
@@ -59,7 +58,7 @@ to_cq_data r h arr raw = to_raw r h arr raw ++ cq_data_bytes h.cq_data
 abbrev headers : TypeRow → Header → List ℕ → List ℕ → List ℕ
 headers r h arr raw = to_cq_data r h arr raw ++ connid_bytes r h.connid
 
-own_numbers_lem : (k : ℕ) (r : TypeRow) (v : Fields) → row_of k ≡ Row r → own_numbers (row_of k) v ≡ map (number_in v) (own_fields r)
+own_numbers_lem : (k : ℕ) (r : TypeRow) (v : Fields) → row_of k ≡ Some r → own_numbers (row_of k) v ≡ map (number_in v) (own_fields r)
 unfolding own_numbers
 own_numbers_lem k r v e = rw e
 
@@ -161,8 +160,8 @@ module _ (h : Header) (arr raw body : List ℕ) (r : TypeRow) (rule : Sound r) (
   unfolding pick
   multiuse_read m = field_read multiuse m
 
-  address_read : pick (flagged r f raw_address) (some (bytes_at whole (raw_span (flagged r f raw_address) whole (after_array r whole)))) none
-      ≡ pick h.raw_address (some raw) none
+  address_read : pick (flagged r f raw_address) (Some (bytes_at whole (raw_span (flagged r f raw_address) whole (after_array r whole)))) None
+      ≡ pick h.raw_address (Some raw) None
   address_read =
       rw (after_array_lem, parts) (raw_read r f raw (to_array r h arr) behind _ refl _ (raw_address_flag_lem r h rule fits) address_small)
 

@@ -5,15 +5,13 @@ use lib.ListN.{get_or}
 use mathlib.Core.Bool.{Bool}
 use mathlib.Core.List.{List, [], ◌∷◌}
 use mathlib.Core.Path.{◌≡◌}
+use Rattle.std.specs.Prelude.{Option, Ok, unwrap_or}
 use Rattle.protocol.specs.FieldNumbers.{field_in, fields_in, number_in}
 use Rattle.protocol.specs.Layout.{Field, count, credit_request, layout, msg_id, msg_length, multiuse, padding, recv_id, recv_length, same_field, seg_length, seg_offset, send_id, tag, width}
 use Rattle.protocol.specs.Options.{connid_in, connid_or_zero, cq_data_in}
 use Rattle.protocol.specs.Reading.{header_in, packet_in, read_of}
-use Rattle.protocol.specs.RoundTrip.{Numbers, cq_data_or_zero}
-use Rattle.protocol.specs.declared.types.Connid.{Connid}
-use Rattle.protocol.specs.declared.types.CqData.{CqData}
+use Rattle.protocol.specs.RoundTrip.{Numbers}
 use Rattle.protocol.specs.declared.types.Packet.{Packet}
-use Rattle.protocol.specs.declared.types.Read.{Read}
 use Rattle.protocol.specs.Types.{every_row}
 use Rattle.laws.proofs.Choosing.{pick_either}
 use Rattle.protocol.proofs.Accepted.{as_read}
@@ -56,15 +54,15 @@ module _ (bs : List ℕ) (b : (i : ℕ) → get_or bs i 0 < 256) where
   field_small gs at padding = none_small padding
   field_small gs at count = none_small count
 
-  cq_data_small : (there : Bool) (at : ℕ) → cq_data_or_zero (cq_data_in there bs at) < 256 ^ 8
+  cq_data_small : (there : Bool) (at : ℕ) → unwrap_or (cq_data_in there bs at) 0 < 256 ^ 8
   unfolding cq_data_in
-  cq_data_small there at = pick_either (λ (q : CqData). cq_data_or_zero q < 256 ^ 8) there (le_at_fits 8 bs at b) (lit< tt)
+  cq_data_small there at = pick_either (λ (q : Option ℕ). unwrap_or q 0 < 256 ^ 8) there (le_at_fits 8 bs at b) (lit< tt)
 
   connid_small : (there : Bool) (at : ℕ) → connid_or_zero (connid_in there bs at) < 256 ^ 4
   unfolding connid_in connid_or_zero
-  connid_small there at = pick_either (λ (q : Connid). connid_or_zero q < 256 ^ 4) there (le_at_fits 4 bs at b) (lit< tt)
+  connid_small there at = pick_either (λ (q : Option ℕ). connid_or_zero q < 256 ^ 4) there (le_at_fits 4 bs at b) (lit< tt)
 
-  pub read_numbers : (limit : ℕ) (p : Packet) → read_of every_row limit bs ≡ Read.Packet p → Numbers p.header
+  pub read_numbers : (limit : ℕ) (p : Packet) → read_of every_row limit bs ≡ Ok p → Numbers p.header
   unfolding packet_in header_in
   read_numbers limit p e =
       let (r, a, same) = as_read limit bs p e in

@@ -8,6 +8,7 @@ use mathlib.Core.List.{List}
 use mathlib.Core.Path.{◌≡◌, sym, ap, ◌∙◌, subst}
 use native.Mathlib.Nat.{zero-add}
 use native.Mathlib.Omega.{arith}
+use Rattle.std.specs.Prelude.{Result, Ok, Err}
 use Rattle.laws.specs.Parts.{part, store_at}
 use Rattle.protocol.specs.Arrays.{array_allowed, array_whole}
 use Rattle.protocol.specs.Flags.{flags_fit}
@@ -22,7 +23,6 @@ use Rattle.protocol.specs.declared.table.TypeRow.{TypeRow}
 use Rattle.protocol.specs.declared.types.Header.{Header}
 use Rattle.protocol.specs.declared.types.Packet.{Packet}
 use Rattle.protocol.specs.declared.types.Refusal.{Refusal}
-use Rattle.protocol.specs.declared.types.Written.{Written}
 use Rattle.wire.specs.LittleEndian.{le_at}
 use Rattle.laws.proofs.Choosing.{and_left, and_right, pick_ap, pick_false, pick_first, pick_second, pick_true}
 use Rattle.laws.proofs.Storing.{drop_store, part_store}
@@ -32,7 +32,7 @@ use Rattle.protocol.proofs.Sayings.{written_gives}
 use Rattle.protocol.proofs.StepLaws.{extent_in_steps, whole_bytes}
 use Rattle.protocol.specs.Limits.{packet_limit}
 
-no_length : (k : Refusal) (n : ℕ) → Written.Refused k ≡ Written.Length n → ⊥
+no_length : (k : Refusal) (n : ℕ) → Err k ≡ Ok n → ⊥
 no_length k n e = let z : ◌≡◌ {A = ℕ} 0 1 = cc in omega arith
 
 -- what the writer's answer tells
@@ -49,10 +49,10 @@ module _ (r : TypeRow) (h : Header) (arr raw body out : List ℕ) (n : ℕ) wher
   abbrev bytes : List ℕ
   bytes = packet_bytes r h arr raw body
 
-  taken : (write_as r h arr raw body out).answer ≡ Written.Length n → Taken r h arr raw body out n
+  taken : (write_as r h arr raw body out).answer ≡ Ok n → Taken r h arr raw body out n
   unfolding write_as write_bytes
   taken e =
-      let answer : WriteLeaves → Written = λ o. o.answer in
+      let answer : WriteLeaves → Result ℕ Refusal = λ o. o.answer in
       let (a, e) = pick_first _ _ _ _ (no_length bad_flags n) (sym (pick_ap answer _ _ _) ∙ e) in
       let (b, e) = pick_first _ _ _ _ (no_length bad_length n) (sym (pick_ap answer _ _ _) ∙ e) in
       let (c, e) = pick_second _ _ _ _ (no_length above_limit n) (sym (pick_ap answer _ _ _) ∙ e) in

@@ -9,13 +9,12 @@ use mathlib.Core.Logic.{◌⊎◌, inl, inr, ⊎_elim, ⊎_map}
 use mathlib.Core.Path.{◌≡◌, refl, sym, ap, ap₂, ◌∙◌}
 use native.Mathlib.Nat.{zero-div, pow-succ', div-one, div-div-eq-div-mul}
 use native.Mathlib.Omega.{arith}
+use Rattle.std.specs.Prelude.{Option, Some, None}
 use Rattle.laws.specs.Choose.{pick}
 use Rattle.laws.specs.Parts.{part}
 use Rattle.protocol.specs.ByType.{Known}
 use Rattle.protocol.specs.Sentences.{NumbersAreLittleEndian, TypesAreTheTables}
 use Rattle.protocol.specs.Types.{admit, reader_rows, row_in, row_of}
-use Rattle.protocol.specs.declared.table.FoundRow.{FoundRow}
-use Rattle.protocol.specs.declared.table.FoundRow.TheVariants.{Row, Unknown}
 use Rattle.protocol.specs.declared.table.TypeRow.{TypeRow}
 use Rattle.wire.specs.LittleEndian.{le_at, le_of}
 use Rattle.laws.proofs.Choosing.{and_left, and_right, clashing, or_cases, pick_cases, pick_first, pick_true}
@@ -48,26 +47,26 @@ numbers_are_little_endian n bs at b = (
 
 -- ---- types
 
-abbrev admitted : Bool → FoundRow → Bool
-admitted all Unknown = false
-admitted all (Row r) = all || r.served
+abbrev admitted : Bool → Option TypeRow → Bool
+admitted all None = false
+admitted all (Some r) = all || r.served
 
-row_of_lem : (all : Bool) (o : FoundRow) → admitted all o ≡ true → (r : TypeRow) × (admit (reader_rows all) o ≡ Row r)
+row_of_lem : (all : Bool) (o : Option TypeRow) → admitted all o ≡ true → (r : TypeRow) × (admit (reader_rows all) o ≡ Some r)
 unfolding admit
-row_of_lem all Unknown e = absurd (false≢true e)
-row_of_lem all (Row r) e = (r, pick_true (Row r) Unknown e)
+row_of_lem all None e = absurd (false≢true e)
+row_of_lem all (Some r) e = (r, pick_true (Some r) None e)
 
-pub of_row : (all : Bool) (o : FoundRow) (r : TypeRow) → admit (reader_rows all) o ≡ Row r → (o ≡ Row r) × ((all || r.served) ≡ true)
+pub of_row : (all : Bool) (o : Option TypeRow) (r : TypeRow) → admit (reader_rows all) o ≡ Some r → (o ≡ Some r) × ((all || r.served) ≡ true)
 unfolding admit
-of_row all Unknown r e = let z : ◌≡◌ {A = ℕ} 0 1 = cc in absurd (omega arith)
-of_row all (Row q) r e =
-    let (t, s) = pick_first (all || q.served) (Row q) Unknown (Row r) (λ x. let z : ◌≡◌ {A = ℕ} 0 1 = cc in omega arith) e in
+of_row all None r e = let z : ◌≡◌ {A = ℕ} 0 1 = cc in absurd (omega arith)
+of_row all (Some q) r e =
+    let (t, s) = pick_first (all || q.served) (Some q) None (Some r) (λ x. let z : ◌≡◌ {A = ℕ} 0 1 = cc in omega arith) e in
     let same : q ≡ r = cc in
     (s, rw same at t)
 
-admitted_any : (all : Bool) (o : FoundRow) → admitted false o ≡ true → admitted all o ≡ true
-admitted_any all Unknown e = e
-admitted_any all (Row r) e = ap (λ (t : Bool). all || t) e ∙ or-true all
+admitted_any : (all : Bool) (o : Option TypeRow) → admitted false o ≡ true → admitted all o ≡ true
+admitted_any all None e = e
+admitted_any all (Some r) e = ap (λ (t : Bool). all || t) e ∙ or-true all
 
 known_there : (all : Bool) (k : ℕ) → Known all k → admitted all (row_of k) ≡ true
 unfolding row_of row_in pick
@@ -86,7 +85,7 @@ pub types_are_the_tables : TypesAreTheTables
 unfolding TypesAreTheTables
 types_are_the_tables all k = (λ w. found w.0 (of_row all (row_of k) w.0 w.1), λ w. row_of_lem all (row_of k) (known_there all k w))
   where
-    found : (r : TypeRow) → (row_of k ≡ Row r) × ((all || r.served) ≡ true) → Known all k
+    found : (r : TypeRow) → (row_of k ≡ Some r) × ((all || r.served) ≡ true) → Known all k
     found r (e, a) = ⊎_elim engine_too (λ x. inl (sym kind ∙ eqb-true r.kind 3 x.1, unserved (or_cases all r.served a) x.0)) tests
       where
         kind : r.kind ≡ k

@@ -7,22 +7,20 @@ use mathlib.Core.Bool.{Bool, true, false, ◌&&◌, true≢false}
 use mathlib.Core.List.{List, [], ◌∷◌, ◌++◌, append-nil, append_assoc}
 use mathlib.Core.Path.{◌≡◌, refl, ap, ap₂, ◌∙◌}
 use native.Mathlib.Omega.{arith}
+use Rattle.std.specs.Prelude.{Option, Some, None, is_some}
 use Rattle.laws.specs.Choose.{pick}
 use Rattle.protocol.specs.Arrays.{array_allowed, array_length, has_array}
 use Rattle.protocol.specs.FieldNumbers.{count_in}
 use Rattle.protocol.specs.Flags.{cq_data_flag, connid_flag, has_flag, raw_address_flag}
-use Rattle.protocol.specs.Optional.{Section, array, connid, cq_data, flagged, has_cq_data, options_fit, ordinal, raw_address, sections_of}
+use Rattle.protocol.specs.Optional.{Section, array, connid, cq_data, flagged, options_fit, ordinal, raw_address, sections_of}
 use Rattle.protocol.specs.Options.{connid_bytes, cq_data_bytes, raw_address_bytes, sections_bytes}
 use Rattle.protocol.specs.Rules.{Sound}
 use Rattle.protocol.specs.Sections.{begin_of, connid_at, data_at, end_of, extent_of, raw_span, sections_before, sections_in}
 use Rattle.protocol.specs.SectionsInTurn.{after_array, after_raw, connid_length, cq_data_length, sections_at, sections_behind, sections_from}
 use Rattle.protocol.specs.Totals.{sizes}
 use Rattle.protocol.specs.Writing.{mandatory_bytes, packet_bytes}
-use Rattle.protocol.specs.declared.sections.Extent.TheVariants.{Cut, Whole}
 use Rattle.protocol.specs.declared.sections.Sections.{Sections}
 use Rattle.protocol.specs.declared.table.TypeRow.{TypeRow}
-use Rattle.protocol.specs.declared.types.Connid.{Connid}
-use Rattle.protocol.specs.declared.types.CqData.{CqData}
 use Rattle.protocol.specs.declared.types.Header.{Header}
 use Rattle.wire.specs.LittleEndian.{le_at, le_bytes}
 use Rattle.laws.proofs.Choosing.{pick_false, pick_small}
@@ -138,7 +136,7 @@ module _ (r : TypeRow) (f : ℕ) (bs : List ℕ) where
 
   pub extent_in_steps : extent_of r f bs ≡ sections_behind r f bs (after_array r bs)
   unfolding extent_of sections_behind sections_from after_raw
-  extent_in_steps = ap₂ (λ (n : ℕ) (t : Sections). pick (ltb (length bs) n) Cut (Whole t)) data_at_lem sections_in_lem
+  extent_in_steps = ap₂ (λ (n : ℕ) (t : Sections). pick (ltb (length bs) n) None (Some t)) data_at_lem sections_in_lem
 
 -- ---- how long they are
 
@@ -190,18 +188,18 @@ no_raw_address_lem : (there : Bool) (raw : List ℕ) → there ≡ false → raw
 unfolding raw_address_bytes pick
 no_raw_address_lem there raw e = rw e
 
-no_cq_data_lem : (q : CqData) → has_cq_data q ≡ false → cq_data_bytes q ≡ []
+no_cq_data_lem : (q : Option ℕ) → is_some q ≡ false → cq_data_bytes q ≡ []
 unfolding cq_data_bytes
-no_cq_data_lem CqData.Absent e = refl
-no_cq_data_lem (CqData.Present d) e = absurd (true≢false e)
+no_cq_data_lem None e = refl
+no_cq_data_lem (Some d) e = absurd (true≢false e)
 
-no_connid_lem : (r : TypeRow) (q : Connid) → r.connid ≡ 0 → connid_bytes r q ≡ []
+no_connid_lem : (r : TypeRow) (q : Option ℕ) → r.connid ≡ 0 → connid_bytes r q ≡ []
 unfolding connid_bytes
-no_connid_lem r Connid.Absent e = refl
-no_connid_lem r (Connid.Present c) e = ap₂ le_bytes e refl ∙ bytes_none _
+no_connid_lem r None e = refl
+no_connid_lem r (Some c) e = ap₂ le_bytes e refl ∙ bytes_none _
 
 module _ (r : TypeRow) (h : Header) (arr raw : List ℕ) where
-  bytes_listed : (q z : Bool) → (q ≡ false → (h.raw_address ≡ false) × (has_cq_data h.cq_data ≡ false)) → (z ≡ true → r.connid ≡ 0)
+  bytes_listed : (q z : Bool) → (q ≡ false → (h.raw_address ≡ false) × (is_some h.cq_data ≡ false)) → (z ≡ true → r.connid ≡ 0)
       → sections_bytes r h arr raw (behind q z)
       ≡ raw_address_bytes h.raw_address raw ++ (cq_data_bytes h.cq_data ++ connid_bytes r h.connid)
   unfolding pick

@@ -9,32 +9,32 @@ use mathlib.Core.List.{List, [], ◌∷◌, map}
 use mathlib.Core.Logic.{⊎_elim, ⊎_map}
 use mathlib.Core.Path.{◌≡◌, refl, sym, subst, ◌∙◌}
 use native.Mathlib.Omega.{arith}
+use Rattle.std.specs.Prelude.{Some}
 use Rattle.laws.specs.Choose.{pick}
 use Rattle.protocol.specs.Layout.{Field, count, credit_request, distinct, fields, layout, length_place, msg_id, msg_length, multiuse, ordinal, padding, place_in, place_of, recv_id, recv_length, seg_length, seg_offset, send_id, tag, width, widths}
 use Rattle.protocol.specs.Optional.{flag_sum, flags_taken, options, sections_of}
 use Rattle.protocol.specs.Rules.{ConnidPlace, Sound}
 use Rattle.protocol.specs.Types.{row_in, row_of, rows}
-use Rattle.protocol.specs.declared.table.FoundRow.TheVariants.{Row}
 use Rattle.protocol.specs.declared.table.TypeRow.{TypeRow}
 use Rattle.laws.proofs.Choosing.{all_true_lem, all_true, and_left, and_right, clashing, or_cases, pick_cases}
 
 -- a row that is found in a table has the type that was looked for, and passes a test that all its rows pass
 found_in : (test : TypeRow → Bool) (rs : List TypeRow) (k : ℕ) (r : TypeRow)
     → all_true (map test rs) ≡ true
-    → row_in rs k ≡ Row r
+    → row_in rs k ≡ Some r
     → (r.kind ≡ k) × (test r ≡ true)
 unfolding row_in
 found_in test [] k r a e = let z : ◌≡◌ {A = ℕ} 0 1 = cc in absurd (omega arith)
 found_in test (q ∷ rs) k r a e =
     ⊎_elim (λ h. let s : q ≡ r = cc in (rw (← s) (eqb-true q.kind k h.0), rw (← s) (and_left (test q) (all_true (map test rs)) a)))
     (λ h. found_in test rs k r (and_right (test q) (all_true (map test rs)) a) h.1)
-    (pick_cases (eqb q.kind k) (Row q) (row_in rs k) (Row r) e)
+    (pick_cases (eqb q.kind k) (Some q) (row_in rs k) (Some r) e)
 
-pub row_kind : (k : ℕ) (r : TypeRow) → row_of k ≡ Row r → r.kind ≡ k
+pub row_kind : (k : ℕ) (r : TypeRow) → row_of k ≡ Some r → r.kind ≡ k
 unfolding row_of
 row_kind k r e = (found_in (λ q. true) rows k r refl e).0
 
-pub row_passes : (test : TypeRow → Bool) → all_true (map test rows) ≡ true → (k : ℕ) (r : TypeRow) → row_of k ≡ Row r → test r ≡ true
+pub row_passes : (test : TypeRow → Bool) → all_true (map test rows) ≡ true → (k : ℕ) (r : TypeRow) → row_of k ≡ Some r → test r ≡ true
 unfolding row_of
 row_passes test a k r e = (found_in test rows k r a e).1
 
@@ -43,13 +43,13 @@ abbrev Each : (ℕ → TypeRow → Type 0) → List TypeRow → Type 0
 Each P [] = Unit {0}
 Each P (r ∷ rs) = P r.kind r × Each P rs
 
-each_in : (P : ℕ → TypeRow → Type 0) (rs : List TypeRow) → Each P rs → (k : ℕ) (r : TypeRow) → row_in rs k ≡ Row r → P k r
+each_in : (P : ℕ → TypeRow → Type 0) (rs : List TypeRow) → Each P rs → (k : ℕ) (r : TypeRow) → row_in rs k ≡ Some r → P k r
 unfolding row_in
 each_in P [] a k r e = let z : ◌≡◌ {A = ℕ} 0 1 = cc in absurd (omega arith)
 each_in P (q ∷ rs) a k r e =
     ⊎_elim (λ h. let s : q ≡ r = cc in subst (λ (x : TypeRow). P k x) s (subst (λ (n : ℕ). P n q) (eqb-true q.kind k h.0) a.0))
     (λ h. each_in P rs a.1 k r h.1)
-    (pick_cases (eqb q.kind k) (Row q) (row_in rs k) (Row r) e)
+    (pick_cases (eqb q.kind k) (Some q) (row_in rs k) (Some r) e)
 
 -- what the rows of a table say, each of its own type, is what is told of the type of a row that is found: one comparison for the whole table
 each_same : {A : Type 0} (says : ℕ → TypeRow → A) (told : ℕ → A) (rs : List TypeRow)
@@ -63,7 +63,7 @@ each_same says told (r ∷ rs) e =
 
 pub rows_say : {A : Type 0} (says : ℕ → TypeRow → A) (told : ℕ → A)
     → map (λ (r : TypeRow). says r.kind r) rows ≡ map (λ (r : TypeRow). told r.kind) rows
-    → (k : ℕ) (r : TypeRow) → row_of k ≡ Row r → says k r ≡ told k
+    → (k : ℕ) (r : TypeRow) → row_of k ≡ Some r → says k r ≡ told k
 unfolding row_of
 rows_say says told same k r e = each_in (λ k r. says k r ≡ told k) rows (each_same says told rows same) k r e
 
@@ -146,10 +146,10 @@ request_has_lem true a b c h e = (
 )
 
 -- no type of the table has a counted array
-pub no_array : (k : ℕ) (r : TypeRow) → row_of k ≡ Row r → r.unit ≡ 0
+pub no_array : (k : ℕ) (r : TypeRow) → row_of k ≡ Some r → r.unit ≡ 0
 no_array k r e = eqb-true _ _ (row_passes (λ q. eqb q.unit 0) refl k r e)
 
-pub sound : (k : ℕ) (r : TypeRow) → row_of k ≡ Row r → Sound r
+pub sound : (k : ℕ) (r : TypeRow) → row_of k ≡ Some r → Sound r
 unfolding layout length_place place_in flags_taken sections_of pick
 sound k r e =
     record {

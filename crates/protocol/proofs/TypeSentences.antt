@@ -8,6 +8,7 @@ use mathlib.Core.List.{List, [], ◌∷◌, map}
 use mathlib.Core.Logic.{◌⊎◌, ◌↔◌, inl, inr, ⊎_elim, ⊎_map}
 use mathlib.Core.Path.{◌≡◌, refl, sym, ap, ◌∙◌, subst}
 use native.Mathlib.Omega.{arith}
+use Rattle.std.specs.Prelude.{Some, None}
 use Rattle.laws.specs.Choose.{pick}
 use Rattle.protocol.specs.ByType.{CtsOrData, FlagRule, Known, LengthRule, connid_header, fields_told, header_length, length_at, own_told, shape_told, tagged_told}
 use Rattle.protocol.specs.FieldNumbers.{field_in, fields_in, number_in}
@@ -15,7 +16,6 @@ use Rattle.protocol.specs.Sentences.{LengthsStandAsTold, TypesAreTheTables}
 use Rattle.protocol.specs.Layout.{Field, has, layout, msg_length, own_fields, recv_length, seg_length, seg_offset}
 use Rattle.protocol.specs.Lengths.{lengths_fit}
 use Rattle.protocol.specs.Types.{admit, every_row, row_of}
-use Rattle.protocol.specs.declared.table.FoundRow.TheVariants.{Row, Unknown}
 use Rattle.protocol.specs.declared.table.Shape.{Shape}
 use Rattle.protocol.specs.declared.table.Shape.TheVariants.{Cts, CtsData, Eager, LongCts, Medium}
 use Rattle.protocol.specs.declared.table.TypeRow.{TypeRow}
@@ -26,7 +26,7 @@ use Rattle.protocol.proofs.LayoutLaws.{map_among}
 use Rattle.protocol.proofs.TableRule.{row_kind, row_passes, rows_say}
 use Rattle.protocol.proofs.SentencesHold.{types_are_the_tables}
 
-pub header_in_words : (k : ℕ) (r : TypeRow) → row_of k ≡ Row r → r.header ≡ header_length k
+pub header_in_words : (k : ℕ) (r : TypeRow) → row_of k ≡ Some r → r.header ≡ header_length k
 unfolding pick
 header_in_words = rows_say (λ k r. r.header) header_length refl
 
@@ -34,51 +34,51 @@ pub lengths_stand_as_told : LengthsStandAsTold
 unfolding LengthsStandAsTold pick
 lengths_stand_as_told = rows_say (λ k r. r.length_at) length_at refl
 
-pub shape_in_words : (k : ℕ) (r : TypeRow) → row_of k ≡ Row r → r.shape ≡ shape_told k
+pub shape_in_words : (k : ℕ) (r : TypeRow) → row_of k ≡ Some r → r.shape ≡ shape_told k
 unfolding pick
 shape_in_words = rows_say (λ k r. r.shape) shape_told refl
 
-pub tagged_in_words : (k : ℕ) (r : TypeRow) → row_of k ≡ Row r → r.tagged ≡ tagged_told k
+pub tagged_in_words : (k : ℕ) (r : TypeRow) → row_of k ≡ Some r → r.tagged ≡ tagged_told k
 unfolding pick
 tagged_in_words = rows_say (λ k r. r.tagged) tagged_told refl
 
-pub connid_in_words : (k : ℕ) (r : TypeRow) → row_of k ≡ Row r → r.connid ≡ connid_header k
+pub connid_in_words : (k : ℕ) (r : TypeRow) → row_of k ≡ Some r → r.connid ≡ connid_header k
 unfolding pick
 connid_in_words = rows_say (λ k r. r.connid) connid_header refl
 
 -- raw address and CQ data may follow in every type but CTS and CTSDATA
-pub request_in_words : (k : ℕ) (r : TypeRow) → row_of k ≡ Row r → (r.request ≡ false) ↔ CtsOrData k
+pub request_in_words : (k : ℕ) (r : TypeRow) → row_of k ≡ Some r → (r.request ≡ false) ↔ CtsOrData k
 request_in_words k r e = (λ q. ⊎_map (eqb-true k 3) (eqb-true k 4) (or_cases (eqb k 3) (eqb k 4) (not-false _ (sym told ∙ q))), λ c. told ∙ ⊎_elim (λ x. rw x) (λ x. rw x) c)
   where
     told : r.request ≡ not (eqb k 3 || eqb k 4)
     told = rows_say (λ k r. r.request) (λ k. not (eqb k 3 || eqb k 4)) refl k r e
 
-pub fields_in_words : (bs : List ℕ) (k : ℕ) (r : TypeRow) → row_of k ≡ Row r → fields_in (layout r) 4 bs ≡ fields_told bs k
+pub fields_in_words : (bs : List ℕ) (k : ℕ) (r : TypeRow) → row_of k ≡ Some r → fields_in (layout r) 4 bs ≡ fields_told bs k
 unfolding fields_in field_in layout pick
 fields_in_words bs = rows_say (λ k r. fields_in (layout r) 4 bs) (fields_told bs) refl
 
-pub own_in_words : (bs : List ℕ) (k : ℕ) (r : TypeRow) → row_of k ≡ Row r → map (number_in (fields_told bs k)) (own_fields r) ≡ own_told bs k
+pub own_in_words : (bs : List ℕ) (k : ℕ) (r : TypeRow) → row_of k ≡ Some r → map (number_in (fields_told bs k)) (own_fields r) ≡ own_told bs k
 unfolding own_fields layout pick
 own_in_words bs = rows_say (λ k r. map (number_in (fields_told bs k)) (own_fields r)) (own_told bs) refl
 
 -- ---- a type that is not in the table
 
-pub unknown_type : (k : ℕ) → row_of k ≡ Unknown → Known true k → ⊥
+pub unknown_type : (k : ℕ) → row_of k ≡ None → Known true k → ⊥
 unfolding TypesAreTheTables admit
 unknown_type k e w =
     let (r, x) = (types_are_the_tables true k).1 w in
-    let y : Unknown ≡ Row r = ap (admit every_row) (sym e) ∙ x in
+    let y : None ≡ Some r = ap (admit every_row) (sym e) ∙ x in
     let z : ◌≡◌ {A = ℕ} 0 1 = cc in
     omega arith
 
 -- no rule speaks of it
-pub unknown_flags : (k f : ℕ) → row_of k ≡ Unknown → FlagRule k f
+pub unknown_flags : (k f : ℕ) → row_of k ≡ None → FlagRule k f
 unknown_flags k f e = (
   λ c. absurd (unknown_type k e (⊎_elim (λ x. inl (x, refl)) (λ x. inr (inl x)) c)),
   λ l. absurd (unknown_type k e (inr (inr l))),
 )
 
-pub unknown_lengths : (k : ℕ) (v : Fields) (n : ℕ) → row_of k ≡ Unknown → LengthRule k v n
+pub unknown_lengths : (k : ℕ) (v : Fields) (n : ℕ) → row_of k ≡ None → LengthRule k v n
 unknown_lengths k v n e =
     record {
       cts = λ x. absurd (unknown_type k e (inl (x, refl)));
@@ -127,7 +127,7 @@ module _ (v : Fields) (n : ℕ) where
   shaped k Medium t w = w.medium (either k 66 67 t)
   shaped k LongCts t w = w.long (either k 68 69 t)
 
-  type_lengths : (k : ℕ) (r : TypeRow) → row_of k ≡ Row r → ShapeRule r.shape v n ↔ LengthRule k v n
+  type_lengths : (k : ℕ) (r : TypeRow) → row_of k ≡ Some r → ShapeRule r.shape v n ↔ LengthRule k v n
   unfolding pick
   type_lengths k r e = (
     λ x. record {
@@ -143,7 +143,7 @@ module _ (v : Fields) (n : ℕ) where
       told : (a : ℕ) → ShapeRule r.shape v n → k ≡ a → ShapeRule (shape_told a) v n
       told a x y = subst (λ (s : Shape). ShapeRule s v n) (shape_in_words k r e ∙ ap shape_told y) x
 
-  pub lengths_in_words : (k : ℕ) (r : TypeRow) → row_of k ≡ Row r → (lengths_fit r.shape v n ≡ true) ↔ LengthRule k v n
+  pub lengths_in_words : (k : ℕ) (r : TypeRow) → row_of k ≡ Some r → (lengths_fit r.shape v n ≡ true) ↔ LengthRule k v n
   lengths_in_words k r e =
       let a = shape_rule r.shape v n in
       let b = type_lengths k r e in
@@ -167,7 +167,7 @@ asked_same Medium v w n e = cc
 asked_same LongCts v w n e = cc
 
 -- are the type's own
-pub lengths_same : (v w : Fields) (n k : ℕ) (r : TypeRow) → row_of k ≡ Row r
+pub lengths_same : (v w : Fields) (n k : ℕ) (r : TypeRow) → row_of k ≡ Some r
     → map (number_in v) (own_fields r) ≡ map (number_in w) (own_fields r)
     → lengths_fit r.shape v n ≡ lengths_fit r.shape w n
 unfolding own_fields layout pick

@@ -4,9 +4,9 @@ use lib.ListN.{length}
 use mathlib.Core.Bool.{Bool, true, false}
 use mathlib.Core.List.{List, [], ◌∷◌, ◌++◌, map}
 use mathlib.Core.Logic.{⊎_elim}
-use mathlib.Core.Option.{Option, some, none}
 use mathlib.Core.Path.{◌≡◌, refl, sym, ap, ap₂, ◌∙◌}
 use native.Mathlib.Omega.{arith}
+use Rattle.std.specs.Prelude.{Option, Some, None}
 use Rattle.laws.specs.Choose.{pick}
 use Rattle.protocol.specs.Arrays.{array_count}
 use Rattle.protocol.specs.FieldNumbers.{field_bytes, number_in, field_number}
@@ -17,8 +17,6 @@ use Rattle.protocol.specs.Options.{connid_bytes, connid_or_zero, cq_data_bytes, 
 use Rattle.protocol.specs.Types.{row_of}
 use Rattle.protocol.specs.Values.{Values, own_numbers, values}
 use Rattle.protocol.specs.Writing.{mandatory_bytes, packet_bytes, write_as, write_of, write_typed}
-use Rattle.protocol.specs.declared.table.FoundRow.{FoundRow}
-use Rattle.protocol.specs.declared.table.FoundRow.TheVariants.{Row, Unknown}
 use Rattle.protocol.specs.declared.table.TypeRow.{TypeRow}
 use Rattle.protocol.specs.declared.types.Header.{Header}
 use Rattle.wire.specs.LittleEndian.{le_bytes}
@@ -56,7 +54,7 @@ module _ (told : ℕ) (h g : Header) (c : h.connid ≡ g.connid) where
       (tested (is_own f))
 
 -- a raw address that is there or not
-raw_same : (a b : Bool) (x y : List ℕ) → ◌≡◌ {A = Option (List ℕ)} (pick a (some x) none) (pick b (some y) none)
+raw_same : (a b : Bool) (x y : List ℕ) → ◌≡◌ {A = Option (List ℕ)} (pick a (Some x) None) (pick b (Some y) None)
     → (a ≡ b) × (raw_address_bytes a x ≡ raw_address_bytes b y)
 unfolding pick raw_address_bytes
 raw_same true true x y e = let z : x ≡ y = cc in (refl, rw z)
@@ -89,7 +87,7 @@ module _ (h g : Header) (raw raw' body body' : List ℕ) (same : values h raw bo
   unfolding values
   body_same = ap (λ (v : Values). v.body) same
 
-  module _ (r : TypeRow) (row : row_of h.kind ≡ Row r) (own : map (number_in h.fields) (own_fields r) ≡ map (number_in g.fields) (own_fields r)) where
+  module _ (r : TypeRow) (row : row_of h.kind ≡ Some r) (own : map (number_in h.fields) (own_fields r) ≡ map (number_in g.fields) (own_fields r)) where
     flags_same : flags_of r h ≡ flags_of r g
     unfolding flags_of
     flags_same = rw (address_same.0, cq_same, connid_same)
@@ -121,15 +119,15 @@ module _ (h g : Header) (raw raw' body body' : List ℕ) (same : values h raw bo
     unfolding write_as
     row_same out = rw (options_same, fit_same, bytes_same)
 
-  found_same : (o : FoundRow) (out : List ℕ) → row_of h.kind ≡ o → own_numbers o h.fields ≡ own_numbers o g.fields
+  found_same : (o : Option TypeRow) (out : List ℕ) → row_of h.kind ≡ o → own_numbers o h.fields ≡ own_numbers o g.fields
       → write_typed o h [] raw body out ≡ write_typed o g [] raw' body' out
   unfolding write_typed own_numbers
-  found_same Unknown out row own = refl
-  found_same (Row r) out row own = row_same r row own out
+  found_same None out row own = refl
+  found_same (Some r) out row own = row_same r row own out
 
   pub same_written : (out : List ℕ) → write_of h raw body out ≡ write_of g raw' body' out
   unfolding write_of
   same_written out =
       let o : row_of g.kind ≡ row_of h.kind = ap row_of (sym kind_same) in
-      found_same (row_of h.kind) out refl (own_same ∙ ap (λ (o : FoundRow). own_numbers o g.fields) o)
+      found_same (row_of h.kind) out refl (own_same ∙ ap (λ (o : Option TypeRow). own_numbers o g.fields) o)
       ∙ ap (λ (k : ℕ). write_typed (row_of k) g [] raw' body' out) kind_same

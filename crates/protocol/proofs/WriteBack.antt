@@ -8,6 +8,7 @@ use mathlib.Core.List.{List, [], ◌∷◌, ◌++◌, append_assoc}
 use mathlib.Core.Logic.{inl, inr, ⊎_elim}
 use mathlib.Core.Path.{◌≡◌, refl, sym, ap, ap₂, ◌∙◌}
 use native.Mathlib.Omega.{arith}
+use Rattle.std.specs.Prelude.{Option, Some, None, Ok}
 use Rattle.laws.specs.Choose.{pick}
 use Rattle.laws.specs.Parts.{part, store_at}
 use Rattle.protocol.specs.ByType.{column}
@@ -25,12 +26,9 @@ use Rattle.protocol.specs.SectionsInTurn.{after_array, after_raw, connid_length,
 use Rattle.protocol.specs.Types.{row_of}
 use Rattle.protocol.specs.Values.{bytes_at}
 use Rattle.protocol.specs.Writing.{base_bytes, mandatory_bytes, packet_bytes, write_of}
-use Rattle.protocol.specs.declared.table.FoundRow.TheVariants.{Row}
 use Rattle.protocol.specs.declared.table.TypeRow.{TypeRow}
-use Rattle.protocol.specs.declared.types.Connid.{Connid}
 use Rattle.protocol.specs.declared.types.Packet.{Packet}
 use Rattle.protocol.specs.declared.types.Span.{Span}
-use Rattle.protocol.specs.declared.types.Written.{Written}
 use Rattle.wire.specs.LittleEndian.{le_at, le_bytes}
 use Rattle.laws.proofs.Choosing.{clashing, pick_false, pick_true, tested}
 use Rattle.laws.proofs.Storing.{length_part, length_store, part_add, part_drop, part_rest, store_back, store_nothing}
@@ -48,12 +46,12 @@ use Rattle.wire.proofs.Laws.{bytes_again, bytes_again_wide, bytes_none}
 use Rattle.protocol.specs.Limits.{packet_limit}
 
 -- the padding of a connid behind the other headers
-unfoldable blank_of : Connid → TypeRow → Packet → Span
-blank_of Connid.Absent r p = span 0 0
-blank_of (Connid.Present c) r p = span (p.«data».at - (r.connid - 4)) (r.connid - 4)
+unfoldable blank_of : Option ℕ → TypeRow → Packet → Span
+blank_of None r p = span 0 0
+blank_of (Some c) r p = span (p.«data».at - (r.connid - 4)) (r.connid - 4)
 
 -- the packet with this padding zero
-abbrev padded : Connid → TypeRow → Packet → List ℕ → List ℕ
+abbrev padded : Option ℕ → TypeRow → Packet → List ℕ → List ℕ
 padded c r p bs = store_at bs (blank_of c r p).at (replicate (blank_of c r p).size 0)
 
 -- and the fields that no value is read from
@@ -161,7 +159,7 @@ module _ (bs : List ℕ) (b : (i : ℕ) → get_or bs i 0 < 256) (r : TypeRow) (
       ) (simp append_assoc)
 
   -- the packet as it is written again with the connid c behind the other headers: its own bytes, but for the padding
-  abbrev Again : Connid → Packet → Type 0
+  abbrev Again : Option ℕ → Packet → Type 0
   Again c p =
       (part bs 0 4 ++ (part bs 4 (middle r f bs) ++ (connid_bytes r c ++ drop p.«data».at bs)) ≡ padded c r p bs)
       × ((blank_of c r p).at + (blank_of c r p).size ≤ length bs)
@@ -171,7 +169,7 @@ module _ (bs : List ℕ) (b : (i : ℕ) → get_or bs i 0 < 256) (r : TypeRow) (
     unfolding part
     all_again x = rw (x, part_drop bs 4 (middle r f bs)) (take-append-drop 4 bs)
 
-    absent_again : flagged r f connid ≡ false → Again Connid.Absent p
+    absent_again : flagged r f connid ≡ false → Again None p
     unfolding connid_bytes connid_length after_raw after_array blank_of pick
     absent_again e =
         let x : p.«data».at ≡ 4 + middle r f bs = omega (arith, rw e at d, rule.header) in
@@ -179,7 +177,7 @@ module _ (bs : List ℕ) (b : (i : ℕ) → get_or bs i 0 < 256) (r : TypeRow) (
 
     present_again : (n : ℕ) → flagged r f connid ≡ true → ConnidPlace (place_of r multiuse) r.connid
         → n ≡ le_at 4 bs (connid_at r (connid_from r f bs))
-        → Again (Connid.Present n) p
+        → Again (Some n) p
     unfolding connid_bytes connid_length after_raw after_array blank_of pick
     present_again x e (inl m) q =
         let d = rw e at d in
@@ -204,7 +202,7 @@ module _ (bs : List ℕ) (b : (i : ℕ) → get_or bs i 0 < 256) (r : TypeRow) (
 
 -- by the type's number: CTSDATA has no raw address and no CQ data before its connid
 module _ (f : ℕ) (bs : List ℕ) where
-  padding_at : (r : TypeRow) → row_of 4 ≡ Row r → flagged r f connid ≡ true → data_from r f bs - 4 ≡ 28
+  padding_at : (r : TypeRow) → row_of 4 ≡ Some r → flagged r f connid ≡ true → data_from r f bs - 4 ≡ 28
   unfolding after_raw cq_data_length connid_length flagged pick
   padding_at r e t =
       let q : r.request ≡ false = (request_in_words 4 r e).1 (inr refl) in
@@ -214,43 +212,43 @@ module _ (f : ℕ) (bs : List ℕ) where
       rw (a, t, h, c, q)
 
   -- it alone has padding behind its connid
-  padding_size : (k : ℕ) (r : TypeRow) → row_of k ≡ Row r → r.connid - 4 ≡ column 0 ((4, 4) ∷ []) k
+  padding_size : (k : ℕ) (r : TypeRow) → row_of k ≡ Some r → r.connid - 4 ≡ column 0 ((4, 4) ∷ []) k
   unfolding pick
   padding_size = rows_say (λ k r. r.connid - 4) (column 0 ((4, 4) ∷ [])) refl
 
-  padding_zeroed : (x k : ℕ) (r : TypeRow) → row_of k ≡ Row r → flagged r f connid ≡ true
-      → padded (Connid.Present x) r (packet_of r f bs) bs ≡ column bs ((4, store_at bs 28 (replicate 4 0)) ∷ []) k
+  padding_zeroed : (x k : ℕ) (r : TypeRow) → row_of k ≡ Some r → flagged r f connid ≡ true
+      → padded (Some x) r (packet_of r f bs) bs ≡ column bs ((4, store_at bs 28 (replicate 4 0)) ∷ []) k
   unfolding blank_of packet_in
   padding_zeroed x k r e t = ⊎_elim there none (tested (eqb 4 k))
     where
-      there : eqb 4 k ≡ true → padded (Connid.Present x) r (packet_of r f bs) bs ≡ column bs ((4, store_at bs 28 (replicate 4 0)) ∷ []) k
+      there : eqb 4 k ≡ true → padded (Some x) r (packet_of r f bs) bs ≡ column bs ((4, store_at bs 28 (replicate 4 0)) ∷ []) k
       there y =
           let n : r.connid - 4 ≡ 4 = padding_size k r e ∙ pick_true _ _ y in
           let at = padding_at r (ap row_of (eqb-true 4 k y) ∙ e) t in
           rw (n, at) (sym (pick_true _ _ y))
 
-      none : eqb 4 k ≡ false → padded (Connid.Present x) r (packet_of r f bs) bs ≡ column bs ((4, store_at bs 28 (replicate 4 0)) ∷ []) k
+      none : eqb 4 k ≡ false → padded (Some x) r (packet_of r f bs) bs ≡ column bs ((4, store_at bs 28 (replicate 4 0)) ∷ []) k
       none y =
           let n : r.connid - 4 ≡ 0 = padding_size k r e ∙ pick_false _ _ y in
           rw n (store_nothing bs _ ∙ sym (pick_false _ _ y))
 
   -- of the fields, CTS's multiuse alone is blank
-  none_zeroed : (l : List ℕ) (k : ℕ) (r : TypeRow) → row_of k ≡ Row r → zeroed_fields true (layout r) 4 l ≡ l
+  none_zeroed : (l : List ℕ) (k : ℕ) (r : TypeRow) → row_of k ≡ Some r → zeroed_fields true (layout r) 4 l ≡ l
   unfolding layout pick
   none_zeroed l = rows_say (λ k r. zeroed_fields true (layout r) 4 l) (λ k. l) refl
 
-  multiuse_zeroed : (l : List ℕ) (k : ℕ) (r : TypeRow) → row_of k ≡ Row r
+  multiuse_zeroed : (l : List ℕ) (k : ℕ) (r : TypeRow) → row_of k ≡ Some r
       → zeroed_fields false (layout r) 4 l ≡ column l ((3, store_at l 4 (replicate 4 0)) ∷ []) k
   unfolding layout pick
   multiuse_zeroed l = rows_say (λ k r. zeroed_fields false (layout r) 4 l) (column l ((3, store_at l 4 (replicate 4 0)) ∷ [])) refl
 
-  module _ (k : ℕ) (r : TypeRow) (e : row_of k ≡ Row r) where
+  module _ (k : ℕ) (r : TypeRow) (e : row_of k ≡ Some r) where
     zeroed_flagged : flagged r f connid ≡ true → zeroed f r (packet_of r f bs) bs ≡ blanked_as k f bs
     unfolding packet_in header_in connid_in flagged has_flag
     zeroed_flagged t =
         ap (λ (u : Bool). zeroed_fields u (layout r) 4 (padded (packet_of r f bs).header.connid r (packet_of r f bs) bs)) t
         ∙ none_zeroed _ k r e
-        ∙ ap (λ (c : Connid). padded c r (packet_of r f bs) bs) (pick_true _ _ t)
+        ∙ ap (λ (c : Option ℕ). padded c r (packet_of r f bs) bs) (pick_true _ _ t)
         ∙ padding_zeroed _ k r e t
         ∙ sym (pick_true _ _ t)
 
@@ -315,7 +313,7 @@ module _ (limit : ℕ) (bs : List ℕ) (r : TypeRow) (a : ReadAs limit bs r) (b 
   none : has_array r ≡ false
   none = ap not (eq-eqb r.unit 0 (no_array (get_or bs 0 0) r a.row))
 
-  row_again : row_of q.header.kind ≡ Row r
+  row_again : row_of q.header.kind ≡ Some r
   unfolding packet_in header_in
   row_again = ap row_of (row_kind (get_or bs 0 0) r a.row) ∙ a.row
 
@@ -345,7 +343,7 @@ module _ (limit : ℕ) (bs : List ℕ) (r : TypeRow) (a : ReadAs limit bs r) (b 
 
   pub write_back : (out : List ℕ) → length bs ≤ packet_limit → length bs ≤ length out
       → write_of q.header (bytes_at bs q.raw_address) (bytes_at bs q.«data») out
-      ≡ record { answer = Written.Length (length bs); out = store_at out 0 (blanked bs) }
+      ≡ record { answer = Ok (length bs); out = store_at out 0 (blanked bs) }
   write_back out small room =
       let (again, n) = packet_again in
       write_as _ _ _ out r (written_again out small room) ∙ rw (again, n)

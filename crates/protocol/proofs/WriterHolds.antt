@@ -8,11 +8,12 @@ use mathlib.Core.List.{List, [], ◌∷◌}
 use mathlib.Core.Logic.{◌⊎◌, ◌↔◌, inl, inr, ⊎_elim}
 use mathlib.Core.Path.{◌≡◌, refl, sym, ap, ◌∙◌, subst}
 use native.Mathlib.Omega.{arith}
+use Rattle.std.specs.Prelude.{Option, Some, None, Ok, Err, is_some}
 use Rattle.laws.specs.Choose.{pick}
 use Rattle.laws.specs.Parts.{store_at}
 use Rattle.protocol.specs.ByType.{CtsOrData, Known, LengthRule}
 use Rattle.protocol.specs.Checks.{gives, refused}
-use Rattle.protocol.specs.Optional.{has_cq_data, options_fit}
+use Rattle.protocol.specs.Optional.{options_fit}
 use Rattle.protocol.specs.Sentences.{TypesAreTheTables}
 use Rattle.protocol.specs.Lengths.{lengths_fit}
 use Rattle.protocol.specs.Options.{connid_bytes, cq_data_bytes}
@@ -21,13 +22,8 @@ use Rattle.protocol.specs.Says.{written_says}
 use Rattle.protocol.specs.Types.{admit, every_row, row_of}
 use Rattle.protocol.specs.WriterSentences.{Misplaced, RefusedWriteChangesNothing, WriteFails, WriteRefusedByFirstToFail, WriterCheck, WrittenIfNoneFails, broken_lengths, connid_takes, cq_data_takes, misplaced_header, no_type, over_longest, packet_length, short_buffer, write_refused_as, writer_check_at, writer_checks}
 use Rattle.protocol.specs.Writing.{WriteLeaves, packet_bytes, write_as, write_bytes, write_of, write_typed}
-use Rattle.protocol.specs.declared.table.FoundRow.{FoundRow}
-use Rattle.protocol.specs.declared.table.FoundRow.TheVariants.{Row, Unknown}
 use Rattle.protocol.specs.declared.table.TypeRow.{TypeRow}
-use Rattle.protocol.specs.declared.types.Connid.{Connid}
-use Rattle.protocol.specs.declared.types.CqData.{CqData}
 use Rattle.protocol.specs.declared.types.Header.{Header}
-use Rattle.protocol.specs.declared.types.Written.{Written}
 use Rattle.laws.proofs.Choosing.{clashing, tested}
 use Rattle.protocol.proofs.ArrayLaws.{none_allowed, none_whole}
 use Rattle.protocol.proofs.FirstFailing.{given_if_none, judged, judged_ap, FirstIn, first_or_none, none_of, of_first, refused_by_first}
@@ -43,17 +39,17 @@ use Rattle.protocol.specs.Limits.{packet_limit}
 
 -- ---- the packet's length
 
-cq_data_takes_lem : (q : CqData) → length (cq_data_bytes q) ≡ cq_data_takes q
+cq_data_takes_lem : (q : Option ℕ) → length (cq_data_bytes q) ≡ cq_data_takes q
 unfolding cq_data_bytes
-cq_data_takes_lem CqData.Absent = refl
-cq_data_takes_lem (CqData.Present d) = rw length_le
+cq_data_takes_lem None = refl
+cq_data_takes_lem (Some d) = rw length_le
 
-connid_takes_lem : (k : ℕ) (r : TypeRow) (q : Connid) → row_of k ≡ Row r → length (connid_bytes r q) ≡ connid_takes k q
+connid_takes_lem : (k : ℕ) (r : TypeRow) (q : Option ℕ) → row_of k ≡ Some r → length (connid_bytes r q) ≡ connid_takes k q
 unfolding connid_bytes
-connid_takes_lem k r Connid.Absent e = refl
-connid_takes_lem k r (Connid.Present c) e = rw length_le (connid_in_words k r e)
+connid_takes_lem k r None e = refl
+connid_takes_lem k r (Some c) e = rw length_le (connid_in_words k r e)
 
-pub length_in_words : (h : Header) (raw body : List ℕ) (r : TypeRow) → row_of h.kind ≡ Row r → options_fit r h ≡ true
+pub length_in_words : (h : Header) (raw body : List ℕ) (r : TypeRow) → row_of h.kind ≡ Some r → options_fit r h ≡ true
     → length (packet_bytes r h [] raw body) ≡ packet_length h (length raw) (length body)
 length_in_words h raw body r e t =
     let a = header_in_words h.kind r e in
@@ -65,9 +61,9 @@ length_in_words h raw body r e t =
 -- ---- an optional header that the type can't have
 
 abbrev pub Neither : Header → Type 0
-Neither h = (h.raw_address ≡ false) × (has_cq_data h.cq_data ≡ false)
+Neither h = (h.raw_address ≡ false) × (is_some h.cq_data ≡ false)
 
-module _ (h : Header) (k : ℕ) (r : TypeRow) (e : row_of k ≡ Row r) where
+module _ (h : Header) (k : ℕ) (r : TypeRow) (e : row_of k ≡ Some r) where
   pub options_taken : options_fit r h ≡ true → CtsOrData k → Neither h
   options_taken t c = fits_connid r h (sound k r e) ((request_in_words k r e).1 c) t
 
@@ -80,15 +76,15 @@ module _ (h : Header) (k : ℕ) (r : TypeRow) (e : row_of k ≡ Row r) where
 misplaced : (h : Header) → CtsOrData h.kind → (Neither h → ⊥) → Misplaced h
 misplaced h c n = (c, go (tested h.raw_address) h.cq_data refl)
   where
-    go : (h.raw_address ≡ true) ⊎ (h.raw_address ≡ false) → (q : CqData) → h.cq_data ≡ q
-        → (h.raw_address ≡ true) ⊎ ((d : ℕ) × (h.cq_data ≡ CqData.Present d))
+    go : (h.raw_address ≡ true) ⊎ (h.raw_address ≡ false) → (q : Option ℕ) → h.cq_data ≡ q
+        → (h.raw_address ≡ true) ⊎ ((d : ℕ) × (h.cq_data ≡ Some d))
     go (inl x) q e = inl x
-    go (inr x) (CqData.Present d) e = inr (d, e)
-    go (inr x) CqData.Absent e = absurd (n (x, ap has_cq_data e))
+    go (inr x) (Some d) e = inr (d, e)
+    go (inr x) None e = absurd (n (x, ap is_some e))
 
 well_placed : (h : Header) → Neither h → Misplaced h → ⊥
 well_placed h (a, b) (c, inl x) = true≢false (sym x ∙ a)
-well_placed h (a, b) (c, inr (d, x)) = true≢false (ap has_cq_data (sym x) ∙ b)
+well_placed h (a, b) (c, inr (d, x)) = true≢false (ap is_some (sym x) ∙ b)
 
 -- each check stands in the list
 pub write_placed : (c : WriterCheck) → (i : ℕ) × (i < 5) × (writer_check_at i ≡ c)
@@ -108,40 +104,40 @@ module _ (h : Header) (raw body out : List ℕ) where
   -- ---- the writer is such a list
 
   -- with the type's row o
-  abbrev pub fails_as : FoundRow → WriterCheck → Bool
+  abbrev pub fails_as : Option TypeRow → WriterCheck → Bool
   fails_as o no_type = is_unknown o
   fails_as o misplaced_header = of_row o (λ r. not (options_fit r h))
   fails_as o broken_lengths = of_row o (λ r. not (lengths_fit r.shape h.fields (length body)))
   fails_as o over_longest = ltb packet_limit n
   fails_as o short_buffer = ltb (length out) n
 
-  abbrev pub bytes_as : FoundRow → List ℕ
-  bytes_as Unknown = []
-  bytes_as (Row r) = packet_bytes r h [] raw body
+  abbrev pub bytes_as : Option TypeRow → List ℕ
+  bytes_as None = []
+  bytes_as (Some r) = packet_bytes r h [] raw body
 
-  abbrev pub written : FoundRow → WriteLeaves
-  written o = record { answer = Written.Length n; out = store_at out 0 (bytes_as o) }
+  abbrev pub written : Option TypeRow → WriteLeaves
+  written o = record { answer = Ok n; out = store_at out 0 (bytes_as o) }
 
   abbrev pub refusing : WriterCheck → WriteLeaves
-  refusing c = record { answer = Written.Refused (refusal (write_refused_as c)); out = out }
+  refusing c = record { answer = Err (refusal (write_refused_as c)); out = out }
 
-  abbrev judged_as : FoundRow → List WriterCheck → WriteLeaves
+  abbrev judged_as : Option TypeRow → List WriterCheck → WriteLeaves
   judged_as o = judged (fails_as o) refusing (written o)
 
-  bytes_judged : (r : TypeRow) → row_of k ≡ Row r → options_fit r h ≡ true
-      → write_bytes (packet_bytes r h [] raw body) out ≡ judged_as (Row r) (over_longest ∷ short_buffer ∷ [])
+  bytes_judged : (r : TypeRow) → row_of k ≡ Some r → options_fit r h ≡ true
+      → write_bytes (packet_bytes r h [] raw body) out ≡ judged_as (Some r) (over_longest ∷ short_buffer ∷ [])
   unfolding write_bytes
   bytes_judged r e t = ap sized (length_in_words h raw body r e t)
     where
       sized : ℕ → WriteLeaves
       sized m =
           pick (ltb packet_limit m) (refusing over_longest)
-          (pick (ltb (length out) m) (refusing short_buffer) (record { answer = Written.Length m; out = store_at out 0 (packet_bytes r h [] raw body) }))
+          (pick (ltb (length out) m) (refusing short_buffer) (record { answer = Ok m; out = store_at out 0 (packet_bytes r h [] raw body) }))
 
-  typed_judged : (o : FoundRow) → row_of k ≡ o → write_typed o h [] raw body out ≡ judged_as o writer_checks
+  typed_judged : (o : Option TypeRow) → row_of k ≡ o → write_typed o h [] raw body out ≡ judged_as o writer_checks
   unfolding write_typed write_as
-  typed_judged Unknown e = unfold pick in refl
-  typed_judged (Row r) e =
+  typed_judged None e = unfold pick in refl
+  typed_judged (Some r) e =
       unfold pick in
       rw (none_allowed r, none_whole r (no_array k r e), and-true (options_fit r h))
       (⊎_elim (λ t. rw t (pick_not (lengths_fit r.shape h.fields (length body)) _ _
@@ -158,21 +154,21 @@ module _ (h : Header) (raw body out : List ℕ) where
   abbrev pub write_failing : WriterCheck → Bool
   write_failing = fails_as (row_of k)
 
-  options_fail : (o : FoundRow) → row_of k ≡ o → fails_as o misplaced_header ≡ true → Misplaced h
-  options_fail Unknown e t = absurd (true≢false (sym t))
-  options_fail (Row r) e t =
+  options_fail : (o : Option TypeRow) → row_of k ≡ o → fails_as o misplaced_header ≡ true → Misplaced h
+  options_fail None e t = absurd (true≢false (sym t))
+  options_fail (Some r) e t =
       let (c, x) = options_refused h k r e (not-true (options_fit r h) t) in
       misplaced h c x
 
-  options_pass : (o : FoundRow) → row_of k ≡ o → fails_as o misplaced_header ≡ false → Misplaced h → ⊥
-  options_pass Unknown e t (c, x) = unknown_type k e (⊎_elim (λ y. inl (y, refl)) (λ y. inr (inl y)) c)
-  options_pass (Row r) e t w = well_placed h (options_taken h k r e (not-false (options_fit r h) t) w.0) w
+  options_pass : (o : Option TypeRow) → row_of k ≡ o → fails_as o misplaced_header ≡ false → Misplaced h → ⊥
+  options_pass None e t (c, x) = unknown_type k e (⊎_elim (λ y. inl (y, refl)) (λ y. inr (inl y)) c)
+  options_pass (Some r) e t w = well_placed h (options_taken h k r e (not-false (options_fit r h) t) w.0) w
 
-  lengths_pass : (o : FoundRow) → row_of k ≡ o → fails_as o broken_lengths ≡ false → LengthRule k h.fields (length body)
-  lengths_pass Unknown e t = unknown_lengths k h.fields (length body) e
-  lengths_pass (Row r) e t = (lengths_in_words h.fields (length body) k r e).0 (not-false _ t)
+  lengths_pass : (o : Option TypeRow) → row_of k ≡ o → fails_as o broken_lengths ≡ false → LengthRule k h.fields (length body)
+  lengths_pass None e t = unknown_lengths k h.fields (length body) e
+  lengths_pass (Some r) e t = (lengths_in_words h.fields (length body) k r e).0 (not-false _ t)
 
-  known : (r : TypeRow) → row_of k ≡ Row r → Known true k
+  known : (r : TypeRow) → row_of k ≡ Some r → Known true k
   unfolding TypesAreTheTables admit pick
   known r e = (types_are_the_tables true k).0 (r, ap (admit every_row) e)
 

@@ -8,6 +8,7 @@ use mathlib.Core.List.{List}
 use mathlib.Core.Logic.{⊎_elim}
 use mathlib.Core.Path.{◌≡◌, sym, ap}
 use native.Mathlib.Omega.{arith}
+use Rattle.std.specs.Prelude.{Some, None}
 use Rattle.laws.specs.Choose.{pick}
 use Rattle.protocol.specs.Arrays.{array_allowed}
 use Rattle.protocol.specs.Optional.{flagged, flags_of, options_fit, raw_address, sections_of}
@@ -18,7 +19,6 @@ use Rattle.protocol.specs.Totals.{limited_to, sizes, total_of}
 use Rattle.protocol.specs.Writing.{base_bytes, mandatory_bytes, packet_bytes}
 use Rattle.protocol.specs.declared.table.TypeRow.{TypeRow}
 use Rattle.protocol.specs.declared.types.Header.{Header}
-use Rattle.protocol.specs.declared.types.Length.TheVariants.{Above, Bytes}
 use Rattle.laws.proofs.Choosing.{pick_cases, pick_false, pick_true}
 use Rattle.protocol.proofs.ArrayLaws.{given_size}
 use Rattle.protocol.proofs.FlagLaws.{raw_address_flag_lem}
@@ -68,7 +68,7 @@ module _ (r : TypeRow) (h : Header) (arr raw body : List ℕ) (s : Sound r) (t :
 
 -- what the limit answers
 
-pub above_limit_lem : (n : ℕ) → packet_limit < n → limited_to n ≡ Above
+pub above_limit_lem : (n : ℕ) → packet_limit < n → limited_to n ≡ None
 unfolding limited_to pick
 above_limit_lem n h = rw (lt-ltb packet_limit n h)
 
@@ -79,7 +79,7 @@ module _ (r : TypeRow) (f arr raw size : ℕ) (u : array_allowed r arr ≡ true)
   total_with e = ap limited_to (omega (arith, sizes_in_steps r f arr raw, given_size r arr u, pick_true {A = ℕ} (4 + raw) 0 e))
 
   -- which an array or data above the limit make longer than it
-  pub total_above : packet_limit < arr + size → total_of r f arr raw size ≡ Above
+  pub total_above : packet_limit < arr + size → total_of r f arr raw size ≡ None
   unfolding total_of
   total_above l = above_limit_lem _ (omega (arith, sizes_in_steps r f arr raw, given_size r arr u))
 
@@ -87,14 +87,14 @@ module _ (r : TypeRow) (f arr raw size : ℕ) (u : array_allowed r arr ≡ true)
   unfolding total_of head_length
   total_without e = ap limited_to (omega (arith, sizes_in_steps r f arr raw, given_size r arr u, pick_false {A = ℕ} (4 + raw) 0 e))
 
-pub limited_above : (n : ℕ) → limited_to n ≡ Above → packet_limit < n
+pub limited_above : (n : ℕ) → limited_to n ≡ None → packet_limit < n
 unfolding limited_to
 limited_above n e =
     ⊎_elim (λ w. ltb-true packet_limit n w.0) (λ w. let z : ◌≡◌ {A = ℕ} 0 1 = cc in absurd (omega arith))
-    (pick_cases (ltb packet_limit n) Above (Bytes n) Above e)
+    (pick_cases (ltb packet_limit n) None (Some n) None e)
 
-pub limited_bytes : (n m : ℕ) → limited_to n ≡ Bytes m → (n ≡ m) × (n ≤ packet_limit)
+pub limited_bytes : (n m : ℕ) → limited_to n ≡ Some m → (n ≡ m) × (n ≤ packet_limit)
 unfolding limited_to
 limited_bytes n m e =
     ⊎_elim (λ w. let z : ◌≡◌ {A = ℕ} 0 1 = cc in absurd (omega arith)) (λ w. (cc, ltb-false packet_limit n w.0))
-    (pick_cases (ltb packet_limit n) Above (Bytes n) (Bytes m) e)
+    (pick_cases (ltb packet_limit n) None (Some n) (Some m) e)

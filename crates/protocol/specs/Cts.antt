@@ -1,7 +1,5 @@
 -- The CTS packet of a grant (01: "a CTS in the first 24 reply bytes (flags and multiuse 0, rest untouched)").
-use Rattle.std.specs.Prelude.{ℕ, List, [], false}
-use Rattle.protocol.specs.declared.types.Connid.{Connid}
-use Rattle.protocol.specs.declared.types.CqData.{CqData}
+use Rattle.std.specs.Prelude.{ℕ, List, [], false, None}
 use Rattle.protocol.specs.declared.types.Header.{Header}
 use Rattle.protocol.specs.Types.{cts_row}
 use Rattle.protocol.specs.Writing.{packet_bytes}
@@ -22,8 +20,8 @@ cts_header send_id recv_id recv_length =
         tag = 0;
       };
       raw_address = false;
-      cq_data = CqData.Absent;
-      connid = Connid.Absent;
+      cq_data = None;
+      connid = None;
     }
 
 -- its bytes, as the packet writer writes them

@@ -1,13 +1,10 @@
 -- A grant's CTS as its receiver reads it (01: "a CTS in the first 24 reply bytes (flags and multiuse 0 ..)"). Proved in proofs/CtsRead.antt.
-use Rattle.std.specs.Prelude.{ℕ, ◌^◌, ◌≤◌, ◌<◌, length, List, [], ◌∷◌, ◌≡◌}
-use Rattle.std.proofs.Math.Option.{none}
+use Rattle.std.specs.Prelude.{ℕ, ◌^◌, ◌≤◌, ◌<◌, length, List, [], ◌∷◌, ◌≡◌, None}
 use Rattle.protocol.specs.Checks.{gives}
 use Rattle.protocol.specs.Cts.{cts_bytes}
 use Rattle.protocol.specs.Reading.{read_of}
 use Rattle.protocol.specs.Says.{read_says}
 use Rattle.protocol.specs.Values.{Values}
-use Rattle.protocol.specs.declared.types.Connid.{Connid}
-use Rattle.protocol.specs.declared.types.CqData.{CqData}
 use Rattle.protocol.specs.Types.{every_row}
 use Rattle.wire.specs.LittleEndian.{le_at}
 use Rattle.protocol.specs.Limits.{packet_limit}
@@ -18,9 +15,9 @@ cts_values send_id recv_id recv_length =
     record {
       kind = 3;
       own = send_id ∷ recv_id ∷ recv_length ∷ [];
-      raw_address = none;
-      cq_data = CqData.Absent;
-      connid = Connid.Absent;
+      raw_address = None;
+      cq_data = None;
+      connid = None;
       body = [];
     }
 

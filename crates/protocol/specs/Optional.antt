@@ -1,10 +1,8 @@
 -- The sections that follow a type's mandatory header, by the type's row: its counted array, and the optional headers (01: "After an RTM's mandatory
 -- header come, where flagged, raw address .., CQ data 8, connid 4, in that order"; "CTSDATA: .. with CONNID_HDR also connid 4, padding 4").
-use Rattle.std.specs.Prelude.{ℕ, ◌+◌, List, [], ◌∷◌, ◌++◌, Bool, true, false, not, ◌&&◌, ◌||◌, eqb}
+use Rattle.std.specs.Prelude.{ℕ, ◌+◌, List, [], ◌∷◌, ◌++◌, Bool, true, false, not, ◌&&◌, ◌||◌, eqb, is_some}
 use Rattle.laws.specs.Choose.{pick}
 use Rattle.protocol.specs.declared.table.TypeRow.{TypeRow}
-use Rattle.protocol.specs.declared.types.CqData.{CqData}
-use Rattle.protocol.specs.declared.types.Connid.{Connid}
 use Rattle.protocol.specs.declared.types.Header.{Header}
 use Rattle.protocol.specs.Arrays.{has_array}
 use Rattle.protocol.specs.Flags.{has_flag, raw_address_flag, cq_data_flag, connid_flag}
@@ -69,20 +67,12 @@ flagged r f connid = has_flag f connid_flag
 
 -- ---- in a header
 
-abbrev pub has_cq_data : CqData → Bool
-has_cq_data CqData.Absent = false
-has_cq_data (CqData.Present d) = true
-
-abbrev pub has_connid : Connid → Bool
-has_connid Connid.Absent = false
-has_connid (Connid.Present c) = true
-
 -- the array is none of a header's
 abbrev pub has_section : Header → Section → Bool
 has_section h array = false
 has_section h raw_address = h.raw_address
-has_section h cq_data = has_cq_data h.cq_data
-has_section h connid = has_connid h.connid
+has_section h cq_data = is_some h.cq_data
+has_section h connid = is_some h.connid
 
 -- the flags of those of some sections that a header has
 abbrev pub flags_set : Header → List Section → ℕ

@@ -1,8 +1,7 @@
 -- Reader and writer undo each other (01: "Reading a written packet gives the values written. Writing the values read gives the same
 -- bytes, except that padding, and multiuse without its flag, become zero"). Proved in proofs/RoundTrips.antt, proofs/RowTrips.antt and
 -- proofs/HeaderBack.antt.
-use Rattle.std.specs.Prelude.{ℕ, ◌^◌, ◌<◌, ◌≤◌, eqb, length, get_or, take, drop, replicate, Bool, true, List, [], ◌∷◌, map, ◌≡◌}
-use Rattle.std.proofs.Math.Option.{some, none}
+use Rattle.std.specs.Prelude.{ℕ, ◌^◌, ◌<◌, ◌≤◌, eqb, length, get_or, take, drop, replicate, Bool, true, List, [], ◌∷◌, map, ◌≡◌, Some, None, Ok, unwrap_or}
 use Rattle.laws.specs.Choose.{pick}
 use Rattle.laws.specs.Parts.{store_at}
 use Rattle.protocol.specs.ByType.{bit_of, column}
@@ -17,23 +16,16 @@ use Rattle.protocol.specs.Says.{read_says, written_says}
 use Rattle.protocol.specs.Types.{every_row, row_of}
 use Rattle.protocol.specs.Values.{bytes_at, values}
 use Rattle.protocol.specs.Writing.{packet_bytes, write_as, write_of}
-use Rattle.protocol.specs.declared.table.FoundRow.TheVariants.{Row}
 use Rattle.protocol.specs.declared.table.TypeRow.{TypeRow}
-use Rattle.protocol.specs.declared.types.CqData.{CqData}
 use Rattle.protocol.specs.declared.types.Header.{Header}
 use Rattle.protocol.specs.declared.types.Packet.{Packet}
-use Rattle.protocol.specs.declared.types.Read.{Read}
 use Rattle.protocol.specs.Sections.{array_span}
 use Rattle.protocol.specs.Limits.{packet_limit}
-
-abbrev pub cq_data_or_zero : CqData → ℕ
-cq_data_or_zero CqData.Absent = 0
-cq_data_or_zero (CqData.Present d) = d
 
 -- each number of a header fits its field, as the machine's types have it
 pub record Numbers (h : Header) : Type 0 where
   pub fields : (f : Field) → number_in h.fields f < 256 ^ width f
-  pub cq_data : cq_data_or_zero h.cq_data < 256 ^ 8
+  pub cq_data : unwrap_or h.cq_data 0 < 256 ^ 8
   pub connid : connid_or_zero h.connid < 256 ^ 4
 
 -- "Reading a written packet gives the values written": for every value the writer takes, at every limit that allows the packet
@@ -53,7 +45,7 @@ ZeroOutside r h = (f : Field) → place_of r f ≡ 0 → number_in h.fields f �
 abbrev pub HeaderReadsBack : Type 0
 HeaderReadsBack =
     (which : TypeRow → Bool) (r : TypeRow) (h : Header) (raw body out : List ℕ) (limit n : ℕ)
-    → row_of h.kind ≡ Row r
+    → row_of h.kind ≡ Some r
     → which r ≡ true
     → Numbers h
     → ZeroOutside r h
@@ -61,7 +53,7 @@ HeaderReadsBack =
     → written_says (write_of h raw body out).answer ≡ gives n
     → let bs = take n (write_of h raw body out).out in
     (p : Packet)
-    × (read_of which limit bs ≡ Read.Packet p)
+    × (read_of which limit bs ≡ Ok p)
     × (p.header ≡ h)
     × (h.raw_address ≡ true → bytes_at bs p.raw_address ≡ raw)
     × (bytes_at bs p.«data» ≡ body)
@@ -90,7 +82,7 @@ WritesWhatWasRead =
 abbrev pub LengthIsPackets : Type 0
 LengthIsPackets =
     (h : Header) (raw body out : List ℕ) (n : ℕ) (r : TypeRow)
-    → row_of h.kind ≡ Row r
+    → row_of h.kind ≡ Some r
     → written_says (write_of h raw body out).answer ≡ gives n
     → (n ≡ length (packet_bytes r h [] raw body))
     × (take n (write_of h raw body out).out ≡ packet_bytes r h [] raw body)
@@ -102,7 +94,7 @@ LengthIsPackets =
 pub record RowTells (r : TypeRow) (h : Header) (arr raw body bs : List ℕ) (p : Packet) : Type 0 where
   pub own : map (number_in p.header.fields) (own_fields r) ≡ map (number_in h.fields) (own_fields r)
   pub array : bytes_at bs (array_span r bs r.header) ≡ arr
-  pub raw_address : pick p.header.raw_address (some (bytes_at bs p.raw_address)) none ≡ pick h.raw_address (some raw) none
+  pub raw_address : pick p.header.raw_address (Some (bytes_at bs p.raw_address)) None ≡ pick h.raw_address (Some raw) None
   pub cq_data : p.header.cq_data ≡ h.cq_data
   pub connid : p.header.connid ≡ h.connid
   pub rest : bytes_at bs p.«data» ≡ body

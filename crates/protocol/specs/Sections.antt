@@ -1,12 +1,10 @@
 -- Where a packet's counted array, its optional headers and its data lie, and whether the packet ends before its headers do.
-use Rattle.std.specs.Prelude.{ℕ, ◌+◌, List, [], ◌∷◌, Bool, ltb, eqb, length}
+use Rattle.std.specs.Prelude.{ℕ, ◌+◌, List, [], ◌∷◌, Bool, ltb, eqb, length, Option, Some, None}
 use Rattle.laws.specs.Choose.{pick}
 use Rattle.wire.specs.LittleEndian.{le_at}
 use Rattle.protocol.specs.declared.table.TypeRow.{TypeRow}
 use Rattle.protocol.specs.declared.types.Span.{Span}
 use Rattle.protocol.specs.declared.sections.Sections.{Sections}
-use Rattle.protocol.specs.declared.sections.Extent.{Extent}
-use Rattle.protocol.specs.declared.sections.Extent.TheVariants.{Whole, Cut}
 use Rattle.protocol.specs.Arrays.{array_length, has_array}
 use Rattle.protocol.specs.FieldNumbers.{count_in}
 use Rattle.protocol.specs.Layout.{multiuse, place_of}
@@ -63,5 +61,5 @@ sections_in r f bs =
     }
 
 -- "packet ends inside a header" if it does
-unfoldable pub extent_of : TypeRow → ℕ → List ℕ → Extent
-extent_of r f bs = pick (ltb (length bs) (data_at r f bs)) Cut (Whole (sections_in r f bs))
+unfoldable pub extent_of : TypeRow → ℕ → List ℕ → Option Sections
+extent_of r f bs = pick (ltb (length bs) (data_at r f bs)) None (Some (sections_in r f bs))

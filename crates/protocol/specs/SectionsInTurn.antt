@@ -1,12 +1,10 @@
 -- The sections of a packet one after the other, as reader and writer go along: each is found with what ends before it.
-use Rattle.std.specs.Prelude.{ℕ, ◌+◌, List, ltb, length}
+use Rattle.std.specs.Prelude.{ℕ, ◌+◌, List, ltb, length, Option, Some, None}
 use Rattle.laws.specs.Choose.{pick}
 use Rattle.wire.specs.LittleEndian.{le_at}
 use Rattle.protocol.specs.declared.table.TypeRow.{TypeRow}
 use Rattle.protocol.specs.declared.types.Span.{Span}
 use Rattle.protocol.specs.declared.sections.Sections.{Sections}
-use Rattle.protocol.specs.declared.sections.Extent.{Extent}
-use Rattle.protocol.specs.declared.sections.Extent.TheVariants.{Whole, Cut}
 use Rattle.protocol.specs.Arrays.{array_length, has_array}
 use Rattle.protocol.specs.FieldNumbers.{count_in}
 use Rattle.protocol.specs.Optional.{connid, cq_data, flagged, raw_address}
@@ -40,11 +38,11 @@ sections_at r f raw at =
     }
 
 -- the same of a packet of n bytes
-unfoldable pub sections_from : TypeRow → ℕ → Span → ℕ → ℕ → Extent
-sections_from r f raw at n = pick (ltb n (at + cq_data_length r f + connid_length r f)) Cut (Whole (sections_at r f raw at))
+unfoldable pub sections_from : TypeRow → ℕ → Span → ℕ → ℕ → Option Sections
+sections_from r f raw at n = pick (ltb n (at + cq_data_length r f + connid_length r f)) None (Some (sections_at r f raw at))
 
 -- the same behind an array that ends before `at`
-unfoldable pub sections_behind : TypeRow → ℕ → List ℕ → ℕ → Extent
+unfoldable pub sections_behind : TypeRow → ℕ → List ℕ → ℕ → Option Sections
 sections_behind r f bs at =
     sections_from r f (raw_span (flagged r f raw_address) bs at) (at + pick (flagged r f raw_address) (4 + le_at 4 bs at) 0) (length bs)
 

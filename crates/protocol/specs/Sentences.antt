@@ -1,7 +1,6 @@
 -- The reader's tests in 01's own words, over numbers, bits and bytes. Proved in proofs/SentencesHold.antt, proofs/OrderHolds.antt and
 -- proofs/BytesHold.antt.
-use Rattle.std.specs.Prelude.{ℕ, ◌+◌, ◌-◌, ◌/◌, ◌%◌, ◌^◌, ◌<◌, eqb, length, get_or, drop, Bool, true, false, List, [], ◌∷◌, ◌↔◌, ◌≡◌}
-use Rattle.std.proofs.Math.Option.{some, none}
+use Rattle.std.specs.Prelude.{ℕ, ◌+◌, ◌-◌, ◌/◌, ◌%◌, ◌^◌, ◌<◌, eqb, length, get_or, drop, Bool, true, false, List, [], ◌∷◌, ◌↔◌, ◌≡◌, Some, None, Ok}
 use Rattle.laws.specs.Choose.{pick}
 use Rattle.laws.specs.Parts.{part}
 pub use Rattle.protocol.specs.ByType.{Known, bit_of}
@@ -11,12 +10,8 @@ use Rattle.protocol.specs.Reading.{read_of}
 use Rattle.protocol.specs.Says.{read_says}
 use Rattle.protocol.specs.Types.{admit, reader_rows, row_of}
 use Rattle.protocol.specs.Values.{Values, bytes_at}
-use Rattle.protocol.specs.declared.table.FoundRow.TheVariants.{Row}
 use Rattle.protocol.specs.declared.table.TypeRow.{TypeRow}
-use Rattle.protocol.specs.declared.types.Connid.{Connid}
-use Rattle.protocol.specs.declared.types.CqData.{CqData}
 use Rattle.protocol.specs.declared.types.Packet.{Packet}
-use Rattle.protocol.specs.declared.types.Read.{Read}
 use Rattle.wire.specs.LittleEndian.{le_at}
 
 -- ---- numbers
@@ -31,11 +26,11 @@ NumbersAreLittleEndian =
 
 -- a row of the table is found for the types of 01's column "Type", and for no other
 unfoldable pub TypesAreTheTables : Type 0
-TypesAreTheTables = (all : Bool) (k : ℕ) → ((r : TypeRow) × (admit (reader_rows all) (row_of k) ≡ Row r)) ↔ Known all k
+TypesAreTheTables = (all : Bool) (k : ℕ) → ((r : TypeRow) × (admit (reader_rows all) (row_of k) ≡ Some r)) ↔ Known all k
 
 -- its row names the place of its length
 unfoldable pub LengthsStandAsTold : Type 0
-LengthsStandAsTold = (k : ℕ) (r : TypeRow) → row_of k ≡ Row r → r.length_at ≡ length_at k
+LengthsStandAsTold = (k : ℕ) (r : TypeRow) → row_of k ≡ Some r → r.length_at ≡ length_at k
 
 -- ---- the order of the reader's refusals
 
@@ -126,15 +121,15 @@ pub record PacketTold (bs : List ℕ) (k f : ℕ) (p : Packet) : Type 0 where
       × (bytes_at bs p.raw_address ≡ part bs (header_length k + 4) (le_at 4 bs (header_length k)))
       × (length (bytes_at bs p.raw_address) ≡ le_at 4 bs (header_length k))
   pub no_raw_address : bit_of f 0 ≡ 0 → (p.header.raw_address ≡ false) × (bytes_at bs p.raw_address ≡ [])
-  pub cq_data : bit_of f 1 ≡ 1 → p.header.cq_data ≡ CqData.Present (le_at 8 bs (raw_end k f bs))
-  pub no_cq_data : bit_of f 1 ≡ 0 → p.header.cq_data ≡ CqData.Absent
-  pub connid : bit_of f 15 ≡ 1 → p.header.connid ≡ Connid.Present (le_at 4 bs (connid_place k f bs))
-  pub no_connid : bit_of f 15 ≡ 0 → p.header.connid ≡ Connid.Absent
+  pub cq_data : bit_of f 1 ≡ 1 → p.header.cq_data ≡ Some (le_at 8 bs (raw_end k f bs))
+  pub no_cq_data : bit_of f 1 ≡ 0 → p.header.cq_data ≡ None
+  pub connid : bit_of f 15 ≡ 1 → p.header.connid ≡ Some (le_at 4 bs (connid_place k f bs))
+  pub no_connid : bit_of f 15 ≡ 0 → p.header.connid ≡ None
   -- "the rest is data"
   pub rest : bytes_at bs p.«data» ≡ drop (headers_end k f bs) bs
 
 unfoldable pub ReadTellsItsBytes : Type 0
-ReadTellsItsBytes = (which : TypeRow → Bool) (limit : ℕ) (bs : List ℕ) (p : Packet) → read_of which limit bs ≡ Read.Packet p → PacketTold bs (type_in bs) (flags_in bs) p
+ReadTellsItsBytes = (which : TypeRow → Bool) (limit : ℕ) (bs : List ℕ) (p : Packet) → read_of which limit bs ≡ Ok p → PacketTold bs (type_in bs) (flags_in bs) p
 
 -- "A packet's values are its type, that type's own fields (padding and multiuse are none; a flagged multiuse is the connid), the optional headers
 -- present and the data", each by its bytes
@@ -143,9 +138,9 @@ values_told k f bs =
     record {
       kind = k;
       own = own_told bs k;
-      raw_address = pick (eqb (bit_of f 0) 1) (some (part bs (header_length k + 4) (le_at 4 bs (header_length k)))) none;
-      cq_data = pick (eqb (bit_of f 1) 1) (CqData.Present (le_at 8 bs (raw_end k f bs))) CqData.Absent;
-      connid = pick (eqb (bit_of f 15) 1) (Connid.Present (le_at 4 bs (connid_place k f bs))) Connid.Absent;
+      raw_address = pick (eqb (bit_of f 0) 1) (Some (part bs (header_length k + 4) (le_at 4 bs (header_length k)))) None;
+      cq_data = pick (eqb (bit_of f 1) 1) (Some (le_at 8 bs (raw_end k f bs))) None;
+      connid = pick (eqb (bit_of f 15) 1) (Some (le_at 4 bs (connid_place k f bs))) None;
       body = drop (headers_end k f bs) bs;
     }
 

@@ -1,12 +1,10 @@
 -- The table of packet types (01: "One constant table, keyed by type, gives mandatory header lengths").
-use Rattle.std.specs.Prelude.{ℕ, ◌+◌, List, [], ◌∷◌, Bool, true, false, ◌||◌, eqb}
+use Rattle.std.specs.Prelude.{ℕ, ◌+◌, List, [], ◌∷◌, Bool, true, false, ◌||◌, eqb, Option, Some, None}
 use Rattle.laws.specs.Choose.{pick}
 use Rattle.protocol.specs.Layout.{credit_request, msg_id, msg_length, multiuse, recv_id, recv_length, seg_length, seg_offset, send_id, tag, word}
 use Rattle.protocol.specs.declared.table.TypeRow.{TypeRow}
 use Rattle.protocol.specs.declared.table.Shape.{Shape}
 use Rattle.protocol.specs.declared.table.Shape.TheVariants.{Cts, CtsData, Eager, Medium, LongCts}
-use Rattle.protocol.specs.declared.table.FoundRow.{FoundRow}
-use Rattle.protocol.specs.declared.table.FoundRow.TheVariants.{Row, Unknown}
 
 -- type, shape; bytes of the mandatory header, where the length stands in it, where all its fields stand, bytes of the connid header; tagged,
 -- served, a request; flags it must have, flags it may have. No type has a counted array
@@ -45,11 +43,11 @@ rows =
     ∷ []
 
 -- the first row of a table with this type
-unfoldable pub row_in : List TypeRow → ℕ → FoundRow
-row_in [] k = Unknown
-row_in (r ∷ rs) k = pick (eqb r.kind k) (Row r) (row_in rs k)
+unfoldable pub row_in : List TypeRow → ℕ → Option TypeRow
+row_in [] k = None
+row_in (r ∷ rs) k = pick (eqb r.kind k) (Some r) (row_in rs k)
 
-unfoldable pub row_of : ℕ → FoundRow
+unfoldable pub row_of : ℕ → Option TypeRow
 row_of k = row_in rows k
 
 -- which rows a reader admits: every one, or those that the engine serves (01, refusal 9: "type not in the table; in the engine, CTS too")
@@ -63,6 +61,6 @@ abbrev pub reader_rows : Bool → TypeRow → Bool
 reader_rows all r = all || r.served
 
 -- what is found among the rows that are admitted
-unfoldable pub admit : (TypeRow → Bool) → FoundRow → FoundRow
-admit which Unknown = Unknown
-admit which (Row r) = pick (which r) (Row r) Unknown
+unfoldable pub admit : (TypeRow → Bool) → Option TypeRow → Option TypeRow
+admit which None = None
+admit which (Some r) = pick (which r) (Some r) None

@@ -1,13 +1,11 @@
 -- The writer's checks in 01's order and words, over numbers (01: "Writer: 9, 10 (an optional header its type can't have), 11, 6, 21; bytes past
 -- the packet stay"). Proved in proofs/WriterHolds.antt.
-use Rattle.std.specs.Prelude.{ℕ, ◌+◌, ◌<◌, length, get_or, Bool, true, List, [], ◌∷◌, ◌⊎◌, ◌↔◌, ◌≡◌}
+use Rattle.std.specs.Prelude.{ℕ, ◌+◌, ◌<◌, length, get_or, Bool, true, List, [], ◌∷◌, ◌⊎◌, ◌↔◌, ◌≡◌, Option, Some, None}
 use Rattle.laws.specs.Choose.{pick}
 use Rattle.protocol.specs.ByType.{CtsOrData, Known, LengthRule, connid_header, header_length}
 use Rattle.protocol.specs.Checks.{First, gives, refused}
 use Rattle.protocol.specs.Says.{written_says}
 use Rattle.protocol.specs.Writing.{write_of}
-use Rattle.protocol.specs.declared.types.Connid.{Connid}
-use Rattle.protocol.specs.declared.types.CqData.{CqData}
 use Rattle.protocol.specs.declared.types.Header.{Header}
 
 -- ---- the packet's length
@@ -16,13 +14,13 @@ use Rattle.protocol.specs.declared.types.Header.{Header}
 abbrev pub raw_address_takes : Bool → ℕ → ℕ
 raw_address_takes there size = pick there (4 + size) 0
 
-abbrev pub cq_data_takes : CqData → ℕ
-cq_data_takes CqData.Absent = 0
-cq_data_takes (CqData.Present d) = 8
+abbrev pub cq_data_takes : Option ℕ → ℕ
+cq_data_takes None = 0
+cq_data_takes (Some d) = 8
 
-abbrev pub connid_takes : ℕ → Connid → ℕ
-connid_takes k Connid.Absent = 0
-connid_takes k (Connid.Present c) = connid_header k
+abbrev pub connid_takes : ℕ → Option ℕ → ℕ
+connid_takes k None = 0
+connid_takes k (Some c) = connid_header k
 
 -- with so many bytes of raw address and of data
 abbrev pub packet_length : Header → ℕ → ℕ → ℕ
@@ -47,7 +45,7 @@ write_refused_as short_buffer = 21
 
 -- "RTM types .. may have 0x1, 0x2, 0x8000", "Types 3 and 4 may have 0x8000 only": a CTS or CTSDATA with a raw address or with CQ data
 abbrev pub Misplaced : Header → Type 0
-Misplaced h = CtsOrData h.kind × ((h.raw_address ≡ true) ⊎ ((d : ℕ) × (h.cq_data ≡ CqData.Present d)))
+Misplaced h = CtsOrData h.kind × ((h.raw_address ≡ true) ⊎ ((d : ℕ) × (h.cq_data ≡ Some d)))
 
 -- the check fails for the header h, the raw address, the data and the buffer `out`; "packet above L (reader and writer alone: 8,192)"
 abbrev pub WriteFails : Header → List ℕ → List ℕ → List ℕ → WriterCheck → Type 0

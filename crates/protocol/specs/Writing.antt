@@ -1,14 +1,11 @@
 -- Writing a packet: its bytes, and the checks in 01's order (9, 10, 11, 6, 21). Refused, the buffer stays; written, bytes past the packet stay.
-use Rattle.std.specs.Prelude.{ℕ, ◌&&◌, List, [], ◌∷◌, ◌++◌, ltb, length}
+use Rattle.std.specs.Prelude.{ℕ, ◌&&◌, List, [], ◌∷◌, ◌++◌, ltb, length, Option, Some, None, Result, Ok, Err}
 use Rattle.laws.specs.Choose.{pick}
 use Rattle.laws.specs.Parts.{store_at}
 use Rattle.wire.specs.LittleEndian.{le_bytes}
 use Rattle.protocol.specs.declared.table.TypeRow.{TypeRow}
-use Rattle.protocol.specs.declared.table.FoundRow.{FoundRow}
-use Rattle.protocol.specs.declared.table.FoundRow.TheVariants.{Row, Unknown}
 use Rattle.protocol.specs.declared.types.Header.{Header}
 use Rattle.protocol.specs.declared.types.Refusal.{Refusal}
-use Rattle.protocol.specs.declared.types.Written.{Written}
 use Rattle.protocol.specs.Types.{row_of}
 use Rattle.protocol.specs.Arrays.{array_allowed, array_count, array_whole}
 use Rattle.protocol.specs.FieldNumbers.{field_bytes}
@@ -33,18 +30,18 @@ packet_bytes r h arr raw body = mandatory_bytes r h (length arr) ++ sections_byt
 
 -- what a call of the writer leaves: its answer, and the lent buffer
 pub record WriteLeaves : Type 0 where
-  pub answer : Written
+  pub answer : Result ℕ Refusal
   pub out : List ℕ
 
 abbrev pub refused : Refusal → List ℕ → WriteLeaves
-refused k out = record { answer = Written.Refused k; out = out }
+refused k out = record { answer = Err k; out = out }
 
 -- refusals 6 and 21, then the packet
 unfoldable pub write_bytes : List ℕ → List ℕ → WriteLeaves
 write_bytes bytes out =
     pick (ltb packet_limit (length bytes)) (refused above_limit out)
     (pick (ltb (length out) (length bytes)) (refused no_room out)
-    (record { answer = Written.Length (length bytes); out = store_at out 0 bytes }))
+    (record { answer = Ok (length bytes); out = store_at out 0 bytes }))
 
 -- refusals 10 (an optional header, or an array, that its type can't have) and 11
 unfoldable pub write_as : TypeRow → Header → List ℕ → List ℕ → List ℕ → List ℕ → WriteLeaves
@@ -55,9 +52,9 @@ write_as r h arr raw body out =
     (refused bad_flags out)
 
 -- refusal 9
-unfoldable pub write_typed : FoundRow → Header → List ℕ → List ℕ → List ℕ → List ℕ → WriteLeaves
-write_typed Unknown h arr raw body out = refused bad_type out
-write_typed (Row r) h arr raw body out = write_as r h arr raw body out
+unfoldable pub write_typed : Option TypeRow → Header → List ℕ → List ℕ → List ℕ → List ℕ → WriteLeaves
+write_typed None h arr raw body out = refused bad_type out
+write_typed (Some r) h arr raw body out = write_as r h arr raw body out
 
 -- no type of the table has an array, so none is given
 unfoldable pub write_of : Header → List ℕ → List ℕ → List ℕ → WriteLeaves

@@ -21,6 +21,6 @@ pub use refusals::{
     BAD_TYPE, BAD_VERSION, BEYOND_GRANT, CUT_SHORT, DIFFERS, EARLY, LATE, NO_RECEIVE, NO_ROOM,
     NO_SLOT, OVERLAPS, REPEATED, SHORT_REPLY,
 };
-pub use sections::{Extent, Sections};
-pub use table::{FoundRow, Shape, TypeRow};
-pub use types::{Connid, CqData, Fields, Header, Length, Packet, Read, Refusal, Span, Written};
+pub use sections::Sections;
+pub use table::{Shape, TypeRow};
+pub use types::{Fields, Header, Packet, Refusal, Span};

@@ -9,9 +9,3 @@ pub struct Sections {
     pub connid_at: usize,
     pub data_at: usize,
 }
-
-#[derive(Clone, Copy)]
-pub enum Extent {
-    Whole(Sections),
-    Cut,
-}

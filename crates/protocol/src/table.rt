@@ -37,9 +37,3 @@ pub struct TypeRow {
     // Last, and small numbers as bytes: a row is 24 bytes, which reader and writer copy
     pub places: u64,
 }
-
-#[derive(Clone, Copy)]
-pub enum FoundRow {
-    Row(TypeRow),
-    Unknown,
-}

@@ -15,18 +15,6 @@ pub struct Fields {
     pub tag: u64,
 }
 
-#[derive(Clone, Copy)]
-pub enum CqData {
-    Absent,
-    Present(u64),
-}
-
-#[derive(Clone, Copy)]
-pub enum Connid {
-    Absent,
-    Present(u32),
-}
-
 // The numbers of a packet, and whether it has a raw address. The bytes of raw address and data
 // stand beside it: lent to the writer, in the packet for the reader.
 #[derive(Clone, Copy)]
@@ -34,8 +22,8 @@ pub struct Header {
     pub kind: u8,
     pub fields: Fields,
     pub raw_address: bool,
-    pub cq_data: CqData,
-    pub connid: Connid,
+    pub cq_data: Option<u64>,
+    pub connid: Option<u32>,
 }
 
 // Some bytes of a packet: size of them, from at on.
@@ -60,23 +48,4 @@ pub struct Packet {
 #[derive(Clone, Copy)]
 pub struct Refusal {
     pub number: u8,
-}
-
-#[derive(Clone, Copy)]
-pub enum Read {
-    Packet(Packet),
-    Refused(Refusal),
-}
-
-#[derive(Clone, Copy)]
-pub enum Written {
-    Length(usize),
-    Refused(Refusal),
-}
-
-// A packet's length, if the limit allows it.
-#[derive(Clone, Copy)]
-pub enum Length {
-    Bytes(usize),
-    Above,
 }

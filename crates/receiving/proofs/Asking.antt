@@ -1,11 +1,11 @@
 -- What the parts of a packet call ask is there: from the peer's own check, from what a packet that was read keeps to, and from the verdict.
+use Rattle.std.specs.Prelude.{Ok}
 use Rattle.std.proofs.Common.{◌≡◌, ℕ, ◌+◌, ◌-◌, ◌*◌, ◌<◌, ◌≤◌, min, max, true, leb, List, [], length, sym, refl, ap, subst, mul-le-mul, arith, leb-true}
 use borrow.Author.Tests.{eqb-false}
 use Rattle.bitmap.specs.Map.{first_clear}
 use Rattle.protocol.specs.Reading.{packet_in, read_of}
 use Rattle.protocol.specs.declared.table.TypeRow.{TypeRow}
 use Rattle.protocol.specs.declared.types.Packet.{Packet}
-use Rattle.protocol.specs.declared.types.Read.{Read}
 use Rattle.protocol.specs.Types.{served_row}
 use Rattle.receiving.specs.Preconditions.{Limited, MayBegin, MayCarry, MayGrant, MayJudge, MayStore, Placed}
 use Rattle.peer.specs.Effects.{grant_of, opened, progress_of, quiet, with_phase}
@@ -157,7 +157,7 @@ begun_stores limit r h n area words words' reply b whole =
 -- ---- a packet that was read
 
 -- its data lie in its bytes
-pub data_inside : (limit : ℕ) (bs : List ℕ) (q : Packet) → read_of served_row limit bs ≡ Read.Packet q → q.«data».at + q.«data».size ≤ length bs
+pub data_inside : (limit : ℕ) (bs : List ℕ) (q : Packet) → read_of served_row limit bs ≡ Ok q → q.«data».at + q.«data».size ≤ length bs
 data_inside limit bs q e = go (as_read limit bs q (any_read served_row limit bs q e))
   where
     go : (r : TypeRow) × ReadAs limit bs r × (q ≡ packet_of r (le_at 2 bs 2) bs) → q.«data».at + q.«data».size ≤ length bs

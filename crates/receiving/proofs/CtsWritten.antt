@@ -1,4 +1,5 @@
 -- The CTS of a grant, as the packet writer writes it: it is never refused.
+use Rattle.std.specs.Prelude.{Result, Ok}
 use Rattle.std.proofs.Common.{◌≡◌, ℕ, ◌≤◌, List, [], length, refl, ap, ◌∙◌, arith, le-leb}
 use Rattle.laws.specs.Choose.{pick}
 use Rattle.laws.specs.Parts.{store_at}
@@ -9,9 +10,9 @@ use Rattle.protocol.specs.Lengths.{lengths_fit}
 use Rattle.protocol.specs.Optional.{options_fit, sections_of}
 use Rattle.protocol.specs.Types.{cts_row, row_in, row_of}
 use Rattle.protocol.specs.Writing.{WriteLeaves, base_bytes, mandatory_bytes, packet_bytes, write_of}
-use Rattle.protocol.specs.declared.types.Written.{Written}
 use Rattle.wire.specs.LittleEndian.{le_bytes}
 use Rattle.protocol.proofs.Accepted.{WrittenAs, write_as}
+use Rattle.protocol.specs.declared.types.Refusal.{Refusal}
 
 cts_length : (send recv n : ℕ) → length (cts_bytes send recv n) ≡ 24
 unfolding cts_bytes packet_bytes mandatory_bytes base_bytes field_bytes layout sections_of le_bytes pick
@@ -29,13 +30,13 @@ written_as send recv n out room one =
     }
 
 pub cts_written : (send recv n : ℕ) (out : List ℕ) → 24 ≤ length out → 1 ≤ n
-    → write_of (cts_header send recv n) [] [] out ≡ record { answer = Written.Length 24; out = store_at out 0 (cts_bytes send recv n) }
+    → write_of (cts_header send recv n) [] [] out ≡ record { answer = Ok 24; out = store_at out 0 (cts_bytes send recv n) }
 unfolding cts_bytes
 cts_written send recv n out room one =
     write_as (cts_header send recv n) [] [] out cts_row (written_as send recv n out room one)
-    ∙ ap (λ (k : ℕ). record { answer = Written.Length k; out = store_at out 0 (cts_bytes send recv n) }) (cts_length send recv n)
+    ∙ ap (λ (k : ℕ). record { answer = Ok k; out = store_at out 0 (cts_bytes send recv n) }) (cts_length send recv n)
 
 -- what the writer leaves in the buffer
-pub cts_left : (send recv n : ℕ) (out : List ℕ) (a : Written) (l : List ℕ) → 24 ≤ length out → 1 ≤ n
+pub cts_left : (send recv n : ℕ) (out : List ℕ) (a : Result ℕ Refusal) (l : List ℕ) → 24 ≤ length out → 1 ≤ n
     → record { answer = a; out = l } ≡ write_of (cts_header send recv n) [] [] out → l ≡ store_at out 0 (cts_bytes send recv n)
 cts_left send recv n out a l room one e = ap (λ (x : WriteLeaves). x.out) (e ∙ cts_written send recv n out room one)

@@ -6,7 +6,7 @@ ghost use Rattle.receiving.specs.Preconditions.{MayGrant};
 ghost use Rattle.peer.specs.Effects.{grant_of};
 
 use peer::{Message, Peer};
-use protocol::{Connid, CqData, Fields, Header};
+use protocol::{Fields, Header};
 
 // The numbers of a CTS packet; its flags are clear.
 fn cts_header(send_id: u32, recv_id: u32, recv_length: usize) -> Header
@@ -27,8 +27,8 @@ fn cts_header(send_id: u32, recv_id: u32, recv_length: usize) -> Header
         kind: 3,
         fields,
         raw_address: false,
-        cq_data: CqData::Absent,
-        connid: Connid::Absent,
+        cq_data: None,
+        connid: None,
     }
 }
 
@@ -39,7 +39,8 @@ pub(crate) fn write_cts(reply: &mut [u8], send_id: u32, recv_id: u32, recv_lengt
     ensures { reply.new ≡ store_at reply.old 0 (cts_bytes send_id recv_id recv_length) }
 {
     let header = cts_header(send_id, recv_id, recv_length);
-    packet::write(header, &[], &[], reply);
+    // never refused, as the clause says of the bytes: a CTS of at least one byte, into 24 bytes
+    let _ = packet::write(header, &[], &[], reply);
 }
 
 // How many packets a grant is for: as many as are asked for, from 1 to 16.

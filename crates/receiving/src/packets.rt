@@ -6,7 +6,7 @@ ghost use Rattle.receiving.specs.Leaves.{packet_leaves};
 
 use crate::{effects, incoming};
 use peer::{Peer, Step};
-use protocol::{Read, SHORT_REPLY};
+use protocol::SHORT_REPLY;
 
 // A packet comes in: it is read, judged, and the verdict carried out in the peer's own area and map words.
 pub fn packet(
@@ -25,8 +25,8 @@ pub fn packet(
         return peer.refused(SHORT_REPLY);
     }
     match packet::read_served(bytes, limit) {
-        Read::Refused(refusal) => peer.refused(refusal),
-        Read::Packet(packet) => {
+        Err(refusal) => peer.refused(refusal),
+        Ok(packet) => {
             let data = packet.data;
             let at = data.at;
             let end = at + data.size;

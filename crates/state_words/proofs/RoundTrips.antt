@@ -9,10 +9,10 @@ use mathlib.Core.List.{List, [], ◌∷◌}
 use mathlib.Core.Path.{◌≡◌, refl, sym, ap, ap₂, ◌∙◌}
 use native.Mathlib.Nat.{add_assoc, add-zero, mul-zero, mul-suc, mul-le-mul_left, mod-eq_of_lt}
 use native.Mathlib.Omega.{arith}
+use Rattle.std.specs.Prelude.{Option, Some, None}
 use Rattle.laws.specs.Choose.{pick}
 use Rattle.protocol.specs.declared.table.Shape.{Shape}
 use Rattle.protocol.specs.declared.table.Shape.TheVariants.{Cts, CtsData, Eager, LongCts, Medium}
-use Rattle.protocol.specs.declared.types.CqData.{CqData}
 use Rattle.peer.specs.State.{free_slot, fresh_peer, phase_at, slot_count, slot_with}
 use Rattle.peer.specs.declared.types.Inbound.{Inbound}
 use Rattle.peer.specs.declared.types.Peer.{Peer}
@@ -23,7 +23,7 @@ use Rattle.engine.specs.declared.types.Engine.{Engine}
 use Rattle.state_words.specs.Flat.{flat, same}
 use Rattle.state_words.specs.Loading.{engine_in, is_state, peer_in, phase_in, shape_in, state_of}
 use Rattle.state_words.specs.RoundTrip.{Held, LoadedAgain, MessageHeld, PeerHeld, SavedAgain}
-use Rattle.words.specs.Presence.{bool_bit, cq_bit, cq_value}
+use Rattle.words.specs.Presence.{bool_bit, option_bit, option_value}
 use Rattle.state_words.specs.Saving.{engine_words, peer_size, peer_words, phase_words, shape_number, slot_size, slot_words, sort_word}
 use Rattle.laws.proofs.Choosing.{pick_true}
 use Rattle.state_words.proofs.FlatLaws.{length_flat, tabulate_is, same_refl, same_true}
@@ -70,10 +70,10 @@ bit_read : (b : Bool) → eqb (bool_bit b) 1 ≡ b
 bit_read true = refl
 bit_read false = refl
 
-cq_read : (d : CqData) → pick (eqb (cq_bit d) 1) (CqData.Present (cq_value d)) CqData.Absent ≡ d
+cq_read : (d : Option ℕ) → pick (eqb (option_bit d) 1) (Some (option_value d)) None ≡ d
 unfolding pick
-cq_read CqData.Absent = refl
-cq_read (CqData.Present d) = refl
+cq_read None = refl
+cq_read (Some d) = refl
 
 sort_shape : (s : Shape) (t : Bool) → shape_in (sort_word s t / 2) ≡ s
 unfolding pick

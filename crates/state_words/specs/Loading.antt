@@ -1,9 +1,8 @@
 -- The state that words are read as, and which words are a state's.
-use Rattle.std.specs.Prelude.{ℕ, ◌+◌, ◌*◌, ◌/◌, ◌%◌, ◌^◌, List, Bool, get_or, eqb}
+use Rattle.std.specs.Prelude.{ℕ, ◌+◌, ◌*◌, ◌/◌, ◌%◌, ◌^◌, List, Bool, get_or, eqb, Option, Some, None}
 use Rattle.laws.specs.Choose.{pick}
 use Rattle.protocol.specs.declared.table.Shape.{Shape}
 use Rattle.protocol.specs.declared.table.Shape.TheVariants.{Cts, CtsData, Eager, Medium, LongCts}
-use Rattle.protocol.specs.declared.types.CqData.{CqData}
 use Rattle.peer.specs.declared.types.Receive.{Receive}
 use Rattle.peer.specs.declared.types.Message.{Message}
 use Rattle.peer.specs.declared.types.Phase.{Phase}
@@ -24,8 +23,8 @@ receive_in w at =
       capacity = get_or w (at + 5) 0;
     }
 
-abbrev pub cq_in : List ℕ → ℕ → CqData
-cq_in w at = pick (eqb (get_or w (at + 14) 0) 1) (CqData.Present (get_or w (at + 15) 0)) CqData.Absent
+abbrev pub cq_in : List ℕ → ℕ → Option ℕ
+cq_in w at = pick (eqb (get_or w (at + 14) 0) 1) (Some (get_or w (at + 15) 0)) None
 
 -- the shape with this number
 abbrev pub shape_in : ℕ → Shape

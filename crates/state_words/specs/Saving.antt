@@ -3,7 +3,7 @@
 use Rattle.std.specs.Prelude.{ℕ, ◌+◌, ◌*◌, Bool, List, [], ◌∷◌}
 use Rattle.protocol.specs.declared.table.Shape.{Shape}
 use Rattle.protocol.specs.declared.table.Shape.TheVariants.{Cts, CtsData, Eager, Medium, LongCts}
-use Rattle.words.specs.Presence.{bool_bit, cq_bit, cq_value}
+use Rattle.words.specs.Presence.{bool_bit, option_bit, option_value}
 use Rattle.peer.specs.declared.types.Receive.{Receive}
 use Rattle.peer.specs.declared.types.Message.{Message}
 use Rattle.peer.specs.declared.types.Phase.{Phase}
@@ -45,7 +45,7 @@ phase_words (Phase.Open o) =
     let r : Receive = o.receive in
     let m : Message = o.message in
     2 ∷ bool_bit r.tagged ∷ r.tag ∷ r.ignore ∷ r.start ∷ r.capacity ∷ 0
-    ∷ sort_word m.shape m.tagged ∷ m.id ∷ m.tag ∷ m.length ∷ m.granted ∷ m.send_id ∷ m.credit_request ∷ cq_bit m.cq_data ∷ cq_value m.cq_data ∷ []
+    ∷ sort_word m.shape m.tagged ∷ m.id ∷ m.tag ∷ m.length ∷ m.granted ∷ m.send_id ∷ m.credit_request ∷ option_bit m.cq_data ∷ option_value m.cq_data ∷ []
 
 abbrev pub slot_words : Slot → List ℕ
 slot_words s = phase_words s.phase

@@ -10,7 +10,7 @@ use crate::saving;
 use crate::types::{Loaded, PEER, SLOT, STATE};
 use engine::Engine;
 use peer::{Inbound, Message, Peer, Phase, Receive, Slot};
-use protocol::{CqData, Shape};
+use protocol::Shape;
 
 fn receive_in(words: &[u64], at: usize) -> Receive
     requires { at + 16 ≤ length words.now }
@@ -25,14 +25,14 @@ fn receive_in(words: &[u64], at: usize) -> Receive
     }
 }
 
-fn cq_in(words: &[u64], at: usize) -> CqData
+fn cq_in(words: &[u64], at: usize) -> Option<u64>
     requires { at + 16 ≤ length words.now }
     ensures { result ≡ cq_in words.now at }
 {
     if words[at + 14] == 1 {
-        CqData::Present(words[at + 15])
+        Some(words[at + 15])
     } else {
-        CqData::Absent
+        None
     }
 }
 

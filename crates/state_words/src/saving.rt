@@ -52,8 +52,8 @@ fn open_words(inbound: Inbound) -> [u64; 16]
         message.granted as u64,
         message.send_id as u64,
         message.credit_request as u64,
-        words::cq_bit(cq),
-        words::cq_value(cq),
+        words::option_bit(cq),
+        words::option_value(cq),
     ]
 }
 

@@ -4,9 +4,7 @@
 
 ghost use Rattle.std.specs.Prelude.{◌≡◌, ◌+◌, ◌≤◌, length};
 ghost use Rattle.laws.specs.Parts.{store_at};
-ghost use Rattle.words.specs.Presence.{bool_bit, cq_bit, cq_value};
-
-use protocol::CqData;
+ghost use Rattle.words.specs.Presence.{bool_bit, option_bit, option_value};
 
 // The words of `from` are put into `words`, from `at` on.
 pub fn put_words(words: &mut [u64], at: usize, from: &[u64])
@@ -26,20 +24,16 @@ pub fn bit_of(b: bool) -> u64
     if b { 1 } else { 0 }
 }
 
-pub fn cq_bit(cq: CqData) -> u64
-    ensures { result ≡ cq_bit cq }
+// Whether it is there.
+pub fn option_bit<T: Copy>(option: Option<T>) -> u64
+    ensures { result ≡ option_bit option }
 {
-    match cq {
-        CqData::Absent => 0,
-        CqData::Present(_) => 1,
-    }
+    bit_of(option.is_some())
 }
 
-pub fn cq_value(cq: CqData) -> u64
-    ensures { result ≡ cq_value cq }
+// Its value, or 0.
+pub fn option_value(option: Option<u64>) -> u64
+    ensures { result ≡ option_value option }
 {
-    match cq {
-        CqData::Absent => 0,
-        CqData::Present(value) => value,
-    }
+    option.unwrap_or(0)
 }

@@ -1,5 +1,6 @@
 -- An answer taken apart: which packet a call brings, where its segment goes, what was tested on the way, and what is entered. One walk
 -- through the tests of the plain receiver; and what every change of an entry keeps, every history keeps.
+use Rattle.std.specs.Prelude.{Option, Result, Ok, Err}
 use Rattle.std.proofs.Common.{◌≡◌, ℕ, ◌+◌, ◌<◌, ◌≤◌, Bool, true, false, ltb, leb, List, [], ◌∷◌, sym, refl, ◌∙◌, subst, arith, ltb-false, ltb-true}
 use mathlib.Core.Bool.{false≢true}
 use Rattle.bitmap.specs.Offsets.{some_of}
@@ -7,9 +8,7 @@ use Rattle.laws.specs.Choose.{pick}
 use Rattle.protocol.specs.Reading.{read_of}
 use Rattle.protocol.specs.Refusals.{bad_length, bad_slot, beyond_grant, differs, early, late, no_receive, no_slot, overlaps, repeated, short_reply}
 use Rattle.protocol.specs.Values.{bytes_at}
-use Rattle.protocol.specs.declared.types.CqData.{CqData}
 use Rattle.protocol.specs.declared.types.Packet.{Packet}
-use Rattle.protocol.specs.declared.types.Read.{Read}
 use Rattle.protocol.specs.declared.types.Refusal.{Refusal}
 use Rattle.protocol.specs.Types.{served_row}
 use Rattle.peer.specs.Answers.{on_taken}
@@ -45,7 +44,7 @@ pub record Brings (limit : ℕ) (c : Call) : Type 0 where
   pub room : ℕ
   pub read : Packet
   pub call : c ≡ packet text room
-  pub reads : read_of served_row limit text ≡ Read.Packet read
+  pub reads : read_of served_row limit text ≡ Ok read
 
 abbrev pub head_of : {limit : ℕ} {c : Call} → Brings limit c → Incoming
 head_of b = incoming_of b.read
@@ -135,7 +134,7 @@ pub record GrantFacts (limit : ℕ) (l : Plain) (c : Call) (t : Target) (n : ℕ
   pub amount : n ≡ grant_of limit partly.taken.message.message
   pub short : partly.taken.message.message.granted < partly.taken.message.message.length
 
-pub record Wholly (limit : ℕ) (l : Plain) (c : Call) (t : Target) (slot id n : ℕ) (cq : CqData) : Type 0 where
+pub record Wholly (limit : ℕ) (l : Plain) (c : Call) (t : Target) (slot id n : ℕ) (cq : Option ℕ) : Type 0 where
   pub taken : Taken limit l c t
   pub covered : all_of (covers t.entry.segments) 0 taken.message.message.length ≡ true
   pub slot_is : slot ≡ t.index
@@ -247,7 +246,7 @@ module _ (limit : ℕ) (l : Plain) (h : Incoming) (body : List ℕ) where
   ruled = ruled_found (open_in h.id 0 (roles l.entries)) refl
 
 -- a packet that is read
-module _ (limit : ℕ) (l : Plain) (bs : List ℕ) (room : ℕ) (q : Packet) (reads : read_of served_row limit bs ≡ Read.Packet q) where
+module _ (limit : ℕ) (l : Plain) (bs : List ℕ) (room : ℕ) (q : Packet) (reads : read_of served_row limit bs ≡ Ok q) where
   abbrev b : Brings limit (packet bs room)
   b = record { text = bs; room = room; read = q; call = refl; reads = reads }
 
@@ -297,9 +296,9 @@ walked area limit l (packet bs room) =
     branch (λ (x : Ruling). Walked limit l (packet bs room) x.target x.answer) (ltb room 24) _ _
     (λ x. refused_walked limit l (packet bs room) short_reply) (λ x. go (read_of served_row limit bs) refl)
   where
-    go : (x : Read) → read_of served_row limit bs ≡ x → Walked limit l (packet bs room) (expect_read limit l bs x).target (expect_read limit l bs x).answer
-    go (Read.Refused k) e = refused_walked limit l (packet bs room) k
-    go (Read.Packet q) e = ruled_walked limit l bs room q e (ruled limit l (incoming_of q) (bytes_at bs q.«data»))
+    go : (x : Result Packet Refusal) → read_of served_row limit bs ≡ x → Walked limit l (packet bs room) (expect_read limit l bs x).target (expect_read limit l bs x).answer
+    go (Err k) e = refused_walked limit l (packet bs room) k
+    go (Ok q) e = ruled_walked limit l bs room q e (ruled limit l (incoming_of q) (bytes_at bs q.«data»))
 walked area limit l (cancel i) =
     branch (Walked limit l (cancel i) nowhere) (leb slot_count i) _ _ (λ x. refused_walked limit l (cancel i) bad_slot) (λ x. go (slot_entry l.entries i).role)
   where

@@ -1,10 +1,10 @@
 -- Messages are matched in message order, each to the receive that was posted first of those that it fits; a message is truncated exactly if
 -- it is longer than that receive.
+use Rattle.std.specs.Prelude.{Ok}
 use Rattle.std.proofs.Common.{◌≡◌, ℕ, ◌<◌, ◌≤◌, true, List, sym, refl, ap, ◌∙◌, subst, subst₂, arith}
 use mathlib.Core.Bool.{false≢true}
 use Rattle.protocol.specs.Reading.{read_of}
 use Rattle.protocol.specs.declared.types.Packet.{Packet}
-use Rattle.protocol.specs.declared.types.Read.{Read}
 use Rattle.protocol.specs.Types.{served_row}
 use Rattle.peer.specs.Calls.{packet}
 use Rattle.peer.specs.Claims.{HasRoom, InOrder, MatchedInOrder, TruncateClaim, TruncatedAboveCapacity, history}
@@ -34,7 +34,7 @@ in_order {l} {h} q e (begins i r serial m) x =
     }
 
 -- the packet that a call brings is the one that is read
-module _ (limit : ℕ) (bs : List ℕ) (room : ℕ) (q : Packet) (e : read_of served_row limit bs ≡ Read.Packet q) (b : Brings limit (packet bs room)) where
+module _ (limit : ℕ) (bs : List ℕ) (room : ℕ) (q : Packet) (e : read_of served_row limit bs ≡ Ok q) (b : Brings limit (packet bs room)) where
   same_head : incoming_of q ≡ head_of b
   same_head =
       let same : bs ≡ b.text = cc b.call in
@@ -58,7 +58,7 @@ waited q e (begins j r serial m) x i =
     let same : waiting r ≡ waiting i.receive = sym m.chosen.waits ∙ i.waits in
     (cc, refl)
 
-module _ (limit : ℕ) (l : Plain) (bs : List ℕ) (room : ℕ) (q : Packet) (e : read_of served_row limit bs ≡ Read.Packet q) (t : Target) where
+module _ (limit : ℕ) (l : Plain) (bs : List ℕ) (room : ℕ) (q : Packet) (e : read_of served_row limit bs ≡ Ok q) (t : Target) where
   roomy : (w : Taken limit l (packet bs room) t) → Fitting t.matched w.message → HasRoom l q t
   roomy w f =
       record {

@@ -1,10 +1,10 @@
 -- After every history a receive waits as it was posted, and an open message is the matching packet's: the statements of specs/Origins.antt.
+use Rattle.std.specs.Prelude.{Ok}
 use Rattle.std.proofs.Common.{◌≡◌, ℕ, zero, suc, ◌<◌, true, List, [], ◌∷◌, length, set, sym, refl, ap, ◌∙◌, subst, subst₂, ⊎_elim, arith, length-set, get_or-set_same}
 use lib.ListN.{length-replicate}
 use Rattle.laws.specs.Choose.{pick}
 use Rattle.protocol.specs.Reading.{read_of}
 use Rattle.protocol.specs.declared.types.Packet.{Packet}
-use Rattle.protocol.specs.declared.types.Read.{Read}
 use Rattle.protocol.specs.Types.{served_row}
 use Rattle.peer.specs.Calls.{Call}
 use Rattle.peer.specs.Claims.{history, plain_after, takes}
@@ -27,7 +27,7 @@ use Rattle.peer.proofs.History.Facts.{Aims, AnswerFacts, Entered, Taken, answer_
 -- ---- a packet that begins a message
 
 -- the message that it begins has its numbers
-pub begun_by : (limit : ℕ) (bs : List ℕ) (q : Packet) → read_of served_row limit bs ≡ Read.Packet q → is_rtm (incoming_of q).shape ≡ true → (r : Receive)
+pub begun_by : (limit : ℕ) (bs : List ℕ) (q : Packet) → read_of served_row limit bs ≡ Ok q → is_rtm (incoming_of q).shape ≡ true → (r : Receive)
     → BegunBy bs (opened r (incoming_of q)).message
 begun_by limit bs q e rtm r =
     let says = read_says_lem limit bs q e in
@@ -86,7 +86,7 @@ module _ (limit : ℕ) (l : Plain) (gs : List Origin) (from : Trace l gs) where
       (used_inside l.entries i (λ x. absurd (let y : waiting r ≡ idle = sym e ∙ x in let z : ◌≡◌ {A = ℕ} 0 1 = cc in omega arith)))
 
   -- of a packet that is taken: its entry's origin
-  aimed : {bytes : List ℕ} (bs : List ℕ) (q : Packet) {t : Target} {o : Inbound} → read_of served_row limit bs ≡ Read.Packet q → Aims l (incoming_of q) bytes t o
+  aimed : {bytes : List ℕ} (bs : List ℕ) (q : Packet) {t : Target} {o : Inbound} → read_of served_row limit bs ≡ Ok q → Aims l (incoming_of q) bytes t o
       → FromOrigin (origin_at (after t bs) t.index) (receiving o)
   unfolding pick
   aimed bs q e (goes_on i o g) = subst (FromOrigin (origin_at gs i)) g.role (from.1 i)
@@ -136,8 +136,8 @@ module _ (limit : ℕ) (l : Plain) (gs : List Origin) (from : Trace l gs) where
 
     comes : (a : Answer) → takes a ≡ true → Taken limit l c t → Comes (origin_at (note_origin t gs c a) t.index) t
     comes a e w =
-        subst (λ (os : List Origin). Comes (origin_at os t.index) t) (sym (noted a w e))
-        (record { message = w.message; role = taken_role w; receive = (taken_origin w).0; begun = (taken_origin w).1 })
+        let same = subst (λ (os : List Origin). FromOrigin (origin_at os t.index) (receiving w.message)) (sym (noted a w e)) (taken_origin w) in
+        record { message = w.message; role = taken_role w; receive = same.0; begun = same.1 }
 
     origin_claim : (a : Answer) → AnswerFacts limit l c t a → OriginClaim (origin_at (note_origin t gs c a) t.index) t a
     unfolding comes

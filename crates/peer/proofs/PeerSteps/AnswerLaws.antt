@@ -1,7 +1,7 @@
 -- The table of answers that take a packet: a claim follows from others if it does so at each of them, and all other answers are alike.
+use Rattle.std.specs.Prelude.{Option}
 use Rattle.std.proofs.Common.{◌≡◌, ℕ, true, false, List, refl, true≢false, arith}
 use mathlib.Core.Bool.{false≢true}
-use Rattle.protocol.specs.declared.types.CqData.{CqData}
 use Rattle.peer.specs.Answers.{on_granted, on_taken}
 use Rattle.peer.specs.Claims.{is_grant, takes}
 use Rattle.peer.specs.Coverage.{Segment}
@@ -14,9 +14,9 @@ use Rattle.peer.specs.declared.types.Progress.{Progress}
 use Rattle.laws.proofs.Choosing.{pick_either}
 
 -- one claim from two others
-pub claim_both : {U S A R W Q : Type 0} {G H K : ℕ → Type 0} {D E F : ℕ → ℕ → ℕ → CqData → Type 0} {T X Y : ℕ → ℕ → ℕ → Type 0} (a : Answer)
+pub claim_both : {U S A R W Q : Type 0} {G H K : ℕ → Type 0} {D E F : ℕ → ℕ → ℕ → Option ℕ → Type 0} {T X Y : ℕ → ℕ → ℕ → Type 0} (a : Answer)
     → (takes a ≡ false → U → A → W) → (a ≡ Answer.Stored → S → R → Q) → ((n : ℕ) → a ≡ Answer.Granted n → G n → H n → K n)
-    → ((i id n : ℕ) (cq : CqData) → a ≡ Answer.Done i id n cq → D i id n cq → E i id n cq → F i id n cq)
+    → ((i id n : ℕ) (cq : Option ℕ) → a ≡ Answer.Done i id n cq → D i id n cq → E i id n cq → F i id n cq)
     → ((i id n : ℕ) → a ≡ Answer.Truncated i id n → T i id n → X i id n → Y i id n)
     → on_taken U S G D T a → on_taken A R H E X a → on_taken W Q K F Y a
 claim_both (Answer.Refused k) u s g d t w x = u refl w x
@@ -29,9 +29,9 @@ claim_both (Answer.Truncated slot id n) u s g d t w x = t slot id n refl w x
 claim_both (Answer.Missing received first) u s g d t w x = u refl w x
 
 -- one from another
-pub claim_from : {U S A R : Type 0} {G H : ℕ → Type 0} {D E : ℕ → ℕ → ℕ → CqData → Type 0} {T X : ℕ → ℕ → ℕ → Type 0} (a : Answer)
+pub claim_from : {U S A R : Type 0} {G H : ℕ → Type 0} {D E : ℕ → ℕ → ℕ → Option ℕ → Type 0} {T X : ℕ → ℕ → ℕ → Type 0} (a : Answer)
     → (takes a ≡ false → U → A) → (a ≡ Answer.Stored → S → R) → ((n : ℕ) → a ≡ Answer.Granted n → G n → H n)
-    → ((i id n : ℕ) (cq : CqData) → a ≡ Answer.Done i id n cq → D i id n cq → E i id n cq)
+    → ((i id n : ℕ) (cq : Option ℕ) → a ≡ Answer.Done i id n cq → D i id n cq → E i id n cq)
     → ((i id n : ℕ) → a ≡ Answer.Truncated i id n → T i id n → X i id n)
     → on_taken U S G D T a → on_taken A R H E X a
 claim_from a u s g d t w =
@@ -49,7 +49,7 @@ claim_taken (Answer.Truncated slot id n) w e = w
 claim_taken (Answer.Missing received first) w e = absurd (false≢true e)
 
 -- an answer that takes none
-pub untaken_is : {A : Type 0} (u s : A) (g : ℕ → A) (d : ℕ → ℕ → ℕ → CqData → A) (t : ℕ → ℕ → ℕ → A) (a : Answer) → takes a ≡ false
+pub untaken_is : {A : Type 0} (u s : A) (g : ℕ → A) (d : ℕ → ℕ → ℕ → Option ℕ → A) (t : ℕ → ℕ → ℕ → A) (a : Answer) → takes a ≡ false
     → on_taken u s g d t a ≡ u
 untaken_is u s g d t (Answer.Refused k) e = refl
 untaken_is u s g d t (Answer.Posted slot) e = refl
@@ -61,8 +61,8 @@ untaken_is u s g d t (Answer.Truncated slot id n) e = absurd (true≢false e)
 untaken_is u s g d t (Answer.Missing received first) e = refl
 
 -- tables of a granted and a done that are alike there
-pub taken_same : {A : Type 0} (u : A) {g h : ℕ → A} {d e : ℕ → ℕ → ℕ → CqData → A} (a : Answer)
-    → ((n : ℕ) → a ≡ Answer.Granted n → g n ≡ h n) → ((i id n : ℕ) (cq : CqData) → a ≡ Answer.Done i id n cq → d i id n cq ≡ e i id n cq)
+pub taken_same : {A : Type 0} (u : A) {g h : ℕ → A} {d e : ℕ → ℕ → ℕ → Option ℕ → A} (a : Answer)
+    → ((n : ℕ) → a ≡ Answer.Granted n → g n ≡ h n) → ((i id n : ℕ) (cq : Option ℕ) → a ≡ Answer.Done i id n cq → d i id n cq ≡ e i id n cq)
     → on_taken u u g d (λ i id n. u) a ≡ on_taken u u h e (λ i id n. u) a
 taken_same u (Answer.Refused k) x y = refl
 taken_same u (Answer.Posted slot) x y = refl

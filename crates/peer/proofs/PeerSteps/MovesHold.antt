@@ -1,4 +1,5 @@
 -- Each answer of a peer's call leaves what 01 says: the statements of specs/SlotMoves.antt and specs/Moves.antt.
+use Rattle.std.specs.Prelude.{Ok}
 use Rattle.std.proofs.Common.{◌≡◌, ℕ, ◌+◌, ◌*◌, ◌%◌, ◌<◌, ◌≤◌, false, ◌⊎◌, List, [], length, drop, set, sym, refl, ap, ◌∙◌, subst, inl, inr, ⊎_elim, true≢false, arith, length-set}
 use Rattle.bitmap.specs.Map.{cleared, marked}
 use Rattle.protocol.specs.CtsSentences.{CtsReadBack}
@@ -6,7 +7,6 @@ use Rattle.protocol.specs.Sentences.{head_in}
 use Rattle.protocol.specs.Reading.{read_of}
 use Rattle.protocol.specs.Values.{bytes_at}
 use Rattle.protocol.specs.declared.types.Packet.{Packet}
-use Rattle.protocol.specs.declared.types.Read.{Read}
 use Rattle.protocol.specs.Types.{served_row}
 use Rattle.peer.specs.Calls.{Call, count_posted, missing_in, packet, placed, renumbered, report}
 use Rattle.peer.specs.Coverage.{Segment}
@@ -271,7 +271,7 @@ module _ (limit : ℕ) (p : Peer) (ws : List ℕ) (eight : length p.slots ≡ sl
   -- ---- a packet that was read
 
   module _ (area : ℕ) (v : Valid area p.slots) (cover : area ≤ 64 * length ws) (bs : List ℕ) (room : ℕ) (q : Packet)
-      (e : read_of served_row limit bs ≡ Read.Packet q) where
+      (e : read_of served_row limit bs ≡ Ok q) where
     abbrev h : Incoming
     h = incoming_of q
 

@@ -1,16 +1,14 @@
 -- The cases of a peer's step: what a call may come to, with what the tests have shown; a refused call leaves all and answers a number of its
 -- call's list. It holds of every peer, also one that cannot be.
+use Rattle.std.specs.Prelude.{Option, Some, None, Result, Ok, Err}
 use Rattle.std.proofs.Common.{◌≡◌, ℕ, ◌+◌, ◌<◌, ◌≤◌, Bool, true, false, List, get_or, sym, refl, ap, ◌∙◌, subst, arith, ltb-false, leb-false}
 use Rattle.protocol.specs.Reading.{packet_in, read_flags, read_lengths, read_of, read_sections, read_typed}
 use Rattle.protocol.specs.Refusals.{bad_length, bad_slot, no_slot, overlaps, short_reply}
 use Rattle.protocol.specs.Sections.{extent_of}
 use Rattle.protocol.specs.Types.{admit, row_of, served_row}
 use Rattle.protocol.specs.Values.{bytes_at}
-use Rattle.protocol.specs.declared.sections.Extent.{Extent}
-use Rattle.protocol.specs.declared.table.FoundRow.TheVariants.{Row, Unknown}
 use Rattle.protocol.specs.declared.table.TypeRow.{TypeRow}
 use Rattle.protocol.specs.declared.types.Packet.{Packet}
-use Rattle.protocol.specs.declared.types.Read.{Read}
 use Rattle.protocol.specs.declared.types.Refusal.{Refusal}
 use Rattle.wire.specs.LittleEndian.{le_at}
 use Rattle.peer.specs.Calls.{Call, cancel, cancel_effect, cancel_slot, missing_in, packet, packet_effect, peer_step, placed, placed_in, post, post_effect, read_effect, report, report_effect, report_slot, overlaps_some}
@@ -32,11 +30,12 @@ use Rattle.laws.proofs.Choosing.{branch, clashing}
 use Rattle.peer.proofs.PeerSteps.AnswerLaws.{settled_takes}
 use Rattle.peer.proofs.Sentences.PacketsRead.{read_formed}
 use Rattle.peer.proofs.PeerSteps.Verdicts.{Begins, Continues, CutOff, Judged, Listed, judged}
+use Rattle.protocol.specs.declared.sections.Sections.{Sections}
 
 -- the packet is read, and its reply buffer has room for a CTS
 pub record Arrives (limit : ℕ) (bs : List ℕ) (room : ℕ) (q : Packet) : Type 0 where
   pub roomy : 24 ≤ room
-  pub reads : read_of served_row limit bs ≡ Read.Packet q
+  pub reads : read_of served_row limit bs ≡ Ok q
 
 abbrev pub data_of : List ℕ → Packet → List ℕ
 data_of bs q = bytes_at bs q.«data»
@@ -57,9 +56,9 @@ pub data StepCase (area limit : ℕ) (p : Peer) (ws : List ℕ) : Call → Effec
 
 -- ---- the reader's refusals
 
-abbrev ReadListed : Read → Type 0
-ReadListed (Read.Refused k) = Listed k
-ReadListed (Read.Packet q) = Unit {0}
+abbrev ReadListed : Result Packet Refusal → Type 0
+ReadListed (Err k) = Listed k
+ReadListed (Ok q) = Unit {0}
 
 read_listed : (which : TypeRow → Bool) (limit : ℕ) (bs : List ℕ) → ReadListed (read_of which limit bs)
 unfolding read_of
@@ -71,13 +70,13 @@ read_listed which limit bs =
     lengths : (r : TypeRow) (q : Packet) → ReadListed (read_lengths r q)
     lengths r q = unfold read_lengths in branch ReadListed _ _ _ (λ x. tt) (λ x. refl)
 
-    sections : (r : TypeRow) (f : ℕ) (x : Extent) → ReadListed (read_sections r f bs x)
-    sections r f Extent.Cut = unfold read_sections in refl
-    sections r f (Extent.Whole s) = unfold read_sections in lengths r (packet_in r f bs s)
+    sections : (r : TypeRow) (f : ℕ) (x : Option Sections) → ReadListed (read_sections r f bs x)
+    sections r f None = unfold read_sections in refl
+    sections r f (Some s) = unfold read_sections in lengths r (packet_in r f bs s)
 
-    typed : (x : Rattle.protocol.specs.declared.table.FoundRow.FoundRow) → ReadListed (read_typed x bs)
-    typed Unknown = unfold read_typed in refl
-    typed (Row r) = unfold read_typed read_flags in branch ReadListed _ _ _ (λ x. sections r (le_at 2 bs 2) (extent_of r (le_at 2 bs 2) bs)) (λ x. refl)
+    typed : (x : Option TypeRow) → ReadListed (read_typed x bs)
+    typed None = unfold read_typed in refl
+    typed (Some r) = unfold read_typed read_flags in branch ReadListed _ _ _ (λ x. sections r (le_at 2 bs 2) (extent_of r (le_at 2 bs 2) bs)) (λ x. refl)
 
 -- ---- the step
 
@@ -102,9 +101,9 @@ module _ (area limit : ℕ) (p : Peer) (ws : List ℕ) where
   step_case (packet bs room) =
       branch (StepCase area limit p ws (packet bs room)) _ _ _ (λ x. refused (packet bs room) short_reply refl) (λ x. read (read_of served_row limit bs) refl (ltb-false room 24 x))
     where
-      read : (d : Read) → read_of served_row limit bs ≡ d → 24 ≤ room → StepCase area limit p ws (packet bs room) (read_effect limit p ws bs d)
-      read (Read.Refused k) e x = refused (packet bs room) k (subst ReadListed e (read_listed served_row limit bs))
-      read (Read.Packet q) e x =
+      read : (d : Result Packet Refusal) → read_of served_row limit bs ≡ d → 24 ≤ room → StepCase area limit p ws (packet bs room) (read_effect limit p ws bs d)
+      read (Err k) e x = refused (packet bs room) k (subst ReadListed e (read_listed served_row limit bs))
+      read (Ok q) e x =
           carried bs room q (record { roomy = x; reads = e }) (judge p ws (incoming_of q)) (judged p ws (incoming_of q) _ (read_formed limit bs q e))
   step_case (cancel i) =
       branch (StepCase area limit p ws (cancel i)) _ _ _ (λ x. refused (cancel i) bad_slot refl) (λ x. at (phase_at p.slots i) refl (leb-false slot_count i x))

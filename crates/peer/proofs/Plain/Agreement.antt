@@ -1,5 +1,6 @@
 -- The peer, its map and its area (the byte at x is `mem x`) say what the plain receiver says: the relation between them, and one walk through
 -- the tests of both: each call's answer is the expected one, and the segment of a packet goes to one and the same message.
+use Rattle.std.specs.Prelude.{Result, Ok, Err}
 use Rattle.std.proofs.Common.{◌≡◌, ℕ, ◌+◌, ◌*◌, ◌<◌, ◌≤◌, Bool, true, false, ◌&&◌, eqb, ltb, leb, List, [], ◌∷◌, length, sym, refl, ap, ◌∙◌, subst, ap₂, arith, ltb-false, le-ltb, lt-ltb, leb-false, leb-true}
 use borrow.Author.Tests.{eqb-false}
 use Rattle.bitmap.specs.Map.{cleared, count_set, first_clear, marked}
@@ -8,7 +9,6 @@ use Rattle.laws.specs.Choose.{pick}
 use Rattle.protocol.specs.Reading.{read_of}
 use Rattle.protocol.specs.Refusals.{bad_length, bad_slot, beyond_grant, differs, early, late, no_receive, no_slot, overlaps, repeated, short_reply}
 use Rattle.protocol.specs.declared.types.Packet.{Packet}
-use Rattle.protocol.specs.declared.types.Read.{Read}
 use Rattle.protocol.specs.declared.types.Refusal.{Refusal}
 use Rattle.protocol.specs.Types.{served_row}
 use Rattle.peer.specs.Calls.{Call, cancel, cancel_effect, cancel_slot, missing_in, packet, packet_effect, peer_step, placed, placed_in, post, post_effect, read_effect, report, report_effect, report_slot}
@@ -292,10 +292,10 @@ module _ (area limit : ℕ) (p : Peer) (ws : List ℕ) (l : Plain) (v : Valid ar
       beside (λ (f : Effect) (x : Ruling). Both (packet bs room) f x.target x.answer) _ _ _ _ refl (λ x. refused_both (packet bs room) short_reply)
       (λ x. read (read_of served_row limit bs) refl (ltb-false room 24 x))
     where
-      read : (d : Read) → read_of served_row limit bs ≡ d → 24 ≤ room
+      read : (d : Result Packet Refusal) → read_of served_row limit bs ≡ d → 24 ≤ room
           → Both (packet bs room) (read_effect limit p ws bs d) (expect_read limit l bs d).target (expect_read limit l bs d).answer
-      read (Read.Refused k) e x = refused_both (packet bs room) k
-      read (Read.Packet q) e x =
+      read (Err k) e x = refused_both (packet bs room) k
+      read (Ok q) e x =
           let form = read_formed limit bs q e in
           carried bs room q (record { roomy = x; reads = e }) (judge p ws (incoming_of q)) _ (judged p ws (incoming_of q) _ form) form
           (packet_ruled (incoming_of q) (data_of bs q) form)

@@ -1,5 +1,6 @@
 -- The answer that 01 demands is a refusal by the first check that fails, of every plain receiver that no two messages with one id are open
 -- in: the statement of specs/Checks.antt on plain receivers.
+use Rattle.std.specs.Prelude.{Result, Ok, Err}
 use Rattle.std.proofs.Common.{◌≡◌, ℕ, ◌^◌, ◌<◌, true, false, leb, ◌⊎◌, List, [], ◌∷◌, ◌++◌, map, length, get_or, sym, refl, ap, ◌∙◌, subst, inl, inr, ⊎_elim, arith, ltb-false, ltb-true}
 use lib.ListN.{length-map}
 use mathlib.Core.Logic.{⊎_map}
@@ -9,7 +10,6 @@ use Rattle.protocol.specs.Refusals.{bad_slot, beyond_grant, differs, early, late
 use Rattle.protocol.specs.Says.{read_says}
 use Rattle.protocol.specs.Values.{bytes_at, values_in}
 use Rattle.protocol.specs.declared.types.Packet.{Packet}
-use Rattle.protocol.specs.declared.types.Read.{Read}
 use Rattle.protocol.specs.Types.{served_row}
 use Rattle.peer.specs.Calls.{Call, cancel, packet, post, report}
 use Rattle.peer.specs.Checks.{AnswersAreChecked, CallCheck, CallFails, checks_of, judged_checks, call_refused_as, unread}
@@ -39,6 +39,7 @@ use Rattle.peer.proofs.Refusals.PostChecked.{GoneFor, Unrefused, cancel_free, ca
 use Rattle.peer.proofs.Plain.Roles.{role_of_entry}
 use Rattle.peer.proofs.Sentences.SentencesHold.{found_is_the_lowest_open, nothing_found_is_none_open, rtm_is_64_to_69, unfit_is_none_waiting, medium_is_66_and_67}
 use Rattle.peer.specs.State.{slot_count}
+use Rattle.protocol.specs.declared.types.Refusal.{Refusal}
 
 -- ---- the type of a packet
 
@@ -104,7 +105,7 @@ module _ (area limit : ℕ) (l : Plain) where
   -- ---- packet
 
   module _ (one : OneEach (view_in l)) (small : l.next < 2 ^ 32) (bs : List ℕ) (octets : (i : ℕ) → get_or bs i 0 < 256) (q : Packet)
-      (e : read_of served_row limit bs ≡ Read.Packet q) where
+      (e : read_of served_row limit bs ≡ Ok q) where
     abbrev h : Incoming
     h = incoming_of q
 
@@ -173,13 +174,13 @@ module _ (area limit : ℕ) (l : Plain) where
       (λ x. inr (λ y. omega (arith, ltb-false room 24 x), read (read_of served_row limit bs) refl))
     where
       -- the reader's checks, then the judgement's
-      read : (d : Read) → read_of served_row limit bs ≡ d → G (map (unread bs) reader_checks ++ judged_checks bs) (expect_read limit l bs d).answer
-      read (Read.Refused k) e =
+      read : (d : Result Packet Refusal) → read_of served_row limit bs ≡ d → G (map (unread bs) reader_checks ++ judged_checks bs) (expect_read limit l bs d).answer
+      read (Err k) e =
           let (i, w, n, (x, b)) = (refused_by_first_to_fail false limit bs k.number).0 (ap (read_says bs) e) in
           gone_at (CallFails area limit v) call_refused_as (unread bs) reader_checks (judged_checks bs) wrong_lengths (said (Answer.Refused k)) i w x b
           (ap (λ (m : ℕ). say refused (m ∷ [])) (sym n))
-      read (Read.Packet q) e =
-          gone_past (CallFails area limit v) call_refused_as (unread bs) reader_checks (judged_checks bs) (said (expect_read limit l bs (Read.Packet q)).answer)
+      read (Ok q) e =
+          gone_past (CallFails area limit v) call_refused_as (unread bs) reader_checks (judged_checks bs) (said (expect_read limit l bs (Ok q)).answer)
           ((read_if_none_fails false limit bs).0 (values_in q bs, ap (read_says bs) e)) (judged one small bs octets q e (ruled limit l (incoming_of q) (bytes_at bs q.«data»)))
 
   pub answer_checked : (c : Call) → OneEach (view_in l) → length l.entries ≡ slot_count → l.next < 2 ^ 32 → AreBytes c → G (checks_of c) (expected area limit l c)

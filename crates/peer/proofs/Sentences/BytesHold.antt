@@ -1,4 +1,5 @@
 -- A packet that was read says what specs/PacketBytes.antt finds in its bytes.
+use Rattle.std.specs.Prelude.{Option, Some, None, Ok, Err}
 use Rattle.std.proofs.Common.{◌≡◌, ℕ, ◌+◌, ◌≤◌, Bool, true, false, not, ◌&&◌, ◌||◌, eqb, leb, ◌⊎◌, List, length, sym, refl, ap, ◌∙◌, inl, inr, ⊎_elim, arith, length-drop, eqb-true, leb-true}
 use borrow.Author.Tests.{not-true}
 use mathlib.Core.Logic.{⊎_map}
@@ -8,11 +9,8 @@ use Rattle.protocol.specs.Sentences.{PacketTold, ReadTellsItsBytes, flags_in, he
 use Rattle.protocol.specs.Reading.{read_of, read_typed}
 use Rattle.protocol.specs.Refusals.{bad_type}
 use Rattle.protocol.specs.Types.{admit, row_of, served_row}
-use Rattle.protocol.specs.declared.table.FoundRow.{FoundRow}
-use Rattle.protocol.specs.declared.table.FoundRow.TheVariants.{Row, Unknown}
 use Rattle.protocol.specs.declared.table.TypeRow.{TypeRow}
 use Rattle.protocol.specs.declared.types.Packet.{Packet}
-use Rattle.protocol.specs.declared.types.Read.{Read}
 use Rattle.protocol.specs.declared.types.Refusal.{Refusal}
 use Rattle.peer.specs.Sentences.{IncomingTold, ReadAsTheTableSays}
 use Rattle.peer.specs.Incomings.{incoming_of}
@@ -37,15 +35,15 @@ pub record Says (bs : List ℕ) (h : Incoming) : Type 0 where
 
 -- ---- the type is one that the engine serves
 
-no_packet : (k : Refusal) (p : Packet) → Read.Refused k ≡ Read.Packet p → ⊥
+no_packet : (k : Refusal) (p : Packet) → Err k ≡ Ok p → ⊥
 no_packet k p e = let z : ◌≡◌ {A = ℕ} 0 1 = cc in omega arith
 
-row_served : (o : FoundRow) (bs : List ℕ) (p : Packet) → read_typed (admit served_row o) bs ≡ Read.Packet p → (r : TypeRow) × (o ≡ Row r) × (r.served ≡ true)
+row_served : (o : Option TypeRow) (bs : List ℕ) (p : Packet) → read_typed (admit served_row o) bs ≡ Ok p → (r : TypeRow) × (o ≡ Some r) × (r.served ≡ true)
 unfolding read_typed admit pick
-row_served Unknown bs p e = absurd (no_packet bad_type p e)
-row_served (Row r) bs p e = (r, refl, go r.served e)
+row_served None bs p e = absurd (no_packet bad_type p e)
+row_served (Some r) bs p e = (r, refl, go r.served e)
   where
-    go : (t : Bool) → read_typed (pick t (Row r) Unknown) bs ≡ Read.Packet p → t ≡ true
+    go : (t : Bool) → read_typed (pick t (Some r) None) bs ≡ Ok p → t ≡ true
     go true x = refl
     go false x = absurd (no_packet bad_type p x)
 
@@ -53,14 +51,14 @@ row_served (Row r) bs p e = (r, refl, go r.served e)
 abbrev row_test : TypeRow → Bool
 row_test r = eqb r.kind 4 || (leb 64 r.kind && leb r.kind 69)
 
-served_passes : (k : ℕ) (r : TypeRow) → row_of k ≡ Row r → r.served ≡ true → row_test r ≡ true
+served_passes : (k : ℕ) (r : TypeRow) → row_of k ≡ Some r → r.served ≡ true → row_test r ≡ true
 unfolding pick
 served_passes k r e s =
     ⊎_elim (λ x. clashing r.served s (not-true _ x)) (λ x. x)
     (or_cases (not r.served) (row_test r) (row_passes (λ q. not q.served || row_test q) refl k r e))
 
-module _ (limit : ℕ) (bs : List ℕ) (q : Packet) (e : read_of served_row limit bs ≡ Read.Packet q) where
-  the_row : (r : TypeRow) × (row_of (type_in bs) ≡ Row r) × (r.served ≡ true)
+module _ (limit : ℕ) (bs : List ℕ) (q : Packet) (e : read_of served_row limit bs ≡ Ok q) where
+  the_row : (r : TypeRow) × (row_of (type_in bs) ≡ Some r) × (r.served ≡ true)
   unfolding read_of
   the_row =
       let (a, e) = pick_second _ _ _ _ (no_packet _ q) e in

@@ -1,4 +1,5 @@
 -- What a packet that was read says stands where 01's table puts it: the statement of specs/Sentences.antt on a packet's fields.
+use Rattle.std.specs.Prelude.{Some, Ok}
 use Rattle.std.proofs.Common.{◌≡◌, ℕ, ◌-◌, false, ◌||◌, eqb, leb, List, length, get_or, sym, refl, ap, ◌∙◌, subst, ⊎_elim, eqb-true}
 use Rattle.laws.specs.Choose.{pick}
 use Rattle.protocol.specs.ByType.{tagged_told}
@@ -7,11 +8,9 @@ use Rattle.protocol.specs.Layout.{layout, place_of, tag}
 use Rattle.protocol.specs.Lengths.{lengths_fit}
 use Rattle.protocol.specs.Reading.{header_in, packet_in, read_of}
 use Rattle.protocol.specs.Types.{row, row_in, row_of, rows, served_row}
-use Rattle.protocol.specs.declared.table.FoundRow.TheVariants.{Row}
 use Rattle.protocol.specs.declared.table.Shape.TheVariants.{Cts}
 use Rattle.protocol.specs.declared.table.TypeRow.{TypeRow}
 use Rattle.protocol.specs.declared.types.Packet.{Packet}
-use Rattle.protocol.specs.declared.types.Read.{Read}
 use Rattle.peer.specs.Sentences.{IncomingTold, ReadAsTheTableSays}
 use Rattle.peer.specs.Incomings.{incoming_of}
 use Rattle.peer.specs.PacketBytes.{type_number, type_said}
@@ -25,13 +24,13 @@ use Rattle.protocol.proofs.TableRule.{row_passes, rows_say, sound}
 use Rattle.protocol.proofs.TypeSentences.{tagged_in_words}
 
 -- a type that is not tagged has no tag
-plain_untagged : (k : ℕ) (r : TypeRow) → row_of k ≡ Row r → r.tagged ≡ false → place_of r tag ≡ 0
+plain_untagged : (k : ℕ) (r : TypeRow) → row_of k ≡ Some r → r.tagged ≡ false → place_of r tag ≡ 0
 plain_untagged k r e x =
     ⊎_elim (λ y. clashing r.tagged y x) (eqb-true (place_of r tag) 0)
     (or_cases r.tagged (eqb (place_of r tag) 0) (row_passes (λ q. q.tagged || eqb (place_of q tag) 0) refl k r e))
 
 -- a row's shape and tagged give its type's number
-numbered : (k : ℕ) (r : TypeRow) → row_of k ≡ Row r → type_number r.shape r.tagged ≡ k
+numbered : (k : ℕ) (r : TypeRow) → row_of k ≡ Some r → type_number r.shape r.tagged ≡ k
 unfolding pick
 numbered = rows_say (λ k r. type_number r.shape r.tagged) (λ k. k) refl
 
@@ -61,16 +60,16 @@ module _ {g h : Incoming} (p : g ≡ h) where
 abbrev row_at : ℕ → TypeRow
 row_at i = get_or rows i (row 0 Cts 0 0 0 0 false false false 0 0)
 
-module _ (limit : ℕ) (bs : List ℕ) (q : Packet) (e : read_of served_row limit bs ≡ Read.Packet q) where
+module _ (limit : ℕ) (bs : List ℕ) (q : Packet) (e : read_of served_row limit bs ≡ Ok q) where
   -- a packet of the type k is read as the row of this type has it
-  read_by_row : (k : ℕ) (r : TypeRow) → row_of k ≡ Row r → get_or bs 0 0 ≡ k
+  read_by_row : (k : ℕ) (r : TypeRow) → row_of k ≡ Some r → get_or bs 0 0 ≡ k
       → ReadAs limit bs r × (incoming_of q ≡ incoming_of (packet_of r (le_at 2 bs 2) bs))
   read_by_row k r x y =
       let (s, a, p) = as_read limit bs q (any_read served_row limit bs q e) in
       let same : s ≡ r = cc (a.row, x, y) in
       (subst (ReadAs limit bs) same a, ap incoming_of p ∙ ap (λ (z : TypeRow). incoming_of (packet_of z (le_at 2 bs 2) bs)) same)
 
-  as_row : (k i : ℕ) → row_of k ≡ Row (row_at i) → get_or bs 0 0 ≡ k → incoming_of q ≡ incoming_of (packet_of (row_at i) (le_at 2 bs 2) bs)
+  as_row : (k i : ℕ) → row_of k ≡ Some (row_at i) → get_or bs 0 0 ≡ k → incoming_of q ≡ incoming_of (packet_of (row_at i) (le_at 2 bs 2) bs)
   as_row k i x y = (read_by_row k (row_at i) x y).1
 
   kind_read : type_said (incoming_of q) ≡ get_or bs 0 0

@@ -1,4 +1,5 @@
 -- A packet that was read is formed: an RTM's segment lies in its message, and a long message begins at its start and is never empty.
+use Rattle.std.specs.Prelude.{Some, Ok}
 use Rattle.std.proofs.Common.{◌≡◌, ℕ, ◌+◌, ◌-◌, ◌≤◌, Bool, true, false, not, ◌&&◌, ◌||◌, eqb, leb, List, length, get_or, sym, refl, ap, ◌∙◌, subst, ⊎_elim, arith, eqb-true, leb-true}
 use borrow.Author.Tests.{not-true}
 use Rattle.laws.specs.Choose.{pick}
@@ -8,13 +9,11 @@ use Rattle.protocol.specs.Lengths.{lengths_fit}
 use Rattle.protocol.specs.Reading.{header_in, packet_in, read_of}
 use Rattle.protocol.specs.Types.{row_of, served_row}
 use Rattle.protocol.specs.Values.{bytes_at}
-use Rattle.protocol.specs.declared.table.FoundRow.TheVariants.{Row}
 use Rattle.protocol.specs.declared.table.Shape.{Shape}
 use Rattle.protocol.specs.declared.table.Shape.TheVariants.{Cts, CtsData, Eager, LongCts, Medium}
 use Rattle.protocol.specs.declared.table.TypeRow.{TypeRow}
 use Rattle.protocol.specs.declared.types.Fields.{Fields}
 use Rattle.protocol.specs.declared.types.Packet.{Packet}
-use Rattle.protocol.specs.declared.types.Read.{Read}
 use Rattle.peer.specs.Formed.{Formed}
 use Rattle.peer.specs.Incomings.{incoming_of, is_eager, is_long, is_rtm}
 use Rattle.wire.specs.LittleEndian.{le_at}
@@ -33,7 +32,7 @@ from_start Eager = true
 from_start Medium = false
 from_start LongCts = true
 
-no_offset : (k : ℕ) (r : TypeRow) → row_of k ≡ Row r → from_start r.shape ≡ true → place_of r seg_offset ≡ 0
+no_offset : (k : ℕ) (r : TypeRow) → row_of k ≡ Some r → from_start r.shape ≡ true → place_of r seg_offset ≡ 0
 no_offset k r e t =
     ⊎_elim (λ y. clashing (from_start r.shape) t (not-true _ y)) (eqb-true (place_of r seg_offset) 0)
     (or_cases (not (from_start r.shape)) (eqb (place_of r seg_offset) 0)
@@ -105,7 +104,7 @@ module _ (limit : ℕ) (bs : List ℕ) (r : TypeRow) (a : ReadAs limit bs r) whe
       from Medium e long = never is_long Medium e refl long
       from LongCts e long = offset (ap from_start e)
 
-pub read_formed : (limit : ℕ) (bs : List ℕ) (q : Packet) → read_of served_row limit bs ≡ Read.Packet q → Formed (incoming_of q) (length (bytes_at bs q.«data»))
+pub read_formed : (limit : ℕ) (bs : List ℕ) (q : Packet) → read_of served_row limit bs ≡ Ok q → Formed (incoming_of q) (length (bytes_at bs q.«data»))
 read_formed limit bs q e = go (as_read limit bs q (any_read served_row limit bs q e))
   where
     go : (r : TypeRow) × ReadAs limit bs r × (q ≡ packet_of r (le_at 2 bs 2) bs) → Formed (incoming_of q) (length (bytes_at bs q.«data»))

@@ -6,22 +6,21 @@ use Rattle.headers.proofs.flags.written.Goals as goal
 
 pub overflow_add-result : goal.overflow_add-result
 unfolding flags_of
-overflow_add-result c = omega (arith, flags_small c.args.row c.args.header c.requires)
+overflow_add-result c =
+    rw (c.bit-raw.ensures) (omega (arith, flags_small c.args.row c.args.header c.requires))
 
 pub overflow_add-result-2 : goal.overflow_add-result-2
 unfolding flags_of
-overflow_add-result-2 c = omega (arith, flags_small c.args.row c.args.header c.requires)
+overflow_add-result-2 c =
+    rw (c.bit-cq.ensures, c.bit-raw.ensures, c.is_some.ensures) (omega (arith, flags_small c.args.row c.args.header c.requires))
 
 pub overflow_add-result-3 : goal.overflow_add-result-3
 unfolding flags_of
-overflow_add-result-3 c = omega (arith, flags_small c.args.row c.args.header c.requires)
+overflow_add-result-3 c =
+    rw (c.bit-id.ensures, c.bit-cq.ensures, c.bit-raw.ensures, c.is_some.ensures, c.is_some-2.ensures)
+    (omega (arith, flags_small c.args.row c.args.header c.requires))
 
 pub returns : goal.returns
 unfolding flags_of
 returns c =
-    rw (
-      c.connid_bit-id.ensures,
-      c.cq_data_bit-cq.ensures,
-      c.raw_address_bit-raw.ensures,
-    )
-    (omega arith)
+    rw (c.bit-id.ensures, c.bit-cq.ensures, c.bit-raw.ensures, c.is_some.ensures, c.is_some-2.ensures) (omega arith)

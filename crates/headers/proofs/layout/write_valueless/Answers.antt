@@ -3,6 +3,7 @@ use native.Mathlib.Omega.{arith}
 use Rattle.laws.specs.Choose.{pick}
 use Rattle.protocol.specs.Layout.{count, multiuse, padding}
 use Rattle.protocol.proofs.PutLaws.{not_put}
+use Rattle.protocol.specs.Options.{connid_or_zero}
 use Rattle.headers.proofs.layout.write_valueless.Goals as goal
 
 pub returns-then-row-lt-MULTIUSE : goal.returns-then-row-lt-MULTIUSE
@@ -24,6 +25,6 @@ put-requires-3-clause-unit_in_bounds c =
     omega (arith, c.requires.sound.inside count, c.put-2.auto, c.put.auto)
 
 pub returns : goal.returns
-unfolding pick
+unfolding pick connid_or_zero
 returns c =
-    rw (c.put-3.ensures, c.put-2.ensures, c.put.ensures, c.connid_or_zero.ensures)
+    rw (c.put-3.ensures, c.put-2.ensures, c.put.ensures, c.unwrap_or-connid.ensures)

@@ -9,12 +9,12 @@ use Rattle.headers.proofs.options.write_connid.Goals as goal
 pub write_number-requires-clause-width_in_bounds : goal.write_number-requires-clause-width_in_bounds
 unfolding connid_bytes
 write_number-requires-clause-width_in_bounds c =
-    let p = c.requires in rw (c.in-Present.is, length_le) at p.connid_in_bounds
+    let p = c.requires in rw (c.in-Some.is, length_le) at p.connid_in_bounds
 
-pub returns-in-Absent : goal.returns-in-Absent
+pub returns-in-None : goal.returns-in-None
 unfolding connid_bytes
-returns-in-Absent c = rw c.in-Absent.is (omega arith, sym (store_nothing _ _))
+returns-in-None c = rw c.in-None.is (omega arith, sym (store_nothing _ _))
 
-pub returns-in-Present : goal.returns-in-Present
+pub returns-in-Some : goal.returns-in-Some
 unfolding connid_bytes
-returns-in-Present c = rw (c.in-Present.is, length_le) c.write_number.ensures
+returns-in-Some c = rw (c.in-Some.is, length_le) c.write_number.ensures

@@ -8,12 +8,12 @@ use Rattle.headers.proofs.options.write_cq_data.Goals as goal
 
 pub write-requires : goal.write-requires
 unfolding cq_data_bytes
-write-requires c = rw (c.in-Present.is, length_le) at c.requires
+write-requires c = rw (c.in-Some.is, length_le) at c.requires
 
-pub returns-in-Absent : goal.returns-in-Absent
+pub returns-in_default : goal.returns-in_default
 unfolding cq_data_bytes
-returns-in-Absent c = rw c.in-Absent.is (omega arith, sym (store_nothing _ _))
+returns-in_default c = rw c.in_default.is (omega arith, sym (store_nothing _ _))
 
-pub returns-in-Present : goal.returns-in-Present
+pub returns : goal.returns
 unfolding cq_data_bytes
-returns-in-Present c = rw (c.in-Present.is, length_le, c.write.ensures) (refl, refl)
+returns c = rw (c.in-Some.is, length_le, c.write.ensures) (refl, refl)

@@ -6,11 +6,10 @@ use mathlib.Core.Bool.{Bool}
 use mathlib.Core.Logic.{⊎_elim}
 use mathlib.Core.Path.{◌≡◌, sym, ◌∙◌}
 use native.Mathlib.Omega.{arith}
+use Rattle.std.specs.Prelude.{Option, Some, None}
 use Rattle.laws.specs.Choose.{pick}
 use Rattle.protocol.specs.Reading.{read_of, read_typed}
 use Rattle.protocol.specs.Types.{admit, reader_rows, row_of}
-use Rattle.protocol.specs.declared.table.FoundRow.{FoundRow}
-use Rattle.protocol.specs.declared.table.FoundRow.TheVariants.{Row, Unknown}
 use Rattle.protocol.specs.declared.table.TypeRow.{TypeRow}
 use Rattle.laws.proofs.Choosing.{pick_cases}
 use Rattle.protocol.proofs.TableRule.{sound}
@@ -18,12 +17,12 @@ use Rattle.packet.proofs.reader.among.Goals as goal
 use Rattle.packet.proofs.reader.among.Goals.{After-shared_slice_known-3-1}
 
 -- what is admitted was found
-admitted : (which : TypeRow → Bool) (f : FoundRow) (r : TypeRow) → admit which f ≡ Row r → f ≡ Row r
+admitted : (which : TypeRow → Bool) (f : Option TypeRow) (r : TypeRow) → admit which f ≡ Some r → f ≡ Some r
 unfolding admit
-admitted which Unknown r e = e
-admitted which (Row q) r e =
+admitted which None r e = e
+admitted which (Some q) r e =
     ⊎_elim (λ w. w.1) (λ w. let z : ◌≡◌ {A = ℕ} 0 1 = cc in absurd (omega arith))
-    (pick_cases (which q) (Row q) Unknown (Row r) e)
+    (pick_cases (which q) (Some q) None (Some r) e)
 
 -- past the tests of length and version, the type is looked for
 passed : (c : After-shared_slice_known-3-1) → let a = c.args in
@@ -34,12 +33,12 @@ passed c =
 
 pub returns-then-limit-n : goal.returns-then-limit-n
 unfolding read_of pick
-returns-then-limit-n c = rw (lt-ltb _ _ c.if-limit-n.true, c.refused.ensures)
+returns-then-limit-n c = rw (lt-ltb _ _ c.if-limit-n.true)
 
 pub returns-then-n-lt4 : goal.returns-then-n-lt4
 unfolding read_of pick
 returns-then-n-lt4 c =
-    rw (le-ltb _ _ c.if-limit-n.false, lt-ltb _ _ c.if-n-lt4.true, c.refused-then-n-lt4.ensures)
+    rw (le-ltb _ _ c.if-limit-n.false, lt-ltb _ _ c.if-n-lt4.true)
 
 pub returns-then-bytes-ne-VERSION : goal.returns-then-bytes-ne-VERSION
 unfolding read_of pick
@@ -47,20 +46,19 @@ returns-then-bytes-ne-VERSION c =
     rw (
       le-ltb _ _ c.if-limit-n.false,
       le-ltb _ _ c.if-n-lt4.false,
-      ne_eqb _ _ c.if-bytes-ne-VERSION.true,
-      c.refused-then-bytes-ne-VERSION.ensures,
+      ne_eqb _ _ c.if-bytes-ne-VERSION.true
     )
 
-pub returns-in-Unknown : goal.returns-in-Unknown
+pub returns-in_default : goal.returns-in_default
 unfolding read_typed
-returns-in-Unknown c =
-    rw (passed (goal.at.returns-in-Unknown c).After-shared_slice_known-3-1, ← c.find_among.ensures, c.in-Unknown.is, c.refused-in-Unknown.ensures)
+returns-in_default c =
+    rw (passed (goal.at.returns-in_default c).After-shared_slice_known-3-1, ← c.find_among.ensures, c.in_default.is)
 
 pub typed-requires-clause-sound : goal.typed-requires-clause-sound
 typed-requires-clause-sound c =
-    let e = sym c.find_among.ensures ∙ c.in-Row.is in sound _ _ (admitted _ _ _ e)
+    let e = sym c.find_among.ensures ∙ c.in-Some.is in sound _ _ (admitted _ _ _ e)
 
-pub returns-in-Row : goal.returns-in-Row
+pub returns : goal.returns
 unfolding read_typed
-returns-in-Row c =
-    rw (passed (goal.at.returns-in-Row c).After-shared_slice_known-3-1, ← c.find_among.ensures, c.in-Row.is, c.typed.ensures)
+returns c =
+    rw (passed (goal.at.returns c).After-shared_slice_known-3-1, ← c.find_among.ensures, c.in-Some.is, c.typed.ensures)

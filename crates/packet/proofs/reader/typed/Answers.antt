@@ -19,18 +19,18 @@ pub returns-then-not-fit : goal.returns-then-not-fit
 unfolding read_flags pick
 returns-then-not-fit c =
     let e = c.if-not-fit.true in
-    rw (← c.read-flags.ensures, ← c.fit.ensures, e, c.refused.ensures)
+    rw (← c.read-flags.ensures, ← c.fit.ensures, e)
 
-pub returns-in-Cut : goal.returns-in-Cut
+pub returns-in_default : goal.returns-in_default
 unfolding read_sections
-returns-in-Cut c =
-    rw (passed (goal.at.returns-in-Cut c).Else-not-fit, ← c.find.ensures, c.in-Cut.is, c.refused-in-Cut.ensures)
+returns-in_default c =
+    rw (passed (goal.at.returns-in_default c).Else-not-fit, ← c.find.ensures, c.in_default.is)
 
 pub whole-requires-clause-sections_inside : goal.whole-requires-clause-sections_inside
 whole-requires-clause-sections_inside c =
-    let s = c.requires.sound in extent_inside _ _ _ _ s (sym c.find.ensures ∙ c.in-Whole.is)
+    let s = c.requires.sound in extent_inside _ _ _ _ s (sym c.find.ensures ∙ c.in-Some.is)
 
-pub returns-in-Whole : goal.returns-in-Whole
+pub returns : goal.returns
 unfolding read_sections
-returns-in-Whole c =
-    rw (passed (goal.at.returns-in-Whole c).Else-not-fit, ← c.find.ensures, c.in-Whole.is, c.whole.ensures)
+returns c =
+    rw (passed (goal.at.returns c).Else-not-fit, ← c.find.ensures, c.in-Some.is, c.whole.ensures)

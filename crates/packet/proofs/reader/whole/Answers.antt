@@ -7,7 +7,7 @@ pub returns-then-not-fit : goal.returns-then-not-fit
 unfolding read_lengths packet_in pick
 returns-then-not-fit c =
     let e = c.if-not-fit.true in
-    rw (← c.header-header.ensures, ← c.fit.ensures, e, c.refused.ensures)
+    rw (← c.header-header.ensures, ← c.fit.ensures, e)
 
 pub returns : goal.returns
 unfolding read_lengths packet_in pick

@@ -5,14 +5,14 @@ use Rattle.protocol.proofs.TableRule.{sound}
 use Rattle.packet.proofs.writer.write.Goals as goal
 
 pub typed-requires : goal.typed-requires
-typed-requires c = sound _ _ (sym c.find.ensures ∙ c.in-Row.is)
+typed-requires c = sound _ _ (sym c.find.ensures ∙ c.in-Some.is)
 
-pub returns-in-Unknown : goal.returns-in-Unknown
+pub returns-in_default : goal.returns-in_default
 unfolding write_of write_typed
-returns-in-Unknown c =
-    rw (← c.find.ensures, c.in-Unknown.is, c.refused.ensures)
+returns-in_default c =
+    rw (← c.find.ensures, c.in_default.is)
 
-pub returns-in-Row : goal.returns-in-Row
+pub returns : goal.returns
 unfolding write_of write_typed
-returns-in-Row c =
-    rw (← c.find.ensures, c.in-Row.is, c.typed.ensures)
+returns c =
+    rw (← c.find.ensures, c.in-Some.is, c.typed.ensures)

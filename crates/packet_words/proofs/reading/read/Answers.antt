@@ -17,10 +17,10 @@ pub returns-then-values-lt-VALUES : goal.returns-then-values-lt-VALUES
 unfolding read_into pick
 returns-then-values-lt-VALUES c = rw (lt-leb _ _ c.if-values-lt-VALUES.true)
 
-pub returns-in-Refused : goal.returns-in-Refused
+pub returns-in-Err : goal.returns-in-Err
 unfolding read_into pick
-returns-in-Refused c = rw (le-leb value_count _ c.if-values-lt-VALUES.false, ← answer (goal.at.returns-in-Refused c).After-read, c.in-Refused.is)
+returns-in-Err c = rw (le-leb value_count _ c.if-values-lt-VALUES.false, ← answer (goal.at.returns-in-Err c).After-read, c.in-Err.is)
 
-pub returns-in-Packet : goal.returns-in-Packet
+pub returns-in-Ok : goal.returns-in-Ok
 unfolding read_into pick
-returns-in-Packet c = rw (le-leb _ _ c.if-values-lt-VALUES.false, ← answer (goal.at.returns-in-Packet c).After-read, c.in-Packet.is, c.put_words.ensures, c.value_words.ensures)
+returns-in-Ok c = rw (le-leb _ _ c.if-values-lt-VALUES.false, ← answer (goal.at.returns-in-Ok c).After-read, c.in-Ok.is, c.put_words.ensures, c.value_words.ensures)

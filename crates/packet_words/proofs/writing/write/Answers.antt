@@ -27,14 +27,14 @@ returns-then-all_narrow c =
 
 pub write_as-requires-clause-sound : goal.write_as-requires-clause-sound
 write_as-requires-clause-sound c =
-    sound _ _ (sym c.find.ensures ∙ c.in-Row.is)
+    sound _ _ (sym c.find.ensures ∙ c.in-Some.is)
 
-pub returns-in-Unknown : goal.returns-in-Unknown
+pub returns-in-None : goal.returns-in-None
 unfolding write_from put_typed pick
-returns-in-Unknown c =
-    rw (le-leb _ _ c.if-values-lt-VALUES.false, ← c.find.ensures, c.in-Unknown.is)
+returns-in-None c =
+    rw (le-leb _ _ c.if-values-lt-VALUES.false, ← c.find.ensures, c.in-None.is)
 
-pub returns-in-Row : goal.returns-in-Row
+pub returns-in-Some : goal.returns-in-Some
 unfolding write_from pick
-returns-in-Row c =
-    rw (le-leb _ _ c.if-values-lt-VALUES.false, ← c.find.ensures, c.in-Row.is) c.write_as.ensures
+returns-in-Some c =
+    rw (le-leb _ _ c.if-values-lt-VALUES.false, ← c.find.ensures, c.in-Some.is) c.write_as.ensures

@@ -19,31 +19,31 @@ short c = omega arith
 pub overflow_add-end : goal.overflow_add-end
 overflow_add-end c =
     let a = c.args in
-    let e = sym c.read_served.ensures ∙ c.in-Packet.is in
+    let e = sym c.read_served.ensures ∙ c.in-Ok.is in
     omega (arith, data_inside a.limit a.bytes.now _ e, short (goal.at.overflow_add-end c).After-shared_slice_known-1)
 
 pub slice_bounds-carry-end : goal.slice_bounds-carry-end
 slice_bounds-carry-end c =
     let a = c.args in
-    let e = sym c.read_served.ensures ∙ c.in-Packet.is in
+    let e = sym c.read_served.ensures ∙ c.in-Ok.is in
     omega (arith, data_inside a.limit a.bytes.now _ e)
 
 pub carry-requires : goal.carry-requires
 carry-requires c =
     let a = c.args in
-    let e = sym c.read_served.ensures ∙ c.in-Packet.is in
-    let d = c.in-Packet.packet.«data» in
+    let e = sym c.read_served.ensures ∙ c.in-Ok.is in
+    let d = c.in-Ok.packet.«data» in
     rw (c.incoming_of-h.ensures, lent_part a.bytes.now d.at d.size)
     (record { limited = c.requires.limited; mapped = c.requires.mapped; form = read_formed a.limit a.bytes.now _ e; room = c.if-reply-lt-CTS_LENGTH.false })
 
-pub returns-in-Refused : goal.returns-in-Refused
+pub returns-in-Err : goal.returns-in-Err
 unfolding packet_effect read_effect pick
-returns-in-Refused c = rw (le-ltb _ _ c.if-reply-lt-CTS_LENGTH.false, ← c.read_served.ensures, c.in-Refused.is, c.refused-in-Refused.ensures) (left_quiet _ _ _ _ _)
+returns-in-Err c = rw (le-ltb _ _ c.if-reply-lt-CTS_LENGTH.false, ← c.read_served.ensures, c.in-Err.is, c.refused-in-Err.ensures) (left_quiet _ _ _ _ _)
 
-pub returns-in-Packet : goal.returns-in-Packet
+pub returns-in-Ok : goal.returns-in-Ok
 unfolding packet_effect read_effect pick
-returns-in-Packet c =
+returns-in-Ok c =
     let a = c.args in
-    let d = c.in-Packet.packet.«data» in
-    rw (le-ltb _ _ c.if-reply-lt-CTS_LENGTH.false, ← c.read_served.ensures, c.in-Packet.is)
+    let d = c.in-Ok.packet.«data» in
+    rw (le-ltb _ _ c.if-reply-lt-CTS_LENGTH.false, ← c.read_served.ensures, c.in-Ok.is)
     (rw (c.incoming_of-h.ensures, lent_part a.bytes.now d.at d.size) at c.carry.ensures)

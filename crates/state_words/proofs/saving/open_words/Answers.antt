@@ -5,4 +5,4 @@ use Rattle.state_words.proofs.saving.open_words.Goals as goal
 
 pub returns : goal.returns
 unfolding phase_words
-returns c = rw (c.bit_of.ensures, c.sort_word.ensures, c.cq_bit.ensures, c.cq_value.ensures) refl
+returns c = rw (c.bit_of.ensures, c.sort_word.ensures, c.option_bit.ensures, c.option_value.ensures) refl
