@@ -14,10 +14,8 @@ fn numbers_size(numbers: &[u64]) -> usize
     ensures { result ≡ length (numbers_bytes numbers.now) }
 {
     let mut size: usize = 0;
-    let mut k: usize = 0;
-    while k < numbers.len() {
-        size += number::size(numbers[k]);
-        k += 1;
+    for number in numbers {
+        size += number::size(*number);
     }
     size
 }
@@ -29,10 +27,8 @@ fn put_numbers(out: &mut [u8], at: usize, numbers: &[u64]) -> usize
     ensures out_after { out.new ≡ store_at out.old at (numbers_bytes numbers.now) }
 {
     let mut next = at;
-    let mut k: usize = 0;
-    while k < numbers.len() {
-        next = number::put(out, next, numbers[k]);
-        k += 1;
+    for number in numbers {
+        next = number::put(out, next, *number);
     }
     next
 }
@@ -67,7 +63,7 @@ pub fn write_set_up(n: usize, area: usize, limit: usize, out: &mut [u8], at: usi
 pub fn write_post(peer: usize, receive: Receive, out: &mut [u8], at: usize) -> TraceWritten
     ensures { record { written = result; out = out.new } ≡ wrote out.old at (post_entry peer receive) }
 {
-    let kind: u64 = if receive.tagged { 1 } else { 0 };
+    let kind = u64::from(receive.tagged);
     let numbers = [
         1,
         peer as u64,

@@ -16,10 +16,8 @@ pub fn number_at(s: &[u8], at: usize) -> Number
 {
     let mut sum: u64 = 0;
     let mut weight: u64 = 1;
-    let mut i = at;
-    while i < s.len() {
+    for i in at..s.len() {
         let group = s[i] as u64;
-        i += 1;
         if weight == TENTH && 1 < group {
             return Number::Bad;
         }
@@ -27,7 +25,7 @@ pub fn number_at(s: &[u8], at: usize) -> Number
             if group == 0 && 1 < weight {
                 return Number::Bad;
             }
-            return Number::Is(sum + group * weight, i);
+            return Number::Is(sum + group * weight, i + 1);
         }
         sum += (group - MORE) * weight;
         weight *= MORE;
