@@ -2,7 +2,6 @@
 ghost use Rattle.std.specs.Prelude.{◌≡◌, false, ◌+◌, ◌≤◌, length};
 ghost use Rattle.peer.specs.State.{slot_with};
 ghost use Rattle.engine.specs.SetUp.{engine_of};
-ghost use Rattle.state_words.specs.Flat.{same};
 ghost use Rattle.state_words.specs.Saving.{peer_size, state_size};
 ghost use Rattle.state_words.specs.Loading.{receive_in, cq_in, shape_in, message_in, phase_in, peer_in, engine_in, is_state, state_of};
 
@@ -95,10 +94,8 @@ fn peer_in(words: &[u64], at: usize) -> Peer
 {
     let mut peer = Peer::fresh();
     peer.next = (words[at] % 0x1_0000_0000) as u32;
-    let mut i: usize = 0;
-    while i < Peer::SLOTS {
-        peer.slots[i] = slot_in(words, at + 1 + SLOT * i);
-        i += 1;
+    for (i, slot) in peer.slots.iter_mut().enumerate() {
+        *slot = slot_in(words, at + 1 + SLOT * i);
     }
     peer
 }
@@ -115,28 +112,10 @@ fn engine_in(words: &[u64]) -> Engine
         area: words[1] as usize,
         limit: words[2] as usize,
     };
-    let mut p: usize = 0;
-    while p < Engine::PEERS {
-        engine.peers[p] = peer_in(words, 3 + PEER * p);
-        p += 1;
+    for (p, peer) in engine.peers.iter_mut().enumerate() {
+        *peer = peer_in(words, 3 + PEER * p);
     }
     engine
-}
-
-fn are_same(a: &[u64], b: &[u64]) -> bool
-    ensures { result ≡ same a.now b.now }
-{
-    if a.len() != b.len() {
-        return false;
-    }
-    let mut i: usize = 0;
-    while i < a.len() {
-        if a[i] != b[i] {
-            return false;
-        }
-        i += 1;
-    }
-    true
 }
 
 // An engine of no peers, which every call refuses.
@@ -165,7 +144,7 @@ pub fn load(words: &[u64]) -> Loaded
     let engine = engine_in(words);
     let mut again = [0u64; STATE];
     saving::save(&mut again, engine);
-    if are_same(words, &again) {
+    if words == again.as_slice() {
         Loaded {
             engine,
             whole: true,

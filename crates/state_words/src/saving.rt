@@ -97,11 +97,8 @@ fn put_peer(words: &mut [u64], at: usize, peer: Peer)
     ensures { words.new ≡ store_at words.old at (peer_words peer) }
 {
     words[at] = peer.next as u64;
-    let mut i: usize = 0;
-    while i < Peer::SLOTS {
-        let slot = peer.slots[i];
-        words::put_words(words, at + 1 + SLOT * i, &slot_words(slot));
-        i += 1;
+    for (i, slot) in peer.slots.iter().enumerate() {
+        words::put_words(words, at + 1 + SLOT * i, &slot_words(*slot));
     }
 }
 
@@ -113,10 +110,7 @@ pub fn save(words: &mut [u64], engine: Engine)
     words[0] = engine.n as u64;
     words[1] = engine.area as u64;
     words[2] = engine.limit as u64;
-    let mut p: usize = 0;
-    while p < Engine::PEERS {
-        let peer = engine.peers[p];
-        put_peer(words, 3 + PEER * p, peer);
-        p += 1;
+    for (p, peer) in engine.peers.iter().enumerate() {
+        put_peer(words, 3 + PEER * p, *peer);
     }
 }
