@@ -1,5 +1,5 @@
 -- The state that words are read as, and which words are a state's.
-use Rattle.std.specs.Prelude.{ℕ, ◌+◌, ◌*◌, ◌/◌, ◌%◌, ◌^◌, List, Bool, get_or, eqb}
+use Rattle.std.specs.Prelude.{ℕ, ◌+◌, ◌*◌, ◌/◌, ◌%◌, ◌^◌, List, Bool, Option, None, Some, get_or, eqb}
 use Rattle.laws.specs.Choose.{pick}
 use Rattle.protocol.specs.declared.table.Shape.{Shape}
 use Rattle.protocol.specs.declared.table.Shape.TheVariants.{Cts, CtsData, Eager, Medium, LongCts}
@@ -65,6 +65,10 @@ engine_in w =
 -- whether the words are those of a state
 unfoldable pub is_state : List ℕ → Bool
 is_state w = same w (engine_words (engine_in w))
+
+-- the engine of a state's words, or nothing
+unfoldable pub loaded : List ℕ → Option Engine
+loaded w = pick (is_state w) (Some (engine_in w)) None
 
 -- the state, or else one of no peers, which every call refuses 2 (01: "a state that can't be")
 unfoldable pub state_of : List ℕ → Engine

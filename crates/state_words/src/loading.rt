@@ -1,12 +1,11 @@
 // The engine's state, read from words.
-ghost use Rattle.std.specs.Prelude.{◌≡◌, false, ◌+◌, ◌≤◌, length};
+ghost use Rattle.std.specs.Prelude.{◌≡◌, ◌+◌, ◌≤◌, length};
 ghost use Rattle.peer.specs.State.{slot_with};
-ghost use Rattle.engine.specs.SetUp.{engine_of};
 ghost use Rattle.state_words.specs.Saving.{peer_size, state_size};
-ghost use Rattle.state_words.specs.Loading.{receive_in, cq_in, shape_in, message_in, phase_in, peer_in, engine_in, is_state, state_of};
+ghost use Rattle.state_words.specs.Loading.{receive_in, cq_in, shape_in, message_in, phase_in, peer_in, engine_in, loaded};
 
 use crate::saving;
-use crate::types::{Loaded, PEER, SLOT, STATE};
+use crate::types::{PEER, SLOT, STATE};
 use engine::Engine;
 use peer::{Inbound, Message, Peer, Phase, Receive, Slot};
 use protocol::{CqData, Shape};
@@ -118,38 +117,19 @@ fn engine_in(words: &[u64]) -> Engine
     engine
 }
 
-// An engine of no peers, which every call refuses.
-fn no_state() -> Loaded
-    ensures { result ≡ record { engine = engine_of 0 0 0; whole = false } }
-{
-    let peer = Peer::fresh();
-    Loaded {
-        engine: Engine {
-            peers: [peer; Engine::PEERS],
-            n: 0,
-            area: 0,
-            limit: 0,
-        },
-        whole: false,
-    }
-}
-
 // The engine of a state's words: those that are written again for the engine that is read.
-pub fn load(words: &[u64]) -> Loaded
-    ensures { result ≡ record { engine = state_of words.now; whole = is_state words.now } }
+pub fn load(words: &[u64]) -> Option<Engine>
+    ensures { result ≡ loaded words.now }
 {
     if words.len() != STATE {
-        return no_state();
+        return None;
     }
     let engine = engine_in(words);
     let mut again = [0u64; STATE];
     saving::save(&mut again, engine);
     if words == again.as_slice() {
-        Loaded {
-            engine,
-            whole: true,
-        }
+        Some(engine)
     } else {
-        no_state()
+        None
     }
 }

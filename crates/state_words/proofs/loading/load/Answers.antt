@@ -5,7 +5,7 @@ use mathlib.Core.Path.{◌≡◌, sym, ap, ◌∙◌}
 use native.Mathlib.Omega.{arith}
 use Rattle.laws.specs.Choose.{pick}
 use Rattle.state_words.specs.Flat.{same}
-use Rattle.state_words.specs.Loading.{is_state, state_of}
+use Rattle.state_words.specs.Loading.{is_state, loaded}
 use Rattle.state_words.specs.Saving.{engine_words}
 use Rattle.state_words.proofs.FlatLaws.{same_pointwise}
 use Rattle.state_words.proofs.Sizes.{not_state}
@@ -22,15 +22,15 @@ compared c =
     ∙ ap (pointwise eqb w) (sym c.as_slice.ensures) ∙ sym c.eq.ensures
 
 pub returns-then-words-ne-STATE : goal.returns-then-words-ne-STATE
-unfolding state_of pick
+unfolding loaded pick
 returns-then-words-ne-STATE c =
     let w = c.args.words.now in
-    rw (c.no_state.ensures, not_state w (λ e. omega arith))
+    rw (not_state w (λ e. omega arith))
 
 pub returns-then-eq : goal.returns-then-eq
-unfolding state_of pick
+unfolding loaded pick
 returns-then-eq c = rw (compared (goal.at.returns-then-eq c).After-eq ∙ c.if-eq.true, c.engine_in-engine.ensures)
 
 pub returns-else-eq : goal.returns-else-eq
-unfolding state_of pick
-returns-else-eq c = rw (c.no_state-else-eq.ensures, compared (goal.at.returns-else-eq c).After-eq ∙ c.if-eq.false)
+unfolding loaded pick
+returns-else-eq c = rw (compared (goal.at.returns-else-eq c).After-eq ∙ c.if-eq.false)
