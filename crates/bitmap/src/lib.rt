@@ -64,9 +64,9 @@ pub fn count_set(map: &[u64], at: usize, n: usize) -> usize
     let range = ranges::split(at, n);
     let first = range.first;
     let last = range.last;
-    let head = u64::count_ones(parts::part(map, at, range.head)) as usize;
+    let head = parts::part(map, at, range.head).count_ones() as usize;
     let between = whole_words::ones_of(&map[first..last]);
-    let tail = u64::count_ones(parts::part(map, 64 * last, range.tail)) as usize;
+    let tail = parts::part(map, 64 * last, range.tail).count_ones() as usize;
     head + between + tail
 }
 

@@ -29,7 +29,7 @@ pub(crate) fn ones_of(words: &[u64]) -> usize
 {
     let mut total: usize = 0;
     for word in words {
-        total += u64::count_ones(*word) as usize;
+        total += word.count_ones() as usize;
     }
     total
 }

@@ -16,9 +16,7 @@ use peer::{Answer, Peer};
 fn budget(calls: usize, answers: usize) -> usize
     ensures { result ≡ budget_of calls answers }
 {
-    let a = calls / WORDS;
-    let b = answers / WORDS;
-    if a < b { a } else { b }
+    (calls / WORDS).min(answers / WORDS)
 }
 
 fn run_calls(
@@ -37,8 +35,7 @@ fn run_calls(
     let most = budget(calls.len(), answers.len());
     let mut engine = start;
     let mut at: usize = 0;
-    let mut taken: usize = 0;
-    while taken < most {
+    for taken in 0..most {
         let Some(request) = calls::request_at(calls, at, bytes.len(), replies.len()) else {
             return Ran { engine, taken };
         };
@@ -58,9 +55,11 @@ fn run_calls(
             }
         };
         at = answers::put_answer(answers, at, answer);
-        taken += 1;
     }
-    Ran { engine, taken }
+    Ran {
+        engine,
+        taken: most,
+    }
 }
 
 // An engine of no peers, which every call refuses.

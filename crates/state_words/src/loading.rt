@@ -34,6 +34,8 @@ fn cq_in(words: &[u64], at: usize) -> CqData
     }
 }
 
+// The shape with this number. It is no `From`: `Shape` is another crate's, and a number past the last shape's is taken for
+// the last here, which `load` refuses when it writes the words again.
 fn shape_in(number: u64) -> Shape
     ensures { result ≡ shape_in number }
 {

@@ -97,4 +97,6 @@ loop-taken-preserved c =
     ]
 
 pub returns : goal.returns
-returns c = sym (batch_end c.loop-taken.invariant.5 c.loop-taken-test.false)
+returns c =
+    let e : c.budget-most.result ≡ c.loop-taken.taken = omega arith in
+    rw e (sym (batch_end c.loop-taken.invariant.5 c.loop-taken-test.false))
