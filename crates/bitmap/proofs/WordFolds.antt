@@ -4,11 +4,11 @@ use borrow.Author.Tests.{eqb-true, ne_eqb}
 use lib.Bits.{bit_or, or_zero_r}
 use lib.Count.{ones}
 use lib.Dec.{eqb}
-use lib.ListN.{length, get_or, set, drop, replicate, length-replicate, get_or-replicate, drop_of_length-le}
-use lib.Seq.{drop-cons, paste, paste-suc, take_all}
-use mathlib.Core.List.{List, [], ◌∷◌, append-nil}
-use mathlib.Core.Path.{◌≡◌, sym, ap, ap₂, ◌∙◌}
-use native.Mathlib.Nat.{add_assoc, add-zero, zero-add, add-suc, suc-add}
+use lib.ListN.{length, get_or, drop, drop_of_length-le}
+use lib.Seq.{drop-cons}
+use mathlib.Core.List.{List, [], ◌∷◌}
+use mathlib.Core.Path.{◌≡◌, sym, ◌∙◌}
+use native.Mathlib.Nat.{add_assoc, add-zero, add-suc, suc-add}
 use native.Mathlib.Numerals.{add-one}
 use native.Mathlib.Omega.{arith}
 use Rattle.laws.specs.Choose.{pick}
@@ -17,19 +17,8 @@ use Rattle.bitmap.specs.WholeWords.{full_run, ones_of, or_of}
 use Rattle.bitmap.proofs.Word.{or_assoc}
 
 module _ (ws : List ℕ) (k : ℕ) where
-  -- the words with the first k of them w
-  abbrev pub filling : ℕ → List ℕ
-  filling w = paste ws 0 (replicate (length ws) w) k
-
   -- with the word k
   module _ (h : k < length ws) where
-    pub fill_turn : (w : ℕ) → set (filling w) k w ≡ paste ws 0 (replicate (length ws) w) (k + 1)
-    fill_turn w =
-        let all = replicate (length ws) w in
-        ap₂ (set (filling w)) (sym (zero-add k)) (sym (get_or-replicate (length ws) k w 0 h))
-        ∙ paste-suc ws 0 all k 0 (omega arith) (omega (arith, length-replicate (length ws) w))
-        ∙ ap (paste ws 0 all) (sym (add-one k))
-
     pub or_turn : (seen all : ℕ) → all ≡ bit_or seen (or_of (drop k ws)) → all ≡ bit_or (bit_or seen (get_or ws k 0)) (or_of (drop (k + 1) ws))
     unfolding or_of
     or_turn seen all e = e ∙ rw (drop-cons ws k 0 h, add-one) (sym (or_assoc seen (get_or ws k 0) _))
@@ -49,12 +38,6 @@ module _ (ws : List ℕ) (k : ℕ) where
 
   -- behind the last word
   module _ (h : length ws ≤ k) where
-    pub fill_end : (w : ℕ) → filling w ≡ replicate (length ws) w
-    fill_end w =
-        let all = replicate (length ws) w in
-        let past : length ws ≤ 0 + k = omega arith in
-        rw (take_all k all (omega (arith, length-replicate (length ws) w)), drop_of_length-le ws past) (append-nil all)
-
     pub or_end : (seen all : ℕ) → all ≡ bit_or seen (or_of (drop k ws)) → all ≡ seen
     unfolding or_of
     or_end seen all e = e ∙ rw (drop_of_length-le ws h) (or_zero_r seen)

@@ -64,9 +64,9 @@ pub fn count_set(map: &[u64], at: usize, n: usize) -> usize
     let range = ranges::split(at, n);
     let first = range.first;
     let last = range.last;
-    let head = u64::count_ones(parts::part(map, at, range.head)) as usize;
+    let head = parts::part(map, at, range.head).count_ones() as usize;
     let between = whole_words::ones_of(&map[first..last]);
-    let tail = u64::count_ones(parts::part(map, 64 * last, range.tail)) as usize;
+    let tail = parts::part(map, 64 * last, range.tail).count_ones() as usize;
     head + between + tail
 }
 
@@ -79,7 +79,7 @@ pub fn first_clear(map: &[u64], at: usize, n: usize) -> usize
 {
     let end = at + n;
     let mut i = at;
-    'words: while i < end {
+    while i < end {
         let w = map[i / 64];
         let stop = i + ranges::in_word(i % 64, end - i);
         if w == FULL {
@@ -87,13 +87,11 @@ pub fn first_clear(map: &[u64], at: usize, n: usize) -> usize
             let last = end / 64;
             i = stop + 64 * whole_words::full_run(&map[first..last]);
         } else {
-            while i < stop {
-                let run = parts::ones_from(w, i % 64, stop - i);
-                if run == 0 {
-                    break 'words;
-                }
-                i += run;
+            let run = parts::ones_from(w, i % 64, stop - i);
+            if run == 0 {
+                break;
             }
+            i += run;
         }
     }
     i - at

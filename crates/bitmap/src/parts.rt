@@ -60,6 +60,6 @@ pub(crate) fn ones_from(w: u64, lo: usize, n: usize) -> usize
     requires n_bound { lo + n ≤ 64 }
     ensures { result ≡ first_not (set_in w) lo n }
 {
-    let run = u64::trailing_zeros(!w >> lo) as usize;
-    if run < n { run } else { n }
+    let run = (!w >> lo).trailing_zeros() as usize;
+    run.min(n)
 }

@@ -16,8 +16,7 @@ pub(crate) fn in_word(lo: usize, left: usize) -> usize
     requires { lo < 64 }
     ensures { result ≡ min (64 - lo) left }
 {
-    let room = 64 - lo;
-    if room < left { room } else { left }
+    (64 - lo).min(left)
 }
 
 // The n bits from `at` on.

@@ -8,11 +8,7 @@ use crate::parts::FULL;
 pub(crate) fn fill(words: &mut [u64], w: u64)
     ensures { words.new ≡ replicate (length words.old) w }
 {
-    let mut k = 0;
-    while k < words.len() {
-        words[k] = w;
-        k += 1;
-    }
+    words.fill(w);
 }
 
 // The bits that some of the words has.
@@ -20,10 +16,8 @@ pub(crate) fn or_of(words: &[u64]) -> u64
     ensures { result ≡ or_of words.now }
 {
     let mut seen: u64 = 0;
-    let mut k = 0;
-    while k < words.len() {
-        seen |= words[k];
-        k += 1;
+    for word in words {
+        seen |= *word;
     }
     seen
 }
@@ -34,10 +28,8 @@ pub(crate) fn ones_of(words: &[u64]) -> usize
     ensures { result ≡ ones_of words.now }
 {
     let mut total: usize = 0;
-    let mut k = 0;
-    while k < words.len() {
-        total += u64::count_ones(words[k]) as usize;
-        k += 1;
+    for word in words {
+        total += word.count_ones() as usize;
     }
     total
 }
@@ -46,12 +38,10 @@ pub(crate) fn ones_of(words: &[u64]) -> usize
 pub(crate) fn full_run(words: &[u64]) -> usize
     ensures { result ≡ full_run words.now }
 {
-    let mut k = 0;
-    while k < words.len() {
-        if words[k] != FULL {
+    for (k, word) in words.iter().enumerate() {
+        if *word != FULL {
             return k;
         }
-        k += 1;
     }
-    k
+    words.len()
 }

@@ -6,6 +6,7 @@ use mathlib.Core.List.{List, ◌∷◌}
 use mathlib.Core.Path.{◌≡◌, refl}
 use native.Mathlib.Nat.{sub-zero, zero-add}
 use native.Mathlib.Omega.{arith}
+use Rattle.std.specs.Prelude.{None, Some}
 use Rattle.laws.specs.Parts.{store_at}
 use Rattle.peer.specs.declared.types.Answer.{Answer}
 use Rattle.peer.specs.declared.types.Request.{Request}
@@ -16,7 +17,6 @@ use Rattle.guarantees.proofs.RunInvariant.{CallMade, RunInvariant, ended, run_en
 use Rattle.packed.specs.Answers.{answer_words}
 use Rattle.packed.specs.Calls.{request_at, words_each}
 use Rattle.packed.specs.Running.{budget_of, ran_from, requests_from}
-use Rattle.packed.specs.declared.types.FoundRequest.{FoundRequest}
 use Rattle.packed.proofs.DecodeLaws.{calls_few, request_inside, requests_end, requests_next}
 use Rattle.packed.proofs.EightWords.{length_answer}
 
@@ -62,14 +62,10 @@ module _ {calls bytes buffers : List ℕ} {most : ℕ} {all : RunLeaves} {w : Wo
     more : most - taken ≡ suc (most - (taken + 1))
     more = omega arith
 
-    -- the next call has its words
-    pub batch_words : at + words_each ≤ length calls
-    batch_words = omega (arith, g.words, g.place)
-
-    pub batch_bad : request_at calls (length bytes) (length replies) at ≡ FoundRequest.Bad → all ≡ here
+    pub batch_bad : request_at calls (length bytes) (length replies) at ≡ None → all ≡ here
     batch_bad f = rw g.place at (run_end (rw (more, requests_end (most - (taken + 1)) calls bytes buffers at (rw g.run.lent at f)) at g.run))
 
-    module _ (q : Request) (f : request_at calls (length bytes) (length replies) at ≡ FoundRequest.Request q) where
+    module _ (q : Request) (f : request_at calls (length bytes) (length replies) at ≡ Some q) where
       pub batch_inside : LiesWithin (length bytes) (length replies) q.call
       batch_inside = request_inside calls (length bytes) (length replies) at q f
 

@@ -1,19 +1,18 @@
 -- A run of packed calls: the calls that the words say, run as `guarantees` defines a run, and what is left of all that is lent.
-use Rattle.std.specs.Prelude.{ℕ, zero, suc, ◌+◌, ◌/◌, min, List, [], ◌∷◌, length}
+use Rattle.std.specs.Prelude.{ℕ, zero, suc, ◌+◌, ◌/◌, min, List, [], ◌∷◌, Option, None, Some, length}
 use Rattle.peer.specs.declared.types.Request.{Request}
 use Rattle.engine.specs.Leaves.{world}
 use Rattle.engine.specs.Steps.{World}
 use Rattle.guarantees.specs.Outputs.{RunLeaves, run_leaves}
 use Rattle.state_words.specs.Loading.{state_of, state_after}
-use Rattle.packed.specs.declared.types.FoundRequest.{FoundRequest}
 use Rattle.packed.specs.Calls.{request_at, words_each}
 use Rattle.packed.specs.Answers.{answer_words}
 
 -- ---- the calls
 
-abbrev pub on_found_request : {A : Type 0} → FoundRequest → A → (Request → A) → A
-on_found_request FoundRequest.Bad bad f = bad
-on_found_request (FoundRequest.Request q) bad f = f q
+abbrev pub on_found_request : {A : Type 0} → Option Request → A → (Request → A) → A
+on_found_request None bad f = bad
+on_found_request (Some q) bad f = f q
 
 -- at most k calls of the words from `at` on, up to the first that is none
 unfoldable pub requests_from : ℕ → List ℕ → List ℕ → List ℕ → ℕ → List Request

@@ -10,4 +10,4 @@ mod types;
 
 pub use running::run;
 pub use starting::set_up;
-pub use types::{FoundRequest, Ran};
+pub use types::Ran;

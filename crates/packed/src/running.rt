@@ -2,22 +2,21 @@
 // once: a call of an engine whose state can be leaves one whose state can be.
 ghost use Rattle.std.specs.Prelude.{◌≡◌, ◌*◌};
 ghost use Rattle.engine.specs.Leaves.{world};
+ghost use Rattle.engine.specs.SetUp.{engine_of};
 ghost use Rattle.packed.specs.Calls.{words_each};
 ghost use Rattle.packed.specs.Running.{budget_of, ran_from, run_of};
 ghost use Rattle.engine.specs.Sentences.{Eights};
 
-use crate::types::{FoundRequest, Ran, WORDS};
+use crate::types::{Ran, WORDS};
 use crate::{answers, calls};
 use engine::{Engine, Gate};
-use peer::Answer;
+use peer::{Answer, Peer};
 
 // How many calls there are words for, and for their answers.
 fn budget(calls: usize, answers: usize) -> usize
     ensures { result ≡ budget_of calls answers }
 {
-    let a = calls / WORDS;
-    let b = answers / WORDS;
-    if a < b { a } else { b }
+    (calls / WORDS).min(answers / WORDS)
 }
 
 fn run_calls(
@@ -36,10 +35,8 @@ fn run_calls(
     let most = budget(calls.len(), answers.len());
     let mut engine = start;
     let mut at: usize = 0;
-    let mut taken: usize = 0;
-    while taken < most {
-        let found = calls::request_at(calls, at, bytes.len(), replies.len());
-        let FoundRequest::Request(request) = found else {
+    for taken in 0..most {
+        let Some(request) = calls::request_at(calls, at, bytes.len(), replies.len()) else {
             return Ran { engine, taken };
         };
         let p = request.peer;
@@ -58,9 +55,24 @@ fn run_calls(
             }
         };
         at = answers::put_answer(answers, at, answer);
-        taken += 1;
     }
-    Ran { engine, taken }
+    Ran {
+        engine,
+        taken: most,
+    }
+}
+
+// An engine of no peers, which every call refuses.
+fn no_peers() -> Engine
+    ensures { result ≡ engine_of 0 0 0 }
+{
+    let peer = Peer::fresh();
+    Engine {
+        peers: [peer; Engine::PEERS],
+        n: 0,
+        area: 0,
+        limit: 0,
+    }
 }
 
 // Runs calls on the engine whose state the words are, and answers how many it ran. Words that are
@@ -76,12 +88,11 @@ pub fn run(
 ) -> usize
     ensures { record { taken = result; state = state.new; arena = arena.new; map = map.new; replies = replies.new; answers = answers.new } ≡ run_of state.old arena.old map.old calls.now bytes.now replies.old answers.old }
 {
-    let loaded = state_words::load(state);
-    let start = loaded.engine;
+    let Some(start) = state_words::load(state) else {
+        return run_calls(no_peers(), arena, map, calls, bytes, replies, answers).taken;
+    };
     let ran = run_calls(start, arena, map, calls, bytes, replies, answers);
     let after = ran.engine;
-    if loaded.whole {
-        state_words::save(state, after);
-    }
+    state_words::save(state, after);
     ran.taken
 }

@@ -5,7 +5,6 @@ ghost use Rattle.trace.specs.Recorded.{numbers_bytes, set_up_bytes, post_entry, 
 ghost use Rattle.recording.specs.Writing.{wrote};
 
 use crate::number;
-use crate::types::TraceWritten;
 use peer::Receive;
 
 // How many bytes the numbers take.
@@ -14,10 +13,8 @@ fn numbers_size(numbers: &[u64]) -> usize
     ensures { result ≡ length (numbers_bytes numbers.now) }
 {
     let mut size: usize = 0;
-    let mut k: usize = 0;
-    while k < numbers.len() {
-        size += number::size(numbers[k]);
-        k += 1;
+    for number in numbers {
+        size += number::size(*number);
     }
     size
 }
@@ -29,45 +26,43 @@ fn put_numbers(out: &mut [u8], at: usize, numbers: &[u64]) -> usize
     ensures out_after { out.new ≡ store_at out.old at (numbers_bytes numbers.now) }
 {
     let mut next = at;
-    let mut k: usize = 0;
-    while k < numbers.len() {
-        next = number::put(out, next, numbers[k]);
-        k += 1;
+    for number in numbers {
+        next = number::put(out, next, *number);
     }
     next
 }
 
 // Numbers, and bytes behind them, at a place of a buffer.
-fn write(numbers: &[u64], bytes: &[u8], out: &mut [u8], at: usize) -> TraceWritten
+fn write(numbers: &[u64], bytes: &[u8], out: &mut [u8], at: usize) -> Option<usize>
     requires { length numbers.now ≤ 8 }
     ensures { record { written = result; out = out.new } ≡ wrote out.old at (numbers_bytes numbers.now ++ bytes.now) }
 {
     if out.len() < at {
-        return TraceWritten::Short;
+        return None;
     }
     let room = out.len() - at;
     let size = numbers_size(numbers);
     if room < size {
-        return TraceWritten::Short;
+        return None;
     }
     if room - size < bytes.len() {
-        return TraceWritten::Short;
+        return None;
     }
     let next = put_numbers(out, at, numbers);
-    TraceWritten::Next(wire::write_bytes(out, next, bytes))
+    Some(wire::write_bytes(out, next, bytes))
 }
 
 // The first three numbers of a trace.
-pub fn write_set_up(n: usize, area: usize, limit: usize, out: &mut [u8], at: usize) -> TraceWritten
+pub fn write_set_up(n: usize, area: usize, limit: usize, out: &mut [u8], at: usize) -> Option<usize>
     ensures { record { written = result; out = out.new } ≡ wrote out.old at (set_up_bytes n area limit) }
 {
     write(&[n as u64, area as u64, limit as u64], b"", out, at)
 }
 
-pub fn write_post(peer: usize, receive: Receive, out: &mut [u8], at: usize) -> TraceWritten
+pub fn write_post(peer: usize, receive: Receive, out: &mut [u8], at: usize) -> Option<usize>
     ensures { record { written = result; out = out.new } ≡ wrote out.old at (post_entry peer receive) }
 {
-    let kind: u64 = if receive.tagged { 1 } else { 0 };
+    let kind = u64::from(receive.tagged);
     let numbers = [
         1,
         peer as u64,
@@ -80,13 +75,13 @@ pub fn write_post(peer: usize, receive: Receive, out: &mut [u8], at: usize) -> T
     write(&numbers, b"", out, at)
 }
 
-pub fn write_packet(peer: usize, bytes: &[u8], out: &mut [u8], at: usize) -> TraceWritten
+pub fn write_packet(peer: usize, bytes: &[u8], out: &mut [u8], at: usize) -> Option<usize>
     ensures { record { written = result; out = out.new } ≡ wrote out.old at (packet_entry peer bytes.now) }
 {
     write(&[2, peer as u64, bytes.len() as u64], bytes, out, at)
 }
 
-pub fn write_cancel(peer: usize, slot: usize, out: &mut [u8], at: usize) -> TraceWritten
+pub fn write_cancel(peer: usize, slot: usize, out: &mut [u8], at: usize) -> Option<usize>
     ensures { record { written = result; out = out.new } ≡ wrote out.old at (cancel_entry peer slot) }
 {
     write(&[3, peer as u64, slot as u64], b"", out, at)

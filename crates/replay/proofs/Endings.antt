@@ -7,14 +7,14 @@ use lib.ListN.{length, get_or, length-map}
 use mathlib.Core.List.{List, [], ◌∷◌, map}
 use mathlib.Core.Path.{◌≡◌, refl, ap, ◌∙◌}
 use native.Mathlib.Omega.{arith}
+use Rattle.std.specs.Prelude.{Option, None, Some}
 use Rattle.laws.proofs.Choosing.{branch, pick_either, pick_true}
 use Rattle.peer.specs.declared.types.Call.{Call}
 use Rattle.peer.specs.declared.types.LocalCall.{LocalCall}
 use Rattle.peer.specs.declared.types.Request.{Request}
 use Rattle.engine.specs.declared.types.Ready.{Ready}
-use Rattle.trace.specs.Entries.{entry_at, set_up_at}
+use Rattle.trace.specs.Entries.{entry_at, set_up_at, set_up_is}
 use Rattle.trace.specs.ExactlyRecorded.{CallStands, SetUpStands}
-use Rattle.trace.specs.declared.types.FoundEntry.{FoundEntry}
 use Rattle.trace.specs.declared.types.SetUp.{SetUp}
 use Rattle.trace.proofs.OnlyAsRecorded.{entry_only_as_recorded, set_up_only_as_recorded}
 use Rattle.trace.proofs.ReadBack.{bad_if_nothing_recorded, set_up_read_back}
@@ -52,10 +52,10 @@ module _ (s buffer : List ℕ) (bytes : (i : ℕ) → get_or s i 0 < 256) where
   none : (k at : ℕ) (e : Ending) → EndsAs s k 0 at e → Decodes s buffer k at (no_more e)
   none k at e h = ([], refl, record { place = at; stand = refl; few = omega arith; ends = h })
 
-  found : (k at : ℕ) → at < length s → ((next : ℕ) → next ≤ length s → Decodes s buffer k next (decode k s buffer next)) → (f : FoundEntry) → entry_at s at ≡ f
+  found : (k at : ℕ) → at < length s → ((next : ℕ) → next ≤ length s → Decodes s buffer k next (decode k s buffer next)) → (f : Option (Request × ℕ)) → entry_at s at ≡ f
       → Decodes s buffer (suc k) at (on_found_entry f (no_more (Ending.Bad at)) (λ q next. with_first (lent_buffer (length buffer) q) (decode k s buffer next)))
-  found k at l ih FoundEntry.Bad p = none (suc k) at (Ending.Bad at) (refl, l, omega arith, bad_if_nothing_recorded s at p)
-  found k at l ih (FoundEntry.Entry q next) p =
+  found k at l ih None p = none (suc k) at (Ending.Bad at) (refl, l, omega arith, bad_if_nothing_recorded s at p)
+  found k at l ih (Some (q, next)) p =
       let h = entry_only_as_recorded s at q next bytes p in
       let (es, calls, t) = ih next (entry_inside s at q.peer q.call next h) in (
         q ∷ es,
@@ -102,24 +102,24 @@ module _ (s : List ℕ) (budget : ℕ) (arena words reply text : List ℕ) (byte
   unfolding replay_of has_room
   replay_started room = pick_true _ _ (le-leb _ _ room)
 
-  no_set_up : ((n area limit next : ℕ) → SetUpStands s 0 n area limit next → ⊥) → (u : SetUp) → set_up_at s 0 ≡ u
+  no_set_up : ((n area limit next : ℕ) → SetUpStands s 0 n area limit next → ⊥) → (u : Option (SetUp × ℕ)) → set_up_at s 0 ≡ u
       → let r = (started s budget arena words reply text u).replayed in (r.taken ≡ 0) × (r.ending ≡ Ending.Bad 0)
   unfolding started
-  no_set_up missing SetUp.Bad e = (refl, refl)
-  no_set_up missing (SetUp.Are n area limit next) e = absurd (missing n area limit next (set_up_only_as_recorded s 0 n area limit next bytes e))
+  no_set_up missing None e = (refl, refl)
+  no_set_up missing (Some (u, next)) e = absurd (missing u.n u.area u.limit next (set_up_only_as_recorded s 0 u.n u.area u.limit next bytes e))
 
   set_up_stands : (n area limit next : ℕ) → SetUpStands s 0 n area limit next
-      → EndsAfter s budget next (set_up_answer n area limit arena words) (started s budget arena words reply text (SetUp.Are n area limit next)).replayed
+      → EndsAfter s budget next (set_up_answer n area limit arena words) (started s budget arena words reply text (set_up_is n area limit next)).replayed
   unfolding started replay_from
   set_up_stands n area limit next h =
       answered s budget next reply text _ _ _ _ (set_up_answer n area limit arena words) (decodes_what_stands budget s reply next bytes h.3.inside)
 
-  started_at_most : (u : SetUp) → set_up_at s 0 ≡ u → TakesAtMost budget (started s budget arena words reply text u).replayed
+  started_at_most : (u : Option (SetUp × ℕ)) → set_up_at s 0 ≡ u → TakesAtMost budget (started s budget arena words reply text u).replayed
   unfolding started replay_from
-  started_at_most SetUp.Bad e = (omega arith, λ p. let z : ◌≡◌ {A = ℕ} 0 1 = cc in omega arith)
-  started_at_most (SetUp.Are n area limit next) e =
-      let h = set_up_only_as_recorded s 0 n area limit next bytes e in
-      at_most s budget next reply text _ _ _ _ (set_up_answer n area limit arena words) (decodes_what_stands budget s reply next bytes h.3.inside)
+  started_at_most None e = (omega arith, λ p. let z : ◌≡◌ {A = ℕ} 0 1 = cc in omega arith)
+  started_at_most (Some (u, next)) e =
+      let h = set_up_only_as_recorded s 0 u.n u.area u.limit next bytes e in
+      at_most s budget next reply text _ _ _ _ (set_up_answer u.n u.area u.limit arena words) (decodes_what_stands budget s reply next bytes h.3.inside)
 
 pub replay_ends_as_said : ReplayEndsAsSaid
 replay_ends_as_said s budget arena words reply text bytes room =

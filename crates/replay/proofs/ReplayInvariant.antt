@@ -7,6 +7,7 @@ use mathlib.Core.Logic.{◌⊎◌, ⊎_map}
 use mathlib.Core.Path.{◌≡◌, refl, ap₂, ap, ◌∙◌}
 use native.Mathlib.Nat.{sub-zero, zero-add}
 use native.Mathlib.Omega.{arith}
+use Rattle.std.specs.Prelude.{None, Some}
 use Rattle.laws.specs.Parts.{store_at}
 use Rattle.peer.specs.declared.types.Answer.{Answer}
 use Rattle.peer.specs.declared.types.Call.{Call}
@@ -14,7 +15,6 @@ use Rattle.peer.specs.declared.types.Request.{Request}
 use Rattle.peer.specs.LentCalls.{LiesWithin}
 use Rattle.engine.specs.Steps.{World}
 use Rattle.trace.specs.Entries.{entry_at}
-use Rattle.trace.specs.declared.types.FoundEntry.{FoundEntry}
 use Rattle.trace.proofs.EntryLaws.{PacketInside, entry_inside}
 use Rattle.guarantees.specs.Outputs.{RunLeaves, run_leaves}
 use Rattle.guarantees.proofs.RunInvariant.{CallMade, RunInvariant, ended, run_end}
@@ -65,11 +65,11 @@ module _ {s buffer : List ℕ} {budget : ℕ} {all : RunLeaves} {last : Ending} 
     more : budget - taken ≡ suc (budget - (taken + 1))
     more = omega arith
 
-    pub replay_bad : entry_at s place ≡ FoundEntry.Bad
+    pub replay_bad : entry_at s place ≡ None
         → replay_leaves last all ≡ replay_leaves (Ending.Bad place) (ended s buffer answer_line taken w reply text written)
     replay_bad f = stops (Ending.Bad place) (rw more (decode_bad (budget - (taken + 1)) s buffer place l f))
 
-    module _ (q : Request) (next : ℕ) (f : entry_at s place ≡ FoundEntry.Entry q next) where
+    module _ (q : Request) (next : ℕ) (f : entry_at s place ≡ Some (q, next)) where
       pub replay_inside : LiesWithin (length s) (length reply) (with_buffer (length reply) q.call)
       replay_inside = inside (length s) (length reply) q.call (entry_inside s place q next f)
 

@@ -8,6 +8,7 @@ use mathlib.Core.Bool.{true, ◌&&◌}
 use mathlib.Core.List.{List, [], ◌++◌}
 use mathlib.Core.Path.{◌≡◌, refl, sym, subst, ◌∙◌}
 use native.Mathlib.Omega.{arith}
+use Rattle.std.specs.Prelude.{Option, None, Some}
 use Rattle.laws.specs.Parts.{store_at}
 use Rattle.laws.proofs.Choosing.{branch, pick_either}
 use Rattle.laws.proofs.Storing.{length_store, store_next, store_start}
@@ -158,10 +159,10 @@ module _ (s : List ℕ) (budget : ℕ) (arena map reply text : List ℕ) where
       ready Ready.Ready = report_room s reply (fresh_world n area limit a m) (decode budget s reply next) budget (length text) (calls_few budget s reply next) room
       ready (Ready.Refused k) = tell_room (Ending.NotSetUp k) budget (length text) room
 
-  started_inside : 64 + 80 * budget ≤ length text → (u : SetUp) → (started s budget arena map reply text u).replayed.written ≤ length text
+  started_inside : 64 + 80 * budget ≤ length text → (u : Option (SetUp × ℕ)) → (started s budget arena map reply text u).replayed.written ≤ length text
   unfolding started
-  started_inside room SetUp.Bad = tell_room (Ending.Bad 0) budget (length text) room
-  started_inside room (SetUp.Are n area limit next) = replay_from_inside room n area limit next _ _
+  started_inside room None = tell_room (Ending.Bad 0) budget (length text) room
+  started_inside room (Some (u, next)) = replay_from_inside room u.n u.area u.limit next _ _
 
   written_inside : (replay_of s budget arena map reply text).replayed.written ≤ length text
   unfolding replay_of has_room ending_line

@@ -1,10 +1,9 @@
 -- The calls that a trace records (01, "Replay": "Replay takes at most a given number of entries").
-use Rattle.std.specs.Prelude.{ℕ, zero, suc, List, [], ◌∷◌, length, leb}
+use Rattle.std.specs.Prelude.{ℕ, zero, suc, List, [], ◌∷◌, Option, None, Some, length, leb}
 use Rattle.laws.specs.Choose.{pick}
 use Rattle.peer.specs.LentCalls.{on_packet_at}
 use Rattle.peer.specs.declared.types.Call.{Call}
 use Rattle.peer.specs.declared.types.Request.{Request}
-use Rattle.trace.specs.declared.types.FoundEntry.{FoundEntry}
 use Rattle.trace.specs.Entries.{entry_at}
 use Rattle.replay.specs.declared.types.Ending.{Ending}
 
@@ -27,9 +26,9 @@ no_more e = record { calls = []; ending = e }
 abbrev pub with_first : Request → Decoded → Decoded
 with_first q d = record { calls = q ∷ d.calls; ending = d.ending }
 
-abbrev pub on_found_entry : {A : Type 0} → FoundEntry → A → (Request → ℕ → A) → A
-on_found_entry FoundEntry.Bad bad f = bad
-on_found_entry (FoundEntry.Entry q next) bad f = f q next
+abbrev pub on_found_entry : {A : Type 0} → Option (Request × ℕ) → A → (Request → ℕ → A) → A
+on_found_entry None bad f = bad
+on_found_entry (Some (q, next)) bad f = f q next
 
 -- whether the trace of n bytes is at its end, or bytes remain
 abbrev pub ending_at : ℕ → ℕ → Ending

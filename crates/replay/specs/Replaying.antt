@@ -1,5 +1,5 @@
 -- A replay (01, "Replay"): the run of the calls that a trace records, and the text about it.
-use Rattle.std.specs.Prelude.{ℕ, ◌+◌, ◌*◌, ◌/◌, List, ◌++◌, Bool, ◌&&◌, length, leb}
+use Rattle.std.specs.Prelude.{ℕ, ◌+◌, ◌*◌, ◌/◌, List, ◌++◌, Bool, ◌&&◌, Option, None, Some, length, leb}
 use Rattle.laws.specs.Choose.{pick}
 use Rattle.laws.specs.Parts.{part, store_at}
 use Rattle.engine.specs.declared.types.Ready.{Ready}
@@ -96,12 +96,12 @@ in_whole arena map l =
     }
 
 -- the first three numbers say how much of arena and map is lent on; "`bad trace at B`, .. (0 for the first three numbers)"
-unfoldable pub started : List ℕ → ℕ → List ℕ → List ℕ → List ℕ → List ℕ → SetUp → ReplayLeaves
-started s budget arena map reply text SetUp.Bad = told arena map reply text (Ending.Bad 0)
-started s budget arena map reply text (SetUp.Are n area limit next) =
+unfoldable pub started : List ℕ → ℕ → List ℕ → List ℕ → List ℕ → List ℕ → Option (SetUp × ℕ) → ReplayLeaves
+started s budget arena map reply text None = told arena map reply text (Ending.Bad 0)
+started s budget arena map reply text (Some (u, next)) =
     in_whole arena map
-    (replay_from n area limit s next budget
-    (part arena 0 (lent_of n area (length arena))) (part map 0 (lent_of n (area / 64) (length map))) reply text)
+    (replay_from u.n u.area u.limit s next budget
+    (part arena 0 (lent_of u.n u.area (length arena))) (part map 0 (lent_of u.n (u.area / 64) (length map))) reply text)
 
 -- the room that a text takes at most: its first and its last line, and a line for each entry
 unfoldable pub has_room : ℕ → ℕ → Bool

@@ -11,7 +11,6 @@ use crate::types::{Ending, Replayed};
 use engine::{Engine, Gate};
 use peer::{Answer, Call};
 use protocol::Span;
-use trace::FoundEntry;
 
 // Runs at most `budget` entries from a place of the trace on, and puts a line for each into the text.
 // The state is one that can be: each call leaves one that can be, so that none is checked again.
@@ -36,8 +35,7 @@ pub(crate) fn run(
     let mut written = at;
     let mut taken: usize = 0;
     while taken < budget && place < trace.len() {
-        let found = trace_reader::read_entry(trace, place);
-        let FoundEntry::Entry(request, next) = found else {
+        let Some((request, next)) = trace_reader::read_entry(trace, place) else {
             let ending = Ending::Bad(place);
             return Replayed {
                 taken,

@@ -54,9 +54,7 @@ fn tell(text: &mut [u8], ending: Ending) -> Replayed
 
 // Sets the engine up, and runs what the trace records from a place on.
 fn begin(
-    n: usize,
-    area: usize,
-    limit: usize,
+    set_up: SetUp,
     trace: &[u8],
     from: usize,
     budget: usize,
@@ -66,8 +64,9 @@ fn begin(
     text: &mut [u8],
 ) -> Replayed
     requires { 64 + 80 * budget ≤ length text.old }
-    ensures { record { replayed = result; arena = arena.new; map = map.new; reply = reply.new; text = text.new } ≡ replay_from n area limit trace.now from budget arena.old map.old reply.old text.old }
+    ensures { record { replayed = result; arena = arena.new; map = map.new; reply = reply.new; text = text.new } ≡ replay_from set_up.n set_up.area set_up.limit trace.now from budget arena.old map.old reply.old text.old }
 {
+    let SetUp { n, area, limit } = set_up;
     let started = engine::set_up(n, area, limit, arena, map);
     let answer = started.answer;
     let engine = started.engine;
@@ -107,23 +106,19 @@ pub fn replay(
             ending: Ending::NoRoom,
         };
     }
-    match trace_reader::read_set_up(trace) {
-        SetUp::Bad => tell(text, Ending::Bad(0)),
-        SetUp::Are(n, area, limit, next) => {
-            let bytes = lent(n, area, arena.len());
-            let words = lent(n, area / 64, map.len());
-            begin(
-                n,
-                area,
-                limit,
-                trace,
-                next,
-                budget,
-                &mut arena[..bytes],
-                &mut map[..words],
-                reply,
-                text,
-            )
-        }
-    }
+    let Some((set_up, next)) = trace_reader::read_set_up(trace) else {
+        return tell(text, Ending::Bad(0));
+    };
+    let bytes = lent(set_up.n, set_up.area, arena.len());
+    let words = lent(set_up.n, set_up.area / 64, map.len());
+    begin(
+        set_up,
+        trace,
+        next,
+        budget,
+        &mut arena[..bytes],
+        &mut map[..words],
+        reply,
+        text,
+    )
 }

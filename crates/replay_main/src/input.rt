@@ -1,29 +1,20 @@
 // Standard input, read to its end.
-ghost use Rattle.replay_main.specs.Inputs.{Within};
-ghost use Rattle.std.specs.Prelude.{length};
+ghost use Rattle.std.specs.Prelude.{◌≤◌, length, IfOk};
 
+use std::io;
 use std::io::Read;
 
-// How many bytes came, or that a read failed.
-#[derive(Clone, Copy)]
-pub(crate) enum Input {
-    Bytes(usize),
-    Failed,
-}
-
-// Reads to the end of the input, or until the buffer is full.
-pub(crate) fn read<R: Read>(from: &mut R, buffer: &mut [u8]) -> Input
-    ensures { Within result (length buffer.old) }
+// Reads to the end of the input, or until the buffer is full, and answers how many bytes came.
+pub(crate) fn read<R: Read>(from: &mut R, buffer: &mut [u8]) -> io::Result<usize>
+    ensures { IfOk result (λ n. n ≤ length buffer.old) }
 {
     let mut n: usize = 0;
     while n < buffer.len() {
-        let Ok(count) = from.read(&mut buffer[n..]) else {
-            return Input::Failed;
-        };
+        let count = from.read(&mut buffer[n..])?;
         if count == 0 {
-            return Input::Bytes(n);
+            return Ok(n);
         }
         n += count;
     }
-    Input::Bytes(n)
+    Ok(n)
 }

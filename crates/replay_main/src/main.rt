@@ -7,7 +7,6 @@ mod input;
 ghost use Rattle.std.specs.Prelude.{◌≡◌, ◌≤◌, length};
 ghost use Rattle.replay_main.specs.Programs.{text_length, program_of};
 
-use input::Input;
 use std::io;
 
 // The longest trace, in bytes.
@@ -42,8 +41,8 @@ fn main(rt: HostRuntime) -> io::Result<()> {
     // one byte more than the longest trace, so that a longer one is seen
     let mut bytes = [0u8; 65537];
     match input::read(&mut rt.stdin(), &mut bytes) {
-        Input::Failed => eprintln!(rt; "standard input cannot be read"),
-        Input::Bytes(n) => {
+        Err(_) => eprintln!(rt; "standard input cannot be read"),
+        Ok(n) => {
             if LONGEST < n {
                 println!(rt; "too long")
             } else {

@@ -1,9 +1,10 @@
--- Laws of `tabulate`, `flat` and `same`, over any element, and the turns of the loops that fill a list, put words side by side and compare.
+-- Laws of `tabulate`, `flat` and `same`, over any element, the turns of the loops that fill a list and put words side by side, and the equality of slices.
 use Prim.Native.Nat.{ℕ, zero, suc, ◌+◌, ◌*◌, ◌≤◌, ◌<◌}
-use borrow.Author.Tests.{eq-eqb, ne_eqb, eqb-true}
+use borrow.Author.Tests.{eq-eqb, eqb-true}
 use lib.Dec.{eqb}
-use lib.ListN.{length, get_or, take, drop, set, length-append, drop_of_length-le}
-use lib.Seq.{length-take-le, take_all, take-suc, drop-cons, get_or-take, ext_get_or, paste, paste-suc}
+use lib.Pointwise.{pointwise}
+use lib.ListN.{length, get_or, take, set, length-append, drop_of_length-le}
+use lib.Seq.{length-take-le, take_all, take-suc, get_or-take, ext_get_or, paste, paste-suc}
 use mathlib.Core.Bool.{Bool, true, false, ◌&&◌, false≢true}
 use mathlib.Core.List.{List, [], ◌∷◌, ◌++◌, append-nil, append_assoc}
 use mathlib.Core.Path.{◌≡◌, refl, sym, ap, ap₂, ◌∙◌}
@@ -111,16 +112,10 @@ same_lengths (x ∷ a) (y ∷ b) n = rw (same_lengths a b (λ e. n (ap suc e))) 
     and_false true = refl
     and_false false = refl
 
-module _ (a b : List ℕ) (i : ℕ) where
-  -- one word more is the same
-  pub same_turn : i < length a → i < length b → get_or a i 0 ≡ get_or b i 0 → same (drop i a) (drop i b) ≡ same (drop (i + 1) a) (drop (i + 1) b)
-  unfolding same
-  same_turn h k e = rw (add-one, drop-cons a i 0 h, drop-cons b i 0 k, eq-eqb (get_or a i 0) (get_or b i 0) e)
-
-  pub same_stop : i < length a → i < length b → (get_or a i 0 ≡ get_or b i 0 → ⊥) → same (drop i a) (drop i b) ≡ false
-  unfolding same
-  same_stop h k n = rw (drop-cons a i 0 h, drop-cons b i 0 k, ne_eqb (get_or a i 0) (get_or b i 0) n)
-
-  pub same_end : length a ≤ i → length b ≤ i → same (drop i a) (drop i b) ≡ true
-  unfolding same
-  same_end h k = rw (drop_of_length-le a h, drop_of_length-le b k)
+-- the library's equality of slices
+pub same_pointwise : (a b : List ℕ) → pointwise eqb a b ≡ same a b
+unfolding same
+same_pointwise [] [] = refl
+same_pointwise [] (y ∷ b) = refl
+same_pointwise (x ∷ a) [] = refl
+same_pointwise (x ∷ a) (y ∷ b) = ap (λ (t : Bool). eqb x y && t) (same_pointwise a b)

@@ -65,6 +65,10 @@ engine_in w =
 unfoldable pub is_state : List ℕ → Bool
 is_state w = same w (engine_words (engine_in w))
 
+-- the engine of a state's words, or nothing
+unfoldable pub loaded : List ℕ → Option Engine
+loaded w = pick (is_state w) (Some (engine_in w)) None
+
 -- the state, or else one of no peers, which every call refuses 2 (01: "a state that can't be")
 unfoldable pub state_of : List ℕ → Engine
 state_of w = pick (is_state w) (engine_in w) (engine_of 0 0 0)

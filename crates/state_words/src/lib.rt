@@ -7,4 +7,4 @@ mod types;
 
 pub use loading::load;
 pub use saving::save;
-pub use types::{Loaded, STATE};
+pub use types::STATE;

@@ -1,13 +1,11 @@
 // The engine's state, read from words.
-ghost use Rattle.std.specs.Prelude.{◌≡◌, false, ◌+◌, ◌≤◌, length};
+ghost use Rattle.std.specs.Prelude.{◌≡◌, ◌+◌, ◌≤◌, length};
 ghost use Rattle.peer.specs.State.{slot_with};
-ghost use Rattle.engine.specs.SetUp.{engine_of};
-ghost use Rattle.state_words.specs.Flat.{same};
 ghost use Rattle.state_words.specs.Saving.{peer_size, state_size};
-ghost use Rattle.state_words.specs.Loading.{receive_in, cq_in, shape_in, message_in, phase_in, peer_in, engine_in, is_state, state_of};
+ghost use Rattle.state_words.specs.Loading.{receive_in, cq_in, shape_in, message_in, phase_in, peer_in, engine_in, loaded};
 
 use crate::saving;
-use crate::types::{Loaded, PEER, SLOT, STATE};
+use crate::types::{PEER, SLOT, STATE};
 use engine::Engine;
 use peer::{Inbound, Message, Peer, Phase, Receive, Slot};
 use protocol::Shape;
@@ -36,6 +34,8 @@ fn cq_in(words: &[u64], at: usize) -> Option<u64>
     }
 }
 
+// The shape with this number. It is no `From`: `Shape` is another crate's, and a number past the last shape's is taken for
+// the last here, which `load` refuses when it writes the words again.
 fn shape_in(number: u64) -> Shape
     ensures { result ≡ shape_in number }
 {
@@ -95,10 +95,8 @@ fn peer_in(words: &[u64], at: usize) -> Peer
 {
     let mut peer = Peer::fresh();
     peer.next = (words[at] % 0x1_0000_0000) as u32;
-    let mut i: usize = 0;
-    while i < Peer::SLOTS {
-        peer.slots[i] = slot_in(words, at + 1 + SLOT * i);
-        i += 1;
+    for (i, slot) in peer.slots.iter_mut().enumerate() {
+        *slot = slot_in(words, at + 1 + SLOT * i);
     }
     peer
 }
@@ -115,62 +113,25 @@ fn engine_in(words: &[u64]) -> Engine
         area: words[1] as usize,
         limit: words[2] as usize,
     };
-    let mut p: usize = 0;
-    while p < Engine::PEERS {
-        engine.peers[p] = peer_in(words, 3 + PEER * p);
-        p += 1;
+    for (p, peer) in engine.peers.iter_mut().enumerate() {
+        *peer = peer_in(words, 3 + PEER * p);
     }
     engine
 }
 
-fn are_same(a: &[u64], b: &[u64]) -> bool
-    ensures { result ≡ same a.now b.now }
-{
-    if a.len() != b.len() {
-        return false;
-    }
-    let mut i: usize = 0;
-    while i < a.len() {
-        if a[i] != b[i] {
-            return false;
-        }
-        i += 1;
-    }
-    true
-}
-
-// An engine of no peers, which every call refuses.
-fn no_state() -> Loaded
-    ensures { result ≡ record { engine = engine_of 0 0 0; whole = false } }
-{
-    let peer = Peer::fresh();
-    Loaded {
-        engine: Engine {
-            peers: [peer; Engine::PEERS],
-            n: 0,
-            area: 0,
-            limit: 0,
-        },
-        whole: false,
-    }
-}
-
 // The engine of a state's words: those that are written again for the engine that is read.
-pub fn load(words: &[u64]) -> Loaded
-    ensures { result ≡ record { engine = state_of words.now; whole = is_state words.now } }
+pub fn load(words: &[u64]) -> Option<Engine>
+    ensures { result ≡ loaded words.now }
 {
     if words.len() != STATE {
-        return no_state();
+        return None;
     }
     let engine = engine_in(words);
     let mut again = [0u64; STATE];
     saving::save(&mut again, engine);
-    if are_same(words, &again) {
-        Loaded {
-            engine,
-            whole: true,
-        }
+    if words == again.as_slice() {
+        Some(engine)
     } else {
-        no_state()
+        None
     }
 }

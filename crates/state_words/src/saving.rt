@@ -1,32 +1,18 @@
 // The engine's state, written as words.
 ghost use Rattle.std.specs.Prelude.{◌≡◌, ◌+◌, ◌≤◌, length};
 ghost use Rattle.laws.specs.Parts.{store_at};
-ghost use Rattle.state_words.specs.Saving.{shape_number, sort_word, phase_words, slot_words, peer_words, engine_words, peer_size, state_size};
+ghost use Rattle.state_words.specs.Saving.{sort_word, phase_words, slot_words, peer_words, engine_words, peer_size, state_size};
 
 use crate::types::{PEER, SLOT};
 use engine::Engine;
 use peer::{Inbound, Peer, Phase, Receive, Slot};
 use protocol::Shape;
 
-// A shape by its place among the shapes.
-fn shape_number(shape: Shape) -> u64
-    ensures { (result ≡ shape_number shape) × (result ≤ 4) }
-{
-    match shape {
-        Shape::Cts => 0,
-        Shape::CtsData => 1,
-        Shape::Eager => 2,
-        Shape::Medium => 3,
-        Shape::LongCts => 4,
-    }
-}
-
-// Shape and tagged in one word.
+// Shape and tagged in one word, the shape by its place among the shapes.
 fn sort_word(shape: Shape, tagged: bool) -> u64
     ensures { result ≡ sort_word shape tagged }
 {
-    let number = shape_number(shape);
-    if tagged { 2 * number + 1 } else { 2 * number }
+    2 * (shape as u64) + u64::from(tagged)
 }
 
 // The words of an open slot.
@@ -97,11 +83,8 @@ fn put_peer(words: &mut [u64], at: usize, peer: Peer)
     ensures { words.new ≡ store_at words.old at (peer_words peer) }
 {
     words[at] = peer.next as u64;
-    let mut i: usize = 0;
-    while i < Peer::SLOTS {
-        let slot = peer.slots[i];
-        words::put_words(words, at + 1 + SLOT * i, &slot_words(slot));
-        i += 1;
+    for (i, slot) in peer.slots.iter().enumerate() {
+        words::put_words(words, at + 1 + SLOT * i, &slot_words(*slot));
     }
 }
 
@@ -113,10 +96,7 @@ pub fn save(words: &mut [u64], engine: Engine)
     words[0] = engine.n as u64;
     words[1] = engine.area as u64;
     words[2] = engine.limit as u64;
-    let mut p: usize = 0;
-    while p < Engine::PEERS {
-        let peer = engine.peers[p];
-        put_peer(words, 3 + PEER * p, peer);
-        p += 1;
+    for (p, peer) in engine.peers.iter().enumerate() {
+        put_peer(words, 3 + PEER * p, *peer);
     }
 }

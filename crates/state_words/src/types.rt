@@ -1,4 +1,4 @@
-// How many words a state has, and what they are read as.
+// How many words a state has.
 use engine::Engine;
 use peer::Peer;
 
@@ -8,10 +8,3 @@ pub const SLOT: usize = 16;
 pub const PEER: usize = 1 + SLOT * Peer::SLOTS;
 
 pub const STATE: usize = 3 + PEER * Engine::PEERS;
-
-// The engine that words are read as, and whether they are a state's words.
-#[derive(Clone, Copy)]
-pub struct Loaded {
-    pub engine: Engine,
-    pub whole: bool,
-}

@@ -38,10 +38,8 @@ pub fn put_line(text: &mut [u8], at: usize, word: &[u8], numbers: &[u64]) -> usi
     ensures { (result ≡ at + length (line word.now numbers.now)) × (text.new ≡ store_at text.old at (line word.now numbers.now)) }
 {
     let mut next = wire::write_bytes(text, at, word);
-    let mut k: usize = 0;
-    while k < numbers.len() {
-        next = put_number(text, next, numbers[k]);
-        k += 1;
+    for number in numbers {
+        next = put_number(text, next, *number);
     }
     text[next] = b'\n';
     next + 1

@@ -10,8 +10,8 @@ use mathlib.Core.Path.{◌≡◌, ap, ◌∙◌}
 use native.Mathlib.Nat.{add-suc, suc-add}
 use native.Mathlib.Numerals.{add-one}
 use native.Mathlib.Omega.{arith}
+use Rattle.std.specs.Prelude.{Some}
 use Rattle.trace.specs.Numbers.{groups, last_group, number_from, number_at, number_bytes}
-use Rattle.trace.specs.declared.types.Number.TheVariants.{Is}
 use Rattle.laws.proofs.Choosing.{tested}
 use Rattle.trace.proofs.GroupLaws.{groups_last, groups_suc, rest_sum}
 use Rattle.trace.proofs.NumberLaws.{last_is, number_last, number_more}
@@ -35,7 +35,7 @@ module _ (s : List ℕ) (at weight sum b : ℕ) (r : List ℕ) (e : drop at s �
 abbrev Read : ℕ → List ℕ → ℕ → ℕ → ℕ → ℕ → List ℕ → Type 0
 Read k s at weight sum v r =
     In k v → (v ≡ 0 → weight ≤ 1) → sum + v * weight < 2 ^ 64 → drop at s ≡ groups k v ++ r
-    → number_from (suc k) s at weight sum ≡ Is (sum + v * weight) (at + length (groups k v))
+    → number_from (suc k) s at weight sum ≡ Some (sum + v * weight, at + length (groups k v))
 
 module _ (k : ℕ) (s : List ℕ) (at weight sum v : ℕ) (r : List ℕ) where
   last_read : v < 128 → Read k s at weight sum v r
@@ -59,7 +59,7 @@ groups_read (suc k) s at weight sum v r =
 
 -- a number is read where it stands
 pub number_read : (s : List ℕ) (at v : ℕ) (r : List ℕ) → v < 2 ^ 64 → drop at s ≡ number_bytes v ++ r
-    → number_at s at ≡ Is v (at + length (number_bytes v))
+    → number_at s at ≡ Some (v, at + length (number_bytes v))
 unfolding number_at
 number_read s at v r h e =
     let x : 0 + v * 1 ≡ v = omega arith in

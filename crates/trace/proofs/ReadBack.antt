@@ -10,17 +10,15 @@ use mathlib.Core.List.{List, [], ◌∷◌, ◌++◌, append_assoc}
 use mathlib.Core.Path.{◌≡◌, refl, sym, ap, ◌∙◌}
 use native.Mathlib.Nat.{add-zero, add_assoc}
 use native.Mathlib.Omega.{arith}
+use Rattle.std.specs.Prelude.{Some}
 use Rattle.laws.specs.Choose.{pick}
 use Rattle.laws.specs.Parts.{part}
 use Rattle.laws.proofs.Storing.{length_part}
-use Rattle.trace.specs.Entries.{pair_at, set_up_at, receive_at, post_at, packet_at, cancel_at, entry_at, entry_of}
+use Rattle.trace.specs.Entries.{pair_at, set_up_at, set_up_is, receive_at, post_at, packet_at, cancel_at, entry_at, entry_of}
 use Rattle.trace.specs.Numbers.{number_at, number_bytes}
 use Rattle.trace.specs.ShortestForm.{IsWord}
 use Rattle.trace.specs.ExactlyRecorded.{BadIfNothingRecorded, CallStands, EntryReadBack, SetUpReadBack, Stands}
 use Rattle.trace.specs.Recorded.{kind_of, numbers_bytes}
-use Rattle.trace.specs.declared.types.Number.TheVariants.{Is}
-use Rattle.trace.specs.declared.types.Pair.{Pair}
-use Rattle.trace.specs.declared.types.SetUp.{SetUp}
 use Rattle.peer.specs.declared.types.Call.{Call}
 use Rattle.peer.specs.declared.types.LocalCall.{LocalCall}
 use Rattle.trace.proofs.GroupsRead.{number_read}
@@ -41,14 +39,14 @@ behind_is [] at = sym (add-zero at)
 behind_is (n ∷ ns) at = rw (behind_is ns, length-append, add_assoc)
 
 number : {s ns r : List ℕ} {at n : ℕ} → IsWord n → Stand s at (n ∷ ns) r
-    → (number_at s at ≡ Is n (behind at (n ∷ []))) × Stand s (behind at (n ∷ [])) ns r
+    → (number_at s at ≡ Some (n, behind at (n ∷ []))) × Stand s (behind at (n ∷ [])) ns r
 unfolding numbers_bytes
 number {s} {ns} {r} {at} {n} h w =
     let e = w.bytes ∙ append_assoc (number_bytes n) (numbers_bytes ns) r in
     (number_read s at n _ h e, record { bytes = rw (← drop-drop, e) (drop-append_seam (number_bytes n) (numbers_bytes ns ++ r)) })
 
 pair : {s ns r : List ℕ} {at a b : ℕ} → IsWord a → IsWord b → Stand s at (a ∷ b ∷ ns) r
-    → (pair_at s at ≡ Pair.Are a b (behind at (a ∷ b ∷ []))) × Stand s (behind at (a ∷ b ∷ [])) ns r
+    → (pair_at s at ≡ Some (a, b, behind at (a ∷ b ∷ []))) × Stand s (behind at (a ∷ b ∷ [])) ns r
 unfolding pair_at
 pair p q w = let (x, w) = number p w in let (y, w) = number q w in (rw (x, y), w)
 
@@ -68,7 +66,7 @@ set_up_read_back s at n area limit next (hn, ha, hl, h) =
     let (w, b) = start s at next (n ∷ area ∷ limit ∷ []) h in
     let (x, w) = pair hn ha w in
     let (y, w) = number hl w in
-    rw (x, y) (ap (SetUp.Are n area limit) b)
+    rw (x, y) (ap (set_up_is n area limit) b)
 
 call_read_back : (s : List ℕ) (at peer : ℕ) (c : Call) (next : ℕ) → CallStands s at peer c next → entry_at s at ≡ entry_of peer c next
 unfolding entry_at post_at receive_at packet_at cancel_at pick

@@ -7,17 +7,22 @@ use lib.Seq.{drop-cons, take_at}
 use mathlib.Core.Bool.{◌&&◌, false}
 use mathlib.Core.List.{List, ◌∷◌, ◌++◌}
 use mathlib.Core.Logic.{◌⊎◌, ⊎_elim, ⊎_map}
-use mathlib.Core.Path.{◌≡◌, ◌∙◌}
+use mathlib.Core.Path.{◌≡◌, sym, ap, ◌∙◌}
 use native.Mathlib.Omega.{arith}
+use Rattle.std.specs.Prelude.{Option, None, Some}
 use Rattle.laws.specs.Parts.{part}
 use Rattle.trace.specs.Numbers.{groups, last_group, number_at, number_bytes, number_from}
 use Rattle.trace.specs.ShortestForm.{NumberShortest}
-use Rattle.trace.specs.declared.types.Number.TheVariants.{Is, Bad}
 use Rattle.laws.proofs.Choosing.{pick_cases, pick_second}
 use Rattle.trace.proofs.GroupLaws.{groups_last, groups_suc, rest_sum}
 
-bad : {v next : ℕ} → Bad ≡ Is v next → ⊥
+bad : {v next : ℕ} → ◌≡◌ {A = Option (ℕ × ℕ)} None (Some (v, next)) → ⊥
 bad e = let z : ◌≡◌ {A = ℕ} 0 1 = cc in omega arith
+
+-- what was read
+abbrev read : Option (ℕ × ℕ) → ℕ × ℕ
+read None = (0, 0)
+read (Some p) = p
 
 -- a last group that is not the first is not 0
 not_zero : (b weight : ℕ) → (eqb b 0 && ltb 1 weight) ≡ false → 1 < weight → 0 < b
@@ -35,25 +40,25 @@ record Form (k : ℕ) (s : List ℕ) (at weight sum total next : ℕ) : Type 0 w
 
 module _ (k : ℕ) (s : List ℕ) (at weight sum total next : ℕ) where
   -- a group was there, and was the last, or more were read behind it
-  first_group : number_from (suc k) s at weight sum ≡ Is total next
+  first_group : number_from (suc k) s at weight sum ≡ Some (total, next)
       → (at < length s)
-      × (((get_or s at 0 < 128) × (last_group (get_or s at 0) (suc at) weight sum ≡ Is total next))
-      ⊎ ((128 ≤ get_or s at 0) × (number_from k s (suc at) (weight * 128) (sum + (get_or s at 0 - 128) * weight) ≡ Is total next)))
+      × (((get_or s at 0 < 128) × (last_group (get_or s at 0) (suc at) weight sum ≡ Some (total, next)))
+      ⊎ ((128 ≤ get_or s at 0) × (number_from k s (suc at) (weight * 128) (sum + (get_or s at 0 - 128) * weight) ≡ Some (total, next))))
   unfolding number_from
   first_group e =
-      let (t, e) = pick_second (leb (length s) at) Bad _ (Is total next) bad e in (
+      let (t, e) = pick_second (leb (length s) at) None _ (Some (total, next)) bad e in (
         leb-false (length s) at t,
-        ⊎_map (λ w. (ltb-true _ _ w.0, w.1)) (λ w. (ltb-false _ _ w.0, w.1)) (pick_cases (ltb (get_or s at 0) 128) _ _ (Is total next) e),
+        ⊎_map (λ w. (ltb-true _ _ w.0, w.1)) (λ w. (ltb-false _ _ w.0, w.1)) (pick_cases (ltb (get_or s at 0) 128) _ _ (Some (total, next)) e),
       )
 
-  last_form : at < length s → get_or s at 0 < 128 → last_group (get_or s at 0) (suc at) weight sum ≡ Is total next → Form k s at weight sum total next
+  last_form : at < length s → get_or s at 0 < 128 → last_group (get_or s at 0) (suc at) weight sum ≡ Some (total, next) → Form k s at weight sum total next
   unfolding last_group
   last_form h d e =
       let b = get_or s at 0 in
-      let (t, e) = pick_second (eqb b 0 && ltb 1 weight) Bad _ (Is total next) bad e in
-      let (u, e) = pick_second (leb (2 ^ 64) (sum + b * weight)) Bad _ (Is total next) bad e in
-      let whole : total ≡ sum + b * weight = cc in
-      let place : next ≡ suc at = cc in
+      let (t, e) = pick_second (eqb b 0 && ltb 1 weight) None _ (Some (total, next)) bad e in
+      let (u, e) = pick_second (leb (2 ^ 64) (sum + b * weight)) None _ (Some (total, next)) bad e in
+      let whole : total ≡ sum + b * weight = sym (ap (λ o. (read o).0) e) in
+      let place : next ≡ suc at = sym (ap (λ o. (read o).1) e) in
       let g = groups_last k b d in
       record {
         v = b;
@@ -84,7 +89,7 @@ module _ (k : ℕ) (s : List ℕ) (at weight sum total next : ℕ) where
       }
 
 form : (k : ℕ) (s : List ℕ) (at weight sum total next : ℕ) → ((i : ℕ) → get_or s i 0 < 256) → 0 < weight
-    → number_from (suc k) s at weight sum ≡ Is total next → Form k s at weight sum total next
+    → number_from (suc k) s at weight sum ≡ Some (total, next) → Form k s at weight sum total next
 unfolding number_from
 form zero s at weight sum total next f p e =
     let (h, c) = first_group 0 s at weight sum total next e in

@@ -1,13 +1,11 @@
 -- A set-up and an entry are read exactly where they are recorded, and everything else is bad (01, "Replay": "Bad: a first number not 1 to
 -- 3, a kind not 0 or 1, a malformed number, bytes that end early").
-use Rattle.std.specs.Prelude.{ℕ, ◌+◌, ◌≤◌, ◌<◌, List, ◌≡◌, length, get_or}
+use Rattle.std.specs.Prelude.{ℕ, ◌+◌, ◌≤◌, ◌<◌, List, ◌≡◌, None, Some, length, get_or}
 use Rattle.laws.specs.Parts.{part}
 use Rattle.peer.specs.declared.types.Call.{Call}
 use Rattle.peer.specs.declared.types.LocalCall.{LocalCall}
 use Rattle.peer.specs.declared.types.Request.{Request}
-use Rattle.trace.specs.declared.types.SetUp.{SetUp}
-use Rattle.trace.specs.declared.types.FoundEntry.{FoundEntry}
-use Rattle.trace.specs.Entries.{set_up_at, entry_at, no_buffer}
+use Rattle.trace.specs.Entries.{set_up_at, set_up_is, entry_at, no_buffer}
 use Rattle.trace.specs.Recorded.{set_up_bytes, post_entry, packet_entry, cancel_entry}
 use Rattle.trace.specs.ShortestForm.{IsWord}
 
@@ -40,21 +38,21 @@ EntryStands s at q next = CallStands s at q.peer q.call next
 abbrev pub SetUpOnlyAsRecorded : Type 0
 SetUpOnlyAsRecorded =
     (s : List ℕ) (at n area limit next : ℕ) → ((i : ℕ) → get_or s i 0 < 256)
-    → set_up_at s at ≡ SetUp.Are n area limit next → SetUpStands s at n area limit next
+    → set_up_at s at ≡ set_up_is n area limit next → SetUpStands s at n area limit next
 
 abbrev pub EntryOnlyAsRecorded : Type 0
 EntryOnlyAsRecorded =
     (s : List ℕ) (at : ℕ) (q : Request) (next : ℕ) → ((i : ℕ) → get_or s i 0 < 256)
-    → entry_at s at ≡ FoundEntry.Entry q next → EntryStands s at q next
+    → entry_at s at ≡ Some (q, next) → EntryStands s at q next
 
 -- ---- what was recorded is read
 
 abbrev pub SetUpReadBack : Type 0
-SetUpReadBack = (s : List ℕ) (at n area limit next : ℕ) → SetUpStands s at n area limit next → set_up_at s at ≡ SetUp.Are n area limit next
+SetUpReadBack = (s : List ℕ) (at n area limit next : ℕ) → SetUpStands s at n area limit next → set_up_at s at ≡ set_up_is n area limit next
 
 abbrev pub EntryReadBack : Type 0
-EntryReadBack = (s : List ℕ) (at : ℕ) (q : Request) (next : ℕ) → EntryStands s at q next → entry_at s at ≡ FoundEntry.Entry q next
+EntryReadBack = (s : List ℕ) (at : ℕ) (q : Request) (next : ℕ) → EntryStands s at q next → entry_at s at ≡ Some (q, next)
 
 -- so no entry stands where one is bad
 abbrev pub BadIfNothingRecorded : Type 0
-BadIfNothingRecorded = (s : List ℕ) (at : ℕ) → entry_at s at ≡ FoundEntry.Bad → (q : Request) (next : ℕ) → EntryStands s at q next → ⊥
+BadIfNothingRecorded = (s : List ℕ) (at : ℕ) → entry_at s at ≡ None → (q : Request) (next : ℕ) → EntryStands s at q next → ⊥

@@ -7,4 +7,4 @@ mod types;
 
 pub use number::number_at;
 pub use reading::{entry_at, set_up_at};
-pub use types::{Asked, FoundEntry, Number, Pair, SetUp};
+pub use types::SetUp;

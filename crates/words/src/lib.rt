@@ -7,21 +7,18 @@ ghost use Rattle.laws.specs.Parts.{store_at};
 ghost use Rattle.words.specs.Presence.{bool_bit, option_bit, option_value};
 
 // The words of `from` are put into `words`, from `at` on.
+#[tactic(auto, using(laws::proofs::Storing::put_part))]
 pub fn put_words(words: &mut [u64], at: usize, from: &[u64])
     requires { at + length from.now ≤ length words.old }
     ensures { words.new ≡ store_at words.old at from.now }
 {
-    let mut i: usize = 0;
-    while i < from.len() {
-        words[at + i] = from[i];
-        i += 1;
-    }
+    words[at..at + from.len()].copy_from_slice(from);
 }
 
 pub fn bit_of(b: bool) -> u64
     ensures { result ≡ bool_bit b }
 {
-    if b { 1 } else { 0 }
+    u64::from(b)
 }
 
 // Whether it is there.

@@ -1,18 +1,12 @@
 -- `bitmap::count_set` meets its contract: the bits of a range are those of its parts.
 use Prim.Native.Nat.{◌+◌, ◌≤◌}
 use lib.Count.{ones}
-use lib.ListN.{length}
 use mathlib.Core.Path.{◌≡◌, sym}
 use native.Mathlib.Omega.{arith}
 use Rattle.bitmap.specs.Map.{count_set}
 use Rattle.bitmap.proofs.Counts.{count_le, range_count}
-use Rattle.bitmap.proofs.SplitLaws.{Placed, placed}
 use Rattle.bitmap.proofs.count_set.Goals as goal
 use Rattle.bitmap.proofs.count_set.Goals.{After-part, After-part-2, After-split-range}
-
--- where the parts of the range lie
-lies : (c : After-split-range) → let a = c.args in Placed a.at a.n (length a.map.now) c.split-range.result
-lies c = placed c.split-range.ensures (omega arith)
 
 -- the ones of all parts are the range's
 all_count : (c : After-part-2) → let a = c.args in

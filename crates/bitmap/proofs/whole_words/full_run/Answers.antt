@@ -4,11 +4,11 @@ use native.Mathlib.Omega.{arith}
 use Rattle.bitmap.proofs.WordFolds.{run_end, run_stop, run_turn}
 use Rattle.bitmap.proofs.whole_words.full_run.Goals as goal
 
-pub returns-then-words-k : goal.returns-then-words-k
-returns-then-words-k c = let l = c.loop-k in sym (run_stop _ l.k (omega arith) _ l.invariant.1 c.if-words-k.true)
+pub returns-then-word : goal.returns-then-word
+returns-then-word c = let l = c.loop-k in sym (run_stop _ l.k (omega arith) _ l.invariant c.if-word.true)
 
 pub loop-k-preserved : goal.loop-k-preserved
-loop-k-preserved c = let l = c.loop-k in (omega arith, run_turn _ l.k (omega arith) _ l.invariant.1 c.if-words-k.false)
+loop-k-preserved c = let l = c.loop-k in run_turn _ l.k (omega arith) _ l.invariant c.if-word.false
 
 pub returns : goal.returns
-returns c = let l = c.loop-k in sym (run_end _ l.k (omega arith) _ l.invariant.1)
+returns c = let l = c.loop-k in omega (arith, run_end _ l.k (omega arith) _ l.invariant)

@@ -1,12 +1,9 @@
 -- `bitmap::whole_words::full_run` meets its contract. The loop's invariant: the words passed are full, so that the run of those to come is what is left.
-use Prim.Native.Nat.{◌+◌, ◌-◌, ◌≤◌}
-use lib.ListN.{length, drop}
+use Prim.Native.Nat.{◌+◌}
+use lib.ListN.{drop}
 use mathlib.Core.Path.{◌≡◌}
 use Rattle.bitmap.specs.WholeWords.{full_run}
 use Rattle.bitmap.proofs.whole_words.full_run.Given as goal
 
 abbrev pub invariant-loop-k : goal.invariant-loop-k
-invariant-loop-k l = (l.k ≤ length l.words) × (full_run l.words ≡ l.k + full_run (drop l.k l.words))
-
-abbrev pub decreases-loop-k : goal.decreases-loop-k
-decreases-loop-k l = length l.words - l.k
+invariant-loop-k l = full_run l.words ≡ l.k + full_run (drop l.k l.words)

@@ -5,11 +5,11 @@ use native.Mathlib.Omega.{arith}
 use Rattle.bitmap.proofs.WordFolds.{ones_end, ones_turn}
 use Rattle.bitmap.proofs.whole_words.ones_of.Goals as goal
 
-pub loop-k-preserved : goal.loop-k-preserved
-loop-k-preserved c =
-    let l = c.loop-k in
-    let few = ones-le 64 _ (c.shared_slice_known-1.given l.k).fits in
-    (omega arith, omega arith, ones_turn _ l.k (omega arith) l.total _ l.invariant.2)
+pub loop-word-preserved : goal.loop-word-preserved
+loop-word-preserved c =
+    let l = c.loop-word in
+    let few = ones-le 64 _ (c.type_inv.words l.word-index).fits in
+    (omega arith, ones_turn _ l.word-index (omega arith) l.total _ l.invariant.1)
 
 pub returns : goal.returns
-returns c = let l = c.loop-k in sym (ones_end _ l.k (omega arith) l.total _ l.invariant.2)
+returns c = let l = c.loop-word in sym (ones_end _ l.word-index (omega arith) l.total _ l.invariant.1)

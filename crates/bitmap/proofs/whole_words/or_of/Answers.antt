@@ -4,10 +4,8 @@ use native.Mathlib.Omega.{arith}
 use Rattle.bitmap.proofs.WordFolds.{or_end, or_turn}
 use Rattle.bitmap.proofs.whole_words.or_of.Goals as goal
 
-pub loop-k-preserved : goal.loop-k-preserved
-loop-k-preserved c =
-    let l = c.loop-k in
-    (omega arith, or_turn _ l.k (omega arith) l.seen _ l.invariant.1)
+pub loop-word-preserved : goal.loop-word-preserved
+loop-word-preserved c = let l = c.loop-word in or_turn _ l.word-index (omega arith) l.seen _ l.invariant
 
 pub returns : goal.returns
-returns c = let l = c.loop-k in sym (or_end _ l.k (omega arith) l.seen _ l.invariant.1)
+returns c = let l = c.loop-word in sym (or_end _ l.word-index (omega arith) l.seen _ l.invariant)

@@ -1,17 +1,17 @@
 -- `packed::running::run` meets its contract: words that are no state's are run as an engine of no peers, and stay.
-use mathlib.Core.Path.{sym, ap, ◌∙◌}
-use Rattle.state_words.specs.declared.types.Loaded.{Loaded}
-use Rattle.packed.proofs.Keeping.{run_left, run_saved, state_eights, state_length}
+use mathlib.Core.Path.{sym, ◌∙◌}
+use Rattle.packed.proofs.Keeping.{loaded_eights, run_left, run_saved, state_length}
+use Rattle.state_words.proofs.Reading.{loaded_some}
 use Rattle.packed.proofs.running.run.Goals as goal
 
+pub returns-in_default : goal.returns-in_default
+returns-in_default c = run_left _ _ _ _ _ _ _ _ _ c.run_calls.ensures (sym c.load.ensures ∙ c.in_default.is) c.no_peers.ensures
+
 pub run_calls-ran-requires : goal.run_calls-ran-requires
-run_calls-ran-requires c = rw c.load-loaded.ensures (state_eights _)
+run_calls-ran-requires c = loaded_eights _ _ (sym c.load.ensures ∙ c.in-Some.is)
 
 pub save-requires : goal.save-requires
-save-requires c = state_length _ (sym (ap (λ (d : Loaded). d.whole) c.load-loaded.ensures) ∙ c.if-loaded.true)
+save-requires c = state_length _ (loaded_some _ _ (sym c.load.ensures ∙ c.in-Some.is)).0
 
-pub returns-then-loaded : goal.returns-then-loaded
-returns-then-loaded c = rw c.save.ensures (run_saved _ _ _ _ _ _ _ _ _ c.load-loaded.ensures c.run_calls-ran.ensures c.if-loaded.true)
-
-pub returns-else-loaded : goal.returns-else-loaded
-returns-else-loaded c = run_left _ _ _ _ _ _ _ _ _ c.load-loaded.ensures c.run_calls-ran.ensures c.if-loaded.false
+pub returns : goal.returns
+returns c = rw c.save.ensures (run_saved _ _ _ _ _ _ _ _ _ c.run_calls-ran.ensures (sym c.load.ensures ∙ c.in-Some.is))

@@ -8,7 +8,7 @@ use Rattle.engine.specs.Leaves.{world}
 use Rattle.guarantees.proofs.CheckedOnce.{once_in_peers, once_owned}
 use Rattle.guarantees.proofs.RunInvariant.{run_open, run_refused}
 use Rattle.packed.specs.Calls.{request_at}
-use Rattle.packed.specs.declared.types.FoundRequest.{FoundRequest}
+use Rattle.std.specs.Prelude.{Some}
 use Rattle.packed.proofs.BatchInvariant.{batch_again, batch_bad, batch_end, batch_inside, batch_next, batch_start}
 use Rattle.engine.specs.SetUp.{peer_count}
 use Rattle.packed.proofs.running.run_calls.Goals as goal
@@ -25,16 +25,16 @@ loop-taken-init c = (
 )
 
 pub returns-in_default : goal.returns-in_default
-returns-in_default c = sym (batch_bad c.loop-taken.invariant.5 c.loop-taken-test.true (sym c.request_at-found.ensures ∙ c.in_default.is))
+returns-in_default c = sym (batch_bad c.loop-taken.invariant.5 c.loop-taken-test.true (sym c.request_at.ensures ∙ c.in_default.is))
 
 -- ---- a call that was read
 
 read : (c : After-admit) → let a = c.args in let l = c.loop-taken in
-    request_at a.calls.now (length a.bytes.now) (length l.replies) l.at ≡ FoundRequest.Request c.in-Request.request
-read c = sym c.request_at-found.ensures ∙ c.in-Request.is
+    request_at a.calls.now (length a.bytes.now) (length l.replies) l.at ≡ Some c.in-Some.request
+read c = sym c.request_at.ensures ∙ c.in-Some.is
 
 -- behind an open gate its peer is there
-below : (c : In-Open) → c.in-Request.request.peer < peer_count
+below : (c : In-Open) → c.in-Some.request.peer < peer_count
 below c =
     let l = c.loop-taken in
     let s = l.invariant.4 in
@@ -97,4 +97,6 @@ loop-taken-preserved c =
     ]
 
 pub returns : goal.returns
-returns c = sym (batch_end c.loop-taken.invariant.5 c.loop-taken-test.false)
+returns c =
+    let e : c.budget-most.result ≡ c.loop-taken.taken = omega arith in
+    rw e (sym (batch_end c.loop-taken.invariant.5 c.loop-taken-test.false))

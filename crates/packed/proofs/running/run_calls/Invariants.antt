@@ -1,6 +1,5 @@
 -- `packed::running::run_calls` meets its contract. The loop's invariant: the state was checked once, and what the calls passed leave, with the rest run from there, is what
 -- all of them leave.
-use Prim.Native.Nat.{◌-◌}
 use lib.ListN.{length}
 use mathlib.Core.Path.{◌≡◌}
 use Rattle.engine.specs.Leaves.{world}
@@ -14,7 +13,3 @@ invariant-loop-taken l =
     (length l.arena ≡ length l.initial.arena) × (length l.map ≡ length l.initial.map) × (length l.replies ≡ length l.initial.replies) × (length l.answers ≡ length l.initial.answers)
     × CheckedOnce l.good l.engine
     × BatchInvariant l.calls l.bytes l.initial.replies l.most (ran_from (world l.initial.engine l.initial.arena l.initial.map) l.calls l.bytes l.initial.replies l.initial.answers) (world l.engine l.arena l.map) l.replies l.answers l.at l.taken
-
-abbrev pub decreases-loop-taken : goal.decreases-loop-taken
-decreases-loop-taken l =
-    l.most - l.taken

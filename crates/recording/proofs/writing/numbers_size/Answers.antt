@@ -8,16 +8,16 @@ use Rattle.recording.proofs.WritingLaws.{numbers_end, numbers_length}
 use Rattle.recording.proofs.writing.numbers_size.Goals as goal
 
 pub overflow_add-size : goal.overflow_add-size
-overflow_add-size c = omega (arith, groups_length 9 (get_or c.args.numbers.now c.loop-k.k 0))
+overflow_add-size c = omega (arith, groups_length 9 (get_or c.args.numbers.now c.loop-number.number-index 0))
 
-pub loop-k-preserved : goal.loop-k-preserved
-loop-k-preserved c =
-    let l = c.loop-k in
+pub loop-number-preserved : goal.loop-number-preserved
+loop-number-preserved c =
+    let l = c.loop-number in
     let numbers = c.args.numbers.now in
-    let n = numbers_length numbers l.k (omega arith) in
-    rw add-one (omega (arith, groups_length 9 (get_or numbers l.k 0)))
+    let n = numbers_length numbers l.number-index (omega arith) in
+    rw add-one (omega (arith, groups_length 9 (get_or numbers l.number-index 0)))
 
 pub returns : goal.returns
 returns c =
-    let l = c.loop-k in
-    omega (arith, ap length (numbers_end c.args.numbers.now l.k (omega arith)))
+    let l = c.loop-number in
+    omega (arith, ap length (numbers_end c.args.numbers.now l.number-index (omega arith)))

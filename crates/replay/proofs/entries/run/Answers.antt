@@ -6,7 +6,7 @@ use mathlib.Core.Path.{◌≡◌, refl, sym, ◌∙◌}
 use native.Mathlib.Omega.{arith}
 use Rattle.engine.specs.Leaves.{world}
 use Rattle.trace.specs.Entries.{entry_at}
-use Rattle.trace.specs.declared.types.FoundEntry.{FoundEntry}
+use Rattle.std.specs.Prelude.{Some}
 use Rattle.guarantees.proofs.CheckedOnce.{once_in_peers, once_owned}
 use Rattle.guarantees.proofs.RunInvariant.{run_open, run_refused}
 use Rattle.replay.proofs.ReplayInvariant.{replay_again, replay_bad, replay_end, replay_inside, replay_next, replay_start}
@@ -20,18 +20,18 @@ loop-taken-init c =
 
 pub returns-in_default : goal.returns-in_default
 returns-in_default c =
-    sym (replay_bad c.loop-taken.invariant.5 c.loop-taken-test.true c.if-place-trace.true (sym c.read_entry-found.ensures ∙ c.in_default.is))
+    sym (replay_bad c.loop-taken.invariant.5 c.loop-taken-test.true c.if-place-trace.true (sym c.read_entry.ensures ∙ c.in_default.is))
 
 -- ---- an entry that was read
 
 inside : (c : After-admit) → c.loop-taken.place < length c.args.trace.now
 inside c = c.if-place-trace.true
 
-read : (c : After-admit) → entry_at c.args.trace.now c.loop-taken.place ≡ FoundEntry.Entry c.in-Entry.request c.in-Entry.next
-read c = sym c.read_entry-found.ensures ∙ c.in-Entry.is
+read : (c : After-admit) → entry_at c.args.trace.now c.loop-taken.place ≡ Some (c.in-Some.request, c.in-Some.next)
+read c = sym c.read_entry.ensures ∙ c.in-Some.is
 
 -- behind an open gate its peer is there
-below : (c : In-Open) → c.in-Entry.request.peer < peer_count
+below : (c : In-Open) → c.in-Some.request.peer < peer_count
 below c =
     let l = c.loop-taken in
     let s = l.invariant.4 in

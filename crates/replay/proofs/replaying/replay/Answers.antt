@@ -38,27 +38,27 @@ tell-requires c = tell_room _ _ _ (room (goal.at.tell-requires c).Else-not-has_r
 pub slice_bounds-begin-end : goal.slice_bounds-begin-end
 slice_bounds-begin-end c = rw c.lent-bytes.ensures (lent_there _ _ _)
 
-pub slice_bounds-begin-end-in-Are : goal.slice_bounds-begin-end-in-Are
-slice_bounds-begin-end-in-Are c = sym (length-take-le _ _ (rw c.lent-bytes.ensures (lent_there _ _ _)))
+pub slice_bounds-begin-end-2 : goal.slice_bounds-begin-end-2
+slice_bounds-begin-end-2 c = sym (length-take-le _ _ (rw c.lent-bytes.ensures (lent_there _ _ _)))
 
-pub slice_bounds-begin-end-in-Are-2 : goal.slice_bounds-begin-end-in-Are-2
-slice_bounds-begin-end-in-Are-2 c = rw c.lent-words.ensures (lent_there _ _ _)
+pub slice_bounds-begin-end-3 : goal.slice_bounds-begin-end-3
+slice_bounds-begin-end-3 c = rw c.lent-words.ensures (lent_there _ _ _)
 
-pub slice_bounds-begin-end-in-Are-3 : goal.slice_bounds-begin-end-in-Are-3
-slice_bounds-begin-end-in-Are-3 c = sym (length-take-le _ _ (rw c.lent-words.ensures (lent_there _ _ _)))
+pub slice_bounds-begin-end-4 : goal.slice_bounds-begin-end-4
+slice_bounds-begin-end-4 c = sym (length-take-le _ _ (rw c.lent-words.ensures (lent_there _ _ _)))
 
 pub begin-requires : goal.begin-requires
 begin-requires c = room (goal.at.begin-requires c).Else-not-has_room
 
-pub returns-in-Bad : goal.returns-in-Bad
+pub returns-in_default : goal.returns-in_default
 unfolding replay_of started
-returns-in-Bad c =
+returns-in_default c =
     c.tell.ensures _ _ _
-    ∙ sym (pick_true _ _ (open_room (goal.at.returns-in-Bad c).Else-not-has_room) ∙ rw (sym c.read_set_up.ensures ∙ c.in-Bad.is))
+    ∙ sym (pick_true _ _ (open_room (goal.at.returns-in_default c).Else-not-has_room) ∙ rw (sym c.read_set_up.ensures ∙ c.in_default.is))
 
-pub returns-in-Are : goal.returns-in-Are
+pub returns : goal.returns
 unfolding replay_of started part
-returns-in-Are c =
+returns c =
     let a = c.args in
     let g = c.begin in
     let m = c.lent-bytes in
@@ -67,4 +67,4 @@ returns-in-Are c =
     (g.auto.arena ∙ length-take-le _ _ (rw m.ensures (lent_there _ _ _)))
     (g.auto.map ∙ length-take-le _ _ (rw k.ensures (lent_there _ _ _)))
     ∙ ap (in_whole a.arena.now a.map.now) g.ensures
-    ∙ sym (pick_true _ _ (open_room (goal.at.returns-in-Are c).Else-not-has_room) ∙ rw (sym c.read_set_up.ensures ∙ c.in-Are.is, ← m.ensures, ← k.ensures))
+    ∙ sym (pick_true _ _ (open_room (goal.at.returns c).Else-not-has_room) ∙ rw (sym c.read_set_up.ensures ∙ c.in-Some.is, ← m.ensures, ← k.ensures))

@@ -24,14 +24,12 @@ pub loop-p-preserved : goal.loop-p-preserved
 unfolding fresh
 loop-p-preserved c =
     let a = c.args in
-    let i = c.loop-p.invariant in
-    (omega arith, i.1, i.2, i.3, rw c.peer_in.ensures (tabulate_turn (read a.words.now) peer_count fresh c.loop-p.engine.peers c.loop-p.p refl (omega arith) i.4))
+    rw c.peer_in.ensures (tabulate_turn (read a.words.now) peer_count fresh c.loop-p.peer-items c.loop-p.p refl (omega arith) c.loop-p.invariant)
 
 pub returns : goal.returns
 unfolding engine_in fresh
 returns c =
     let a = c.args in
-    let i = c.loop-p.invariant in
     let all : c.loop-p.p ≡ peer_count = omega arith in
-    let peers : c.loop-p.engine.peers ≡ tabulate (read a.words.now) peer_count = rw all at i.4 ∙ tabulate_all (read a.words.now) peer_count fresh refl in
-    rw (← i.1, ← i.2, ← i.3, ← peers)
+    let peers : c.loop-p.peer-items ≡ tabulate (read a.words.now) peer_count = rw all at c.loop-p.invariant ∙ tabulate_all (read a.words.now) peer_count fresh refl in
+    rw (← peers)

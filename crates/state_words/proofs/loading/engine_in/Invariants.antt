@@ -1,6 +1,6 @@
 -- `state_words::loading::engine_in` meets its contract. The loop's invariant: the peers passed are those read.
-use Prim.Native.Nat.{ℕ, ◌+◌, ◌-◌, ◌*◌, ◌≤◌}
-use lib.ListN.{get_or, replicate}
+use Prim.Native.Nat.{ℕ, ◌+◌, ◌*◌}
+use lib.ListN.{replicate}
 use lib.Seq.{paste}
 use mathlib.Core.List.{List}
 use mathlib.Core.Path.{◌≡◌}
@@ -20,7 +20,4 @@ abbrev read : List ℕ → ℕ → Peer
 read w p = peer_in w (3 + peer_size * p)
 
 abbrev pub invariant-loop-p : goal.invariant-loop-p
-invariant-loop-p l = (l.p ≤ peer_count) × (l.engine.n ≡ get_or l.words 0 0) × (l.engine.area ≡ get_or l.words 1 0) × (l.engine.limit ≡ get_or l.words 2 0) × (l.engine.peers ≡ paste fresh 0 (tabulate (read l.words) peer_count) l.p)
-
-abbrev pub decreases-loop-p : goal.decreases-loop-p
-decreases-loop-p l = peer_count - l.p
+invariant-loop-p l = l.peer-items ≡ paste fresh 0 (tabulate (read l.words) peer_count) l.p

@@ -1,9 +1,9 @@
 -- `state_words::loading::peer_in` meets its contract. The loop's invariant: the slots passed are those read.
-use Prim.Native.Nat.{ℕ, ◌+◌, ◌*◌}
-use lib.ListN.{replicate}
+use Prim.Native.Nat.{ℕ, ◌+◌, ◌*◌, ◌%◌, ◌^◌}
+use lib.ListN.{get_or, replicate}
 use lib.Seq.{paste-zero}
 use mathlib.Core.List.{List}
-use mathlib.Core.Path.{◌≡◌, refl, ap₂, ◌∙◌}
+use mathlib.Core.Path.{◌≡◌, refl, ap, ◌∙◌}
 use native.Mathlib.Omega.{arith}
 use Rattle.peer.specs.State.{free_slot, fresh_peer, slot_count, slot_with}
 use Rattle.peer.specs.declared.types.Slot.{Slot}
@@ -23,18 +23,18 @@ pub loop-i-init : goal.loop-i-init
 unfolding free fresh_peer
 loop-i-init c =
     let a = c.args in
-    (omega arith, refl, rw c.fresh-peer.ensures (paste-zero free 0 (tabulate (read a.words.now a.at) slot_count)))
+    rw c.fresh-peer.ensures (paste-zero free 0 (tabulate (read a.words.now a.at) slot_count))
 
 pub loop-i-preserved : goal.loop-i-preserved
 unfolding free
 loop-i-preserved c =
     let a = c.args in
-    (omega arith, c.loop-i.invariant.1, rw c.slot_in.ensures (tabulate_turn (read a.words.now a.at) slot_count free c.loop-i.peer.slots c.loop-i.i refl (omega arith) c.loop-i.invariant.2))
+    rw c.slot_in.ensures (tabulate_turn (read a.words.now a.at) slot_count free c.loop-i.slot-items c.loop-i.i refl (omega arith) c.loop-i.invariant)
 
 pub returns : goal.returns
 unfolding peer_in free
 returns c =
     let a = c.args in
     let all : c.loop-i.i ≡ slot_count = omega arith in
-    ap₂ (λ (n : ℕ) (s : List Slot). record { next = n; slots = s }) c.loop-i.invariant.1
-    (rw all at c.loop-i.invariant.2 ∙ tabulate_all (read a.words.now a.at) slot_count free refl)
+    ap (λ (s : List Slot). record { next = get_or a.words.now a.at 0 % 2 ^ 32; slots = s })
+    (rw all at c.loop-i.invariant ∙ tabulate_all (read a.words.now a.at) slot_count free refl)

@@ -1,6 +1,6 @@
 -- `state_words::loading::peer_in` meets its contract. The loop's invariant: the slots passed are those read.
-use Prim.Native.Nat.{ℕ, ◌+◌, ◌-◌, ◌*◌, ◌%◌, ◌^◌, ◌≤◌}
-use lib.ListN.{get_or, replicate}
+use Prim.Native.Nat.{ℕ, ◌+◌, ◌*◌}
+use lib.ListN.{replicate}
 use lib.Seq.{paste}
 use mathlib.Core.List.{List}
 use mathlib.Core.Path.{◌≡◌}
@@ -18,7 +18,4 @@ abbrev read : List ℕ → ℕ → ℕ → Slot
 read w at i = slot_with (phase_in w (at + 1 + 16 * i))
 
 abbrev pub invariant-loop-i : goal.invariant-loop-i
-invariant-loop-i l = (l.i ≤ slot_count) × (l.peer.next ≡ get_or l.words l.at 0 % 2 ^ 32) × (l.peer.slots ≡ paste free 0 (tabulate (read l.words l.at) slot_count) l.i)
-
-abbrev pub decreases-loop-i : goal.decreases-loop-i
-decreases-loop-i l = slot_count - l.i
+invariant-loop-i l = l.slot-items ≡ paste free 0 (tabulate (read l.words l.at) slot_count) l.i

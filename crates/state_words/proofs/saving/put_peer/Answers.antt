@@ -15,7 +15,7 @@ use Rattle.state_words.proofs.saving.put_peer.Goals as goal
 
 pub loop-i-init : goal.loop-i-init
 unfolding flat
-loop-i-init c = (omega arith, refl, sym (store_nothing _ _))
+loop-i-init c = sym (store_nothing _ _)
 
 pub loop-i-preserved : goal.loop-i-preserved
 loop-i-preserved c =
@@ -23,13 +23,10 @@ loop-i-preserved c =
     let w = c.well_formed.0 in
     let len : length a.peer.slots ≡ slot_count = search length_mapped in
     let w = set a.words.now a.at a.peer.next in
-    let fits : a.at + 1 + 16 * length a.peer.slots ≤ length w = simp length-set (omega (arith, len)) in (
-      omega arith,
-      c.put_words.auto.words ∙ c.loop-i.invariant.1,
-      c.put_words.ensures
-          ∙ rw (c.slot_words.ensures, c.loop-i.invariant.2)
-          (flat_turn slot_words 16 a.peer.slots free_slot (λ i h. length_slot _) w (a.at + 1) c.loop-i.i (a.at + 1 + 16 * c.loop-i.i) (omega (arith, len)) refl fits),
-    )
+    let fits : a.at + 1 + 16 * length a.peer.slots ≤ length w = simp length-set (omega (arith, len)) in
+    c.put_words.ensures
+    ∙ rw (c.slot_words.ensures, c.loop-i.invariant)
+    (flat_turn slot_words 16 a.peer.slots free_slot (λ i h. length_slot _) w (a.at + 1) c.loop-i.i (a.at + 1 + 16 * c.loop-i.i) (omega (arith, len)) refl fits)
 
 pub returns : goal.returns
 returns c =
@@ -38,5 +35,5 @@ returns c =
     let len : length a.peer.slots ≡ slot_count = search length_mapped in
     let all : length a.peer.slots ≤ c.loop-i.i = omega (arith, len) in
     let size = length_peer a.peer len in
-    rw (take_all c.loop-i.i a.peer.slots all) at c.loop-i.invariant.2
+    rw (take_all c.loop-i.i a.peer.slots all) at c.loop-i.invariant
     ∙ set_next a.words.now a.at a.peer.next (flat slot_words a.peer.slots) (omega (arith, size))

@@ -29,20 +29,17 @@ slots c i h = slots_each c.args.engine.peers _ c.well_formed.1.0.1.1.0.1.1 i no_
 
 pub loop-p-init : goal.loop-p-init
 unfolding flat
-loop-p-init c = (omega arith, refl, sym (store_nothing _ _))
+loop-p-init c = sym (store_nothing _ _)
 
 pub loop-p-preserved : goal.loop-p-preserved
 loop-p-preserved c =
     let a = c.args in
     let len = eight (goal.at.loop-p-preserved c).Start in
     let w = set (set (set a.words.now 0 a.engine.n) 1 a.engine.area) 2 a.engine.limit in
-    let fits : 3 + peer_size * length a.engine.peers ≤ length w = simp length-set (omega (arith, len, c.requires)) in (
-      omega arith,
-      c.put_peer.auto.words ∙ c.loop-p.invariant.1,
-      c.put_peer.ensures
-          ∙ rw c.loop-p.invariant.2
-          (flat_turn peer_words peer_size a.engine.peers no_peer (λ i h. length_peer (get_or a.engine.peers i no_peer) (slots (goal.at.loop-p-preserved c).Start i h)) w 3 c.loop-p.p (3 + peer_size * c.loop-p.p) (omega (arith, len)) refl fits),
-    )
+    let fits : 3 + peer_size * length a.engine.peers ≤ length w = simp length-set (omega (arith, len, c.requires)) in
+    c.put_peer.ensures
+    ∙ rw c.loop-p.invariant
+    (flat_turn peer_words peer_size a.engine.peers no_peer (λ i h. length_peer (get_or a.engine.peers i no_peer) (slots (goal.at.loop-p-preserved c).Start i h)) w 3 c.loop-p.p (3 + peer_size * c.loop-p.p) (omega (arith, len)) refl fits)
 
 pub returns : goal.returns
 unfolding engine_words
@@ -54,7 +51,7 @@ returns c =
     let len = eight (goal.at.returns c).Start in
     let all : length e.peers ≤ c.loop-p.p = omega (arith, len) in
     let size = length_engine e no_peer len (slots (goal.at.returns c).Start) in
-    rw (take_all c.loop-p.p e.peers all) at c.loop-p.invariant.2
+    rw (take_all c.loop-p.p e.peers all) at c.loop-p.invariant
     ∙ set_next (set (set w 0 e.n) 1 e.area) 2 e.limit rest (simp length-set (omega (arith, size, c.requires)))
     ∙ set_next (set w 0 e.n) 1 e.area (e.limit ∷ rest) (simp length-set (omega (arith, size, c.requires)))
     ∙ set_next w 0 e.n (e.area ∷ e.limit ∷ rest) (omega (arith, size, c.requires)) ∙ store_whole w (engine_words e) (size ∙ sym c.requires)
