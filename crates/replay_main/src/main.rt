@@ -2,8 +2,6 @@
 // the library `replay`: here bytes are read, one call is made, and its text is written.
 #![tactic(auto)]
 
-mod input;
-
 ghost use Rattle.std.specs.Prelude.{◌≡◌, ◌≤◌, length};
 ghost use Rattle.replay_main.specs.Programs.{text_length, program_of};
 
@@ -40,7 +38,7 @@ fn show(rt: &impl Print, trace: &[u8]) -> io::Result<()> {
 fn main(rt: HostRuntime) -> io::Result<()> {
     // one byte more than the longest trace, so that a longer one is seen
     let mut bytes = [0u8; 65537];
-    match input::read(&mut rt.stdin(), &mut bytes) {
+    match input::read_full(&mut rt.stdin(), &mut bytes) {
         Err(_) => eprintln!(rt; "standard input cannot be read"),
         Ok(n) => {
             if LONGEST < n {
