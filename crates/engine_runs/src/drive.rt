@@ -1,6 +1,6 @@
 // What a run hands from call to call, and the calls of the engine.
 use crate::call::{Command, LentLengths};
-use crate::print::{self, Said};
+use crate::print::{self, AnswerLine};
 use engine::{Engine, Ready};
 use peer::{LocalCall, Peer};
 use std::io;
@@ -34,7 +34,7 @@ pub(crate) struct Run {
 
 impl Run {
     // Before the first set-up.
-    pub fn unset() -> Run {
+    pub(crate) fn unset() -> Run {
         Run {
             engine: Engine {
                 peers: [Peer::fresh(); Engine::PEERS],
@@ -70,7 +70,7 @@ impl Run {
             LocalCall::Report(slot) => calls::report(engine, peer, slot, arena, map),
         };
         self.engine = outcome.engine;
-        rt.println(Said(outcome.answer))
+        rt.println(AnswerLine(outcome.answer))
     }
 
     // Hands a packet in, and prints what it is answered, with the reply buffer if that was written to.
@@ -90,12 +90,17 @@ impl Run {
         self.arena = arena;
         self.map = map;
         self.engine = outcome.engine;
-        rt.println(Said(outcome.answer))?;
+        rt.println(AnswerLine(outcome.answer))?;
         print::reply(rt, &reply)
     }
 
     // Does what a line asks for, which has this number.
-    pub fn turn(&mut self, rt: &impl Print, command: Command<'_>, line: usize) -> io::Result<()> {
+    pub(crate) fn turn(
+        &mut self,
+        rt: &impl Print,
+        command: Command<'_>,
+        line: usize,
+    ) -> io::Result<()> {
         match command {
             Command::Bad => println!(rt; "bad line {line}"),
             Command::Title(words) => print::title(rt, words),

@@ -116,7 +116,7 @@ impl PacketBytes {
         Some(())
     }
 
-    pub fn as_slice(&self) -> &[u8] {
+    pub(crate) fn as_slice(&self) -> &[u8] {
         &self.buffer[..self.count]
     }
 }

@@ -5,9 +5,9 @@ use std::{fmt, io};
 
 // An answer, as its line says it.
 #[derive(Clone, Copy)]
-pub(crate) struct Said(pub Answer);
+pub(crate) struct AnswerLine(pub Answer);
 
-impl fmt::Display for Said {
+impl fmt::Display for AnswerLine {
     fn fmt<W: fmt::Write>(&self, f: &mut fmt::Formatter<W>) -> fmt::Result {
         match self.0 {
             Answer::Refused(refusal) => write!(f, "refused {}", refusal.number),
@@ -19,14 +19,14 @@ impl fmt::Display for Said {
                 slot,
                 id,
                 length,
-                cq_data,
-            } => {
-                write!(f, "done {slot} {id} {length}")?;
-                match cq_data {
-                    Some(value) => write!(f, " cq_data {value}"),
-                    None => Ok(()),
-                }
-            }
+                cq_data: None,
+            } => write!(f, "done {slot} {id} {length}"),
+            Answer::Done {
+                slot,
+                id,
+                length,
+                cq_data: Some(value),
+            } => write!(f, "done {slot} {id} {length} cq_data {value}"),
             Answer::Truncated { slot, id, length } => write!(f, "truncated {slot} {id} {length}"),
             Answer::Missing { received, first } => {
                 write!(f, "received {received}, first missing {first}")

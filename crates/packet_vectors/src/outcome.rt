@@ -1,5 +1,5 @@
 // A vector is read, or values are written, and one line says what came of it.
-use crate::print::Said;
+use crate::print::PacketLine;
 use protocol::{Header, PACKET_LIMIT, Packet, Refusal, Span};
 use std::io;
 
@@ -17,7 +17,7 @@ fn answer(rt: &impl Print, name: &[u8], read: Result<Packet, Refusal>) -> io::Re
     rt.write_all(name)?;
     match read {
         Err(refusal) => refused(rt, refusal),
-        Ok(packet) => rt.print(Said(packet)),
+        Ok(packet) => rt.print(PacketLine(packet)),
     }
 }
 

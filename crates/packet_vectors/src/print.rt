@@ -5,9 +5,9 @@ use std::{fmt, io};
 // A packet that was read, as its line says it: its type, its own fields by name and in the order of their
 // table, and where its sections lie. Of a medium packet 01 calls the message's length what table 3.4 calls seg_length.
 #[derive(Clone, Copy)]
-pub(crate) struct Said(pub Packet);
+pub(crate) struct PacketLine(pub Packet);
 
-impl Said {
+impl PacketLine {
     fn fields<W: fmt::Write>(&self, f: &mut fmt::Formatter<W>) -> fmt::Result {
         let v = self.0.header.fields;
         match self.0.shape {
@@ -54,7 +54,7 @@ impl Said {
     }
 }
 
-impl fmt::Display for Said {
+impl fmt::Display for PacketLine {
     fn fmt<W: fmt::Write>(&self, f: &mut fmt::Formatter<W>) -> fmt::Result {
         let packet = self.0;
         write!(f, " type {}", packet.header.kind)?;
