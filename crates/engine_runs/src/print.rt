@@ -53,7 +53,7 @@ fn message(rt: &impl Print, name: &[u8], slot: usize, id: u32, length: usize) ->
 // An answer of one number, or of none.
 fn short_answer(rt: &impl Print, answer: Answer) -> io::Result<()> {
     match answer {
-        Answer::Refused(refusal) => named(rt, b"refused", refusal.number as usize),
+        Answer::Refused(refusal) => named(rt, b"refused", refusal.number() as usize),
         Answer::Posted(slot) => named(rt, b"posted", slot),
         Answer::Cancelled(slot) => named(rt, b"cancelled", slot),
         Answer::Granted(n) => named(rt, b"granted", n),
@@ -90,7 +90,7 @@ pub(crate) fn ready(rt: &impl Print, answer: Ready) -> io::Result<()> {
     match answer {
         Ready::Ready => text(rt, b"set up\n"),
         Ready::Refused(refusal) => {
-            named(rt, b"set-up refused", refusal.number as usize)?;
+            named(rt, b"set-up refused", refusal.number() as usize)?;
             text(rt, b"\n")
         }
     }

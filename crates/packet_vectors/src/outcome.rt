@@ -10,7 +10,7 @@ pub(crate) const FILL: u8 = 0xEE;
 pub(crate) const LARGE: usize = 8200;
 
 fn refused(rt: &impl Print, refusal: Refusal) -> io::Result<()> {
-    print::number(rt, b" refused ", refusal.number as u64)
+    print::number(rt, b" refused ", refusal.number() as u64)
 }
 
 fn raw_address(rt: &impl Print, there: bool, span: Span) -> io::Result<()> {
