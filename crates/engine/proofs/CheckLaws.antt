@@ -19,7 +19,7 @@ use Rattle.engine.specs.Steps.{World, call_turn, peer_turn, refused_turn}
 use Rattle.engine.specs.declared.types.Engine.{Engine}
 use Rattle.engine.specs.declared.types.Gate.{Gate}
 use Rattle.laws.specs.Choose.{pick}
-use Rattle.protocol.specs.declared.types.Refusal.{Refusal}
+use Rattle.protocol.specs.declared.refusals.Refusal.{Refusal}
 use Rattle.peer.specs.Calls.{Call}
 use Rattle.peer.specs.State.{peer_fits, area_limit}
 use Rattle.peer.specs.declared.types.Peer.{Peer}

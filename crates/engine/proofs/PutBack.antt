@@ -13,7 +13,7 @@ use Rattle.engine.specs.declared.types.Gate.{Gate}
 use Rattle.lending.specs.Lending.{Lent, leaves_at}
 use Rattle.engine.specs.Steps.{World, call_turn, peer_turn, put_back, refused_turn, with_peer, words_of}
 use Rattle.engine.specs.declared.types.Engine.{Engine}
-use Rattle.protocol.specs.declared.types.Refusal.{Refusal}
+use Rattle.protocol.specs.declared.refusals.Refusal.{Refusal}
 use Rattle.peer.specs.Calls.{Call, packet, peer_step}
 use Rattle.peer.specs.Effects.{quiet}
 use Rattle.peer.specs.State.{fresh_peer}

@@ -15,6 +15,7 @@ use Rattle.engine.specs.SetUp.{peer_at, set_up}
 use Rattle.engine.specs.Steps.{World, call_turn, words_of}
 use Rattle.engine.specs.declared.types.Engine.{Engine}
 use Rattle.engine.specs.declared.types.Ready.{Ready}
+use Rattle.protocol.specs.Refusals.{number}
 
 -- ---- the numbers and the lengths
 
@@ -37,7 +38,7 @@ WrongLengths n area arena map = (arena ≢ n * area) ⊎ (map ≢ n * area / 64)
 -- what set-up answers: 01's number, or nothing but that it is ready
 abbrev pub ready_says : Ready → Said (Unit {0})
 ready_says Ready.Ready = gives tt
-ready_says (Ready.Refused k) = refused k.number
+ready_says (Ready.Refused k) = refused (number k)
 
 -- 1: "set-up numbers or lent lengths are wrong"
 abbrev pub SetUpFails : ℕ → ℕ → ℕ → ℕ → ℕ → Type 0

@@ -2,7 +2,7 @@
 use Rattle.std.specs.Prelude.{ℕ, ◌+◌, ◌*◌, ◌/◌, List, [], length, set, ltb}
 use Rattle.laws.specs.Choose.{pick}
 use Rattle.laws.specs.Parts.{part, store_at}
-use Rattle.protocol.specs.declared.types.Refusal.{Refusal}
+use Rattle.protocol.specs.declared.refusals.Refusal.{Refusal}
 use Rattle.protocol.specs.Refusals.{bad_lent, bad_peer, bad_state}
 use Rattle.peer.specs.declared.types.Peer.{Peer}
 use Rattle.peer.specs.declared.types.Answer.{Answer}

@@ -5,7 +5,7 @@ ghost use Rattle.engine.specs.SetUp.{numbers_fit, lent_fits};
 
 use crate::types::{Engine, Gate};
 use peer::Peer;
-use protocol::{BAD_LENT, BAD_PEER, BAD_STATE, PACKET_LIMIT};
+use protocol::{PACKET_LIMIT, Refusal};
 
 // The limits of the three set-up numbers.
 pub fn numbers_fit(n: usize, area: usize, limit: usize) -> bool
@@ -49,13 +49,13 @@ pub(crate) fn gate(fits: bool, n: usize, area: usize, arena: usize, map: usize, 
     ensures { result ≡ gate_of fits n area arena map peer }
 {
     if !fits {
-        return Gate::Refused(BAD_STATE);
+        return Gate::Refused(Refusal::BadState);
     }
     if !lent_fits(n, area, arena, map) {
-        return Gate::Refused(BAD_LENT);
+        return Gate::Refused(Refusal::BadLent);
     }
     if n <= peer {
-        return Gate::Refused(BAD_PEER);
+        return Gate::Refused(Refusal::BadPeer);
     }
     Gate::Open
 }

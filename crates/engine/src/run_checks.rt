@@ -6,7 +6,7 @@ ghost use Rattle.engine.specs.SetUp.{engine_fits, numbers_fit};
 
 use crate::checks;
 use crate::types::{Engine, Gate};
-use protocol::BAD_STATE;
+use protocol::Refusal;
 
 // Whether the state can be.
 pub fn fits(engine: Engine) -> bool
@@ -38,7 +38,7 @@ pub fn admit(
     ensures { result ≡ gate_of (good && numbers_fit n area limit) n area arena map peer }
 {
     if !good {
-        return Gate::Refused(BAD_STATE);
+        return Gate::Refused(Refusal::BadState);
     }
     let numbers = checks::numbers_fit(n, area, limit);
     checks::gate(numbers, n, area, arena, map, peer)

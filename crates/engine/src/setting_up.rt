@@ -5,7 +5,7 @@ ghost use Rattle.engine.specs.SetUp.{engine_of, not_started, set_up};
 use crate::checks;
 use crate::types::{Engine, Ready, Started};
 use peer::Peer;
-use protocol::BAD_SET_UP;
+use protocol::Refusal;
 
 // An engine whose peers are fresh.
 fn fresh(n: usize, area: usize, limit: usize) -> Engine
@@ -25,7 +25,7 @@ fn refused() -> Started
     ensures { (map : List ℕ) → record { started = result; map = map } ≡ not_started map }
 {
     Started {
-        answer: Ready::Refused(BAD_SET_UP),
+        answer: Ready::Refused(Refusal::BadSetUp),
         engine: fresh(0, 0, 0),
     }
 }

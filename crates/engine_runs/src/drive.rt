@@ -55,7 +55,7 @@ impl Run {
         self.engine = started.engine;
         match started.answer {
             Ready::Ready => println!(rt; "set up"),
-            Ready::Refused(refusal) => println!(rt; "set-up refused {}", refusal.number),
+            Ready::Refused(refusal) => println!(rt; "set-up refused {}", refusal.number()),
         }
     }
 

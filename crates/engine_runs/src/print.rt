@@ -10,7 +10,7 @@ pub(crate) struct AnswerLine(pub Answer);
 impl fmt::Display for AnswerLine {
     fn fmt<W: fmt::Write>(&self, f: &mut fmt::Formatter<W>) -> fmt::Result {
         match self.0 {
-            Answer::Refused(refusal) => write!(f, "refused {}", refusal.number),
+            Answer::Refused(refusal) => write!(f, "refused {}", refusal.number()),
             Answer::Posted(slot) => write!(f, "posted {slot}"),
             Answer::Cancelled(slot) => write!(f, "cancelled {slot}"),
             Answer::Stored => write!(f, "stored"),

@@ -16,7 +16,7 @@ use Rattle.engine.proofs.CheckLaws.{Gated, Passed, fit_numbers, gate_open, opene
 use Rattle.engine.proofs.OthersHold.{checked_good}
 use Rattle.engine.proofs.WorldTurns.{good_called}
 use Rattle.engine.proofs.Worlds.{Good, good_fits}
-use Rattle.protocol.specs.declared.types.Refusal.{Refusal}
+use Rattle.protocol.specs.declared.refusals.Refusal.{Refusal}
 use Rattle.engine.specs.Sentences.{Eights}
 
 pub record CheckedOnce (good : Bool) (e : Engine) : Type 0 where

@@ -10,7 +10,7 @@ use mathlib.Core.Logic.{◌⊎◌, inl, inr, ⊎_elim}
 use mathlib.Core.Path.{◌≡◌, refl, sym, ap, ◌∙◌}
 use native.Mathlib.Decide.{dec_lt}
 use native.Mathlib.Omega.{arith}
-use Rattle.protocol.specs.Refusals.{bad_lent, bad_peer, bad_state}
+use Rattle.protocol.specs.Refusals.{bad_lent, bad_peer, bad_state, number}
 use Rattle.engine.specs.Checks.{ready_says}
 use Rattle.engine.specs.SetUp.{Prepared, engine_fits, lent_fits, not_started, numbers_fit, peer_at, set_up}
 use Rattle.engine.specs.Steps.{Turn, World, call_turn, peer_turn, put_back, refused_turn, with_peer, words_of}
@@ -22,7 +22,7 @@ use Rattle.guarantees.specs.Runs.{world_after}
 use Rattle.guarantees.specs.Receiving.{fresh_world, receiving, turn_of}
 use Rattle.laws.specs.Parts.{store_at}
 use Rattle.protocol.specs.Checks.{refused}
-use Rattle.protocol.specs.declared.types.Refusal.{Refusal}
+use Rattle.protocol.specs.declared.refusals.Refusal.{Refusal}
 use Rattle.peer.specs.Effects.{Effect, refuse}
 use Rattle.peer.specs.Refusing.{among, refusals_of}
 use Rattle.peer.specs.State.{fresh_peer}
@@ -38,12 +38,12 @@ use Rattle.peer.proofs.PeerSteps.StepCases.{step_refusing}
 -- a turn that is a refusal leaves all
 abbrev Leaves : World → LentCall → Turn → Type 0
 Leaves w a t =
-    (k : Refusal) → t.answer ≡ Answer.Refused k → (among (list_for a) k.number ≡ true) × (t.world ≡ w) × (t.reply ≡ [])
+    (k : Refusal) → t.answer ≡ Answer.Refused k → (among (list_for a) (number k) ≡ true) × (t.world ≡ w) × (t.reply ≡ [])
 
-refused_leaves : (w : World) (a : LentCall) (m : Refusal) → among (list_for a) m.number ≡ true → Leaves w a (refused_turn w m)
+refused_leaves : (w : World) (a : LentCall) (m : Refusal) → among (list_for a) (number m) ≡ true → Leaves w a (refused_turn w m)
 refused_leaves w a m e k x =
     let is : m ≡ k = cc in
-    (ap (λ (n : Refusal). among (list_for a) n.number) (sym is) ∙ e, refl, refl)
+    (ap (λ (n : Refusal). among (list_for a) (number n)) (sym is) ∙ e, refl, refl)
 
 -- the peer's own refusal, put back
 own_leaves : (w : World) (p : ℕ) (a : LentCall) → lent_fits w.engine.n w.engine.area (length w.arena) (length w.map) ≡ true → p < w.engine.n
@@ -51,7 +51,7 @@ own_leaves : (w : World) (p : ℕ) (a : LentCall) → lent_fits w.engine.n w.eng
 unfolding peer_turn
 own_leaves w p a e h k x =
     let r = step_refusing w.engine.area w.engine.limit (peer_at w.engine p) (words_of w p) (call_of a) k (unfold put_back in x) in
-    (wider k.number r.1, ap (λ (f : Effect). (put_back w p f).world) r.0 ∙ back, ap (λ (f : Effect). (put_back w p f).reply) r.0 ∙ (unfold put_back in refl))
+    (wider (number k) r.1, ap (λ (f : Effect). (put_back w p f).world) r.0 ∙ back, ap (λ (f : Effect). (put_back w p f).reply) r.0 ∙ (unfold put_back in refl))
   where
     wider : (n : ℕ) → among (refusals_of (call_of a)) n ≡ true → among (list_for a) n ≡ true
     wider n y = ap (λ (t : Bool). eqb 2 n || (eqb 3 n || (eqb 4 n || t))) y ∙ (rw (or-true, or-true, or-true))
@@ -96,12 +96,12 @@ refused_set_up n area limit arena map k =
 
 -- a call in a good world is refused 4, or by its peer
 good_refusal : (w : World) → Good w → (p : ℕ) (a : LentCall) (k : Refusal) → (call_turn w p (call_of a)).answer ≡ Answer.Refused k
-    → (k.number ≡ 4) ⊎ (among (refusals_of (call_of a)) k.number ≡ true)
-good_refusal w g p a k e = elim (dec_lt p w.engine.n) as (λ d. (k.number ≡ 4) ⊎ (among (refusals_of (call_of a)) k.number ≡ true)) [
+    → (number k ≡ 4) ⊎ (among (refusals_of (call_of a)) (number k) ≡ true)
+good_refusal w g p a k e = elim (dec_lt p w.engine.n) as (λ d. (number k ≡ 4) ⊎ (among (refusals_of (call_of a)) (number k) ≡ true)) [
   | yes h ↦ inr (step_refusing w.engine.area w.engine.limit (peer_at w.engine p) (words_of w p) (call_of a) k
       (sym (ap (λ (t : Turn). t.answer) (turn_own w g p h (call_of a)) ∙ (unfold put_back in refl)) ∙ e)).1
   | no h ↦ inl (let is : Answer.Refused bad_peer ≡ Answer.Refused k = sym (ap (λ (t : Turn). t.answer) (turn_none w g p (omega (arith, h)) (call_of a))) ∙ e in
-      ap (λ (m : Refusal). m.number) (let same : bad_peer ≡ k = cc in sym same))
+      ap (λ (m : Refusal). number m) (let same : bad_peer ≡ k = cc in sym same))
 ]
 
 -- 2 and 3 are in no peer's list
@@ -121,5 +121,5 @@ never_bad_state n area limit arena map ready before q k e = (
     w : World
     w = world_after receiving (fresh_world n area limit arena map) before
 
-    refusal : (k.number ≡ 4) ⊎ (among (refusals_of (call_of q.call)) k.number ≡ true)
+    refusal : (number k ≡ 4) ⊎ (among (refusals_of (call_of q.call)) (number k) ≡ true)
     refusal = good_refusal w (good_after (fresh_world n area limit arena map) before (fresh_good n area limit arena map ready)) q.peer q.call k e

@@ -12,7 +12,7 @@ use Rattle.peer.specs.Calls.{Call, call_of, peer_step}
 use Rattle.peer.specs.LentCalls.{buffer_of}
 use Rattle.guarantees.specs.Receiving.{LentRequest, turn_of}
 use Rattle.laws.specs.Parts.{store_at}
-use Rattle.protocol.specs.declared.types.Refusal.{Refusal}
+use Rattle.protocol.specs.declared.refusals.Refusal.{Refusal}
 use Rattle.laws.proofs.Choosing.{pick_either}
 use Rattle.laws.proofs.Storing.{drop_store, length_store, store_nothing}
 use Rattle.peer.specs.Effects.{Effect}

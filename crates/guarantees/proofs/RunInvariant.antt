@@ -10,7 +10,7 @@ use native.Mathlib.Omega.{arith}
 use Rattle.laws.specs.Parts.{store_at}
 use Rattle.laws.proofs.Listing.{get_d_any}
 use Rattle.laws.proofs.Storing.{length_part, length_store, store_next, store_nothing}
-use Rattle.protocol.specs.declared.types.Refusal.{Refusal}
+use Rattle.protocol.specs.declared.refusals.Refusal.{Refusal}
 use Rattle.peer.specs.Calls.{call_of, peer_step}
 use Rattle.peer.specs.State.{fresh_peer}
 use Rattle.peer.specs.declared.types.Answer.{Answer}

@@ -2,7 +2,7 @@
 -- were." Proved in proofs/Refused.antt.
 use Rattle.std.specs.Prelude.{ℕ, ◌≡◌, List, ◌∷◌, true, length}
 use Rattle.protocol.specs.Checks.{refused}
-use Rattle.protocol.specs.declared.types.Refusal.{Refusal}
+use Rattle.protocol.specs.declared.refusals.Refusal.{Refusal}
 use Rattle.peer.specs.declared.types.Answer.{Answer}
 use Rattle.peer.specs.Refusing.{refusals_of, among}
 use Rattle.engine.specs.declared.types.Ready.{Ready}
@@ -13,6 +13,7 @@ use Rattle.peer.specs.Calls.{LentCall, call_of}
 use Rattle.peer.specs.LentCalls.{buffer_of}
 use Rattle.guarantees.specs.Runs.{world_after}
 use Rattle.guarantees.specs.Receiving.{LentRequest, buffer_after, fresh_world, receiving, turn_of}
+use Rattle.protocol.specs.Refusals.{number}
 
 -- the refusals of each call, in their order: 2, 3 and 4, then the peer's own
 abbrev pub list_for : LentCall → List ℕ
@@ -23,7 +24,7 @@ unfoldable pub RefusedLeavesAll : Type 0
 RefusedLeavesAll =
     (w : World) (q : LentRequest) (k : Refusal)
     → (turn_of w q).answer ≡ Answer.Refused k
-    → (among (list_for q.call) k.number ≡ true)
+    → (among (list_for q.call) (number k) ≡ true)
     × ((turn_of w q).world ≡ w)
     × (buffer_after w q ≡ buffer_of q.call)
 
@@ -41,4 +42,4 @@ NeverBadState =
     → (set_up n area limit (length arena) map).started.answer ≡ Ready.Ready
     → (before : List LentRequest) (q : LentRequest) (k : Refusal)
     → (turn_of (world_after receiving (fresh_world n area limit arena map) before) q).answer ≡ Answer.Refused k
-    → (k.number ≡ 2 → ⊥) × (k.number ≡ 3 → ⊥)
+    → (number k ≡ 2 → ⊥) × (number k ≡ 3 → ⊥)

@@ -5,7 +5,7 @@ ghost use Rattle.peer.specs.Calls.{missing_in, report_effect};
 ghost use Rattle.peer.specs.Effects.{quiet};
 
 use peer::{Answer, Inbound, Peer, Phase};
-use protocol::BAD_SLOT;
+use protocol::Refusal;
 
 // How many bytes of the message are in, and the first that is not.
 fn missing(inbound: Inbound, words: &[u64]) -> Answer
@@ -28,13 +28,13 @@ pub(crate) fn report(peer: Peer, slot: usize, words: &[u64]) -> Answer
     ensures { quiet peer words.now result ≡ report_effect peer words.now slot }
 {
     if Peer::SLOTS <= slot {
-        return Answer::Refused(BAD_SLOT);
+        return Answer::Refused(Refusal::BadSlot);
     }
     let there = peer.slots[slot];
     let phase = there.phase;
     match phase {
-        Phase::Free => Answer::Refused(BAD_SLOT),
-        Phase::Posted(_, _) => Answer::Refused(BAD_SLOT),
+        Phase::Free => Answer::Refused(Refusal::BadSlot),
+        Phase::Posted(_, _) => Answer::Refused(Refusal::BadSlot),
         Phase::Open(inbound) => missing(inbound, words),
     }
 }

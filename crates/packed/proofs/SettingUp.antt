@@ -5,15 +5,15 @@ use lib.ListN.{length}
 use mathlib.Core.List.{List}
 use mathlib.Core.Path.{◌≡◌, sym, ap, ◌∙◌}
 use Rattle.laws.proofs.Choosing.{pick_false, pick_true}
-use Rattle.protocol.specs.Refusals.{bad_set_up}
-use Rattle.protocol.specs.declared.types.Refusal.{Refusal}
+use Rattle.protocol.specs.Refusals.{bad_set_up, number}
+use Rattle.protocol.specs.declared.refusals.Refusal.{Refusal}
 use Rattle.engine.specs.SetUp.{Prepared, set_up}
 use Rattle.engine.specs.declared.types.Ready.{Ready}
 use Rattle.state_words.specs.Saving.{engine_words, state_size}
 use Rattle.packed.specs.Starting.{start_of, started_as}
 
 module _ (n area limit arena : ℕ) (map state : List ℕ) where
-  pub start_short : (length state ≡ state_size → ⊥) → record { refusal = bad_set_up.number; map = map; state = state } ≡ start_of n area limit arena map state
+  pub start_short : (length state ≡ state_size → ⊥) → record { refusal = number bad_set_up; map = map; state = state } ≡ start_of n area limit arena map state
   unfolding start_of
   start_short h = sym (pick_false _ _ (ne_eqb (length state) state_size h))
 
@@ -23,7 +23,7 @@ module _ (n area limit arena : ℕ) (map state : List ℕ) where
     started = ap (λ (p : Prepared). started_as state p p.started.answer) e ∙ sym (pick_true _ _ (eq-eqb (length state) state_size h))
 
     pub start_refused : (k : Refusal) → p.started.answer ≡ Ready.Refused k
-        → record { refusal = k.number; map = p.map; state = state } ≡ start_of n area limit arena map state
+        → record { refusal = number k; map = p.map; state = state } ≡ start_of n area limit arena map state
     start_refused k z = rw z at started
 
     pub start_ready : p.started.answer ≡ Ready.Ready

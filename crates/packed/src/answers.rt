@@ -27,7 +27,7 @@ fn answer_words(answer: Answer) -> [u64; WORDS]
     ensures { result ≡ answer_words answer }
 {
     match answer {
-        Answer::Refused(refusal) => [0, refusal.number as u64, 0, 0, 0, 0, 0, 0],
+        Answer::Refused(refusal) => [0, refusal.number() as u64, 0, 0, 0, 0, 0, 0],
         Answer::Posted(slot) => [1, slot as u64, 0, 0, 0, 0, 0, 0],
         Answer::Cancelled(slot) => [2, slot as u64, 0, 0, 0, 0, 0, 0],
         Answer::Stored => [3, 0, 0, 0, 0, 0, 0, 0],

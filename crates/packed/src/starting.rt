@@ -3,6 +3,7 @@ ghost use Rattle.std.specs.Prelude.{◌≡◌, length};
 ghost use Rattle.packed.specs.Starting.{start_of};
 
 use engine::Ready;
+use protocol::Refusal;
 
 // Clears the map and writes the state of an engine of n peers, and answers 0; or answers the number
 // of a refusal, and leaves map and state.
@@ -17,13 +18,13 @@ pub fn set_up(
     ensures { record { refusal = result; map = map.new; state = state.new } ≡ start_of n area limit (length arena.now) map.old state.old }
 {
     if state.len() != state_words::STATE {
-        return 1;
+        return Refusal::BadSetUp.number() as usize;
     }
     let started = engine::set_up(n, area, limit, arena, map);
     let answer = started.answer;
     let engine = started.engine;
     match answer {
-        Ready::Refused(refusal) => refusal.number as usize,
+        Ready::Refused(refusal) => refusal.number() as usize,
         Ready::Ready => {
             state_words::save(state, engine);
             0

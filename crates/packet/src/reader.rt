@@ -7,10 +7,7 @@ ghost use Rattle.protocol.specs.Limits.{packet_limit};
 
 use crate::limits::VERSION;
 use headers::{flags, layout, lengths, options, sections, table};
-use protocol::{
-    ABOVE_LIMIT, BAD_FLAGS, BAD_LENGTH, BAD_TYPE, BAD_VERSION, CONNID, CUT_SHORT, Header,
-    PACKET_LIMIT, Packet, Refusal, Sections, Span, TypeRow,
-};
+use protocol::{CONNID, Header, PACKET_LIMIT, Packet, Refusal, Sections, Span, TypeRow};
 use wire::LittleEndian;
 
 // The numbers of a packet whose sections are known.
@@ -45,7 +42,7 @@ fn whole(row: TypeRow, flags: u16, bytes: &[u8], at: Sections) -> Result<Packet,
     let shape = row.shape;
     let fields = header.fields;
     if !lengths::fit(shape, fields, size) {
-        return Err(BAD_LENGTH);
+        return Err(Refusal::BadLength);
     }
     let raw_address = at.raw;
     Ok(Packet {
@@ -65,10 +62,10 @@ fn typed(row: TypeRow, bytes: &[u8]) -> Result<Packet, Refusal>
 {
     let flags = u16::read(bytes, 2);
     if !flags::fit(row, flags) {
-        return Err(BAD_FLAGS);
+        return Err(Refusal::BadFlags);
     }
     let Some(at) = sections::find(row, flags, bytes) else {
-        return Err(CUT_SHORT);
+        return Err(Refusal::CutShort);
     };
     whole(row, flags, bytes, at)
 }
@@ -78,16 +75,16 @@ fn among(bytes: &[u8], limit: usize, all: bool) -> Result<Packet, Refusal>
 {
     let n = bytes.len();
     if limit < n {
-        return Err(ABOVE_LIMIT);
+        return Err(Refusal::AboveLimit);
     }
     if n < 4 {
-        return Err(CUT_SHORT);
+        return Err(Refusal::CutShort);
     }
     if bytes[1] != VERSION {
-        return Err(BAD_VERSION);
+        return Err(Refusal::BadVersion);
     }
     let Some(row) = table::find_among(bytes[0], all) else {
-        return Err(BAD_TYPE);
+        return Err(Refusal::BadType);
     };
     typed(row, bytes)
 }

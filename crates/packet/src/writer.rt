@@ -12,9 +12,7 @@ ghost use Rattle.protocol.specs.Limits.{packet_limit};
 
 use crate::limits::VERSION;
 use headers::{arrays, flags, layout, lengths, options, sections, table};
-use protocol::{
-    ABOVE_LIMIT, BAD_FLAGS, BAD_LENGTH, BAD_TYPE, Header, NO_ROOM, PACKET_LIMIT, Refusal, TypeRow,
-};
+use protocol::{Header, PACKET_LIMIT, Refusal, TypeRow};
 use wire::LittleEndian;
 
 // The bytes of the headers without the raw address.
@@ -140,17 +138,17 @@ fn typed(
     ensures { record { answer = result; out = out.new } ≡ write_as row header array.now raw.now «data».now out.old }
 {
     if !may_have(row, header, array.len()) {
-        return Err(BAD_FLAGS);
+        return Err(Refusal::BadFlags);
     }
     if !lengths_fit(row, header, array.len(), data.len()) {
-        return Err(BAD_LENGTH);
+        return Err(Refusal::BadLength);
     }
     let flags = flags::written(row, header);
     let Some(n) = total(row, flags, array.len(), raw.len(), data.len()) else {
-        return Err(ABOVE_LIMIT);
+        return Err(Refusal::AboveLimit);
     };
     if out.len() < n {
-        return Err(NO_ROOM);
+        return Err(Refusal::NoRoom);
     }
     put(out, row, header, flags, array, raw, data);
     Ok(n)
@@ -163,7 +161,7 @@ pub fn write(header: Header, raw_address: &[u8], data: &[u8], out: &mut [u8]) ->
     ensures { record { answer = result; out = out.new } ≡ write_of header raw_address.now «data».now out.old }
 {
     let Some(row) = table::find(header.kind) else {
-        return Err(BAD_TYPE);
+        return Err(Refusal::BadType);
     };
     typed(row, header, &[], raw_address, data, out)
 }

@@ -10,7 +10,7 @@ pub(crate) const FILL: u8 = 0xEE;
 pub(crate) const LARGE: usize = 8200;
 
 fn refused(rt: &impl Print, refusal: Refusal) -> io::Result<()> {
-    print!(rt; " refused {}", refusal.number)
+    print!(rt; " refused {}", refusal.number())
 }
 
 fn answer(rt: &impl Print, name: &[u8], read: Result<Packet, Refusal>) -> io::Result<()> {

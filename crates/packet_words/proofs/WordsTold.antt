@@ -23,7 +23,7 @@ use Rattle.protocol.specs.Values.{Values, own_numbers, values_in}
 use Rattle.protocol.specs.Values as packets
 use Rattle.protocol.specs.declared.types.Fields.{Fields}
 use Rattle.protocol.specs.declared.types.Packet.{Packet}
-use Rattle.protocol.specs.declared.types.Refusal.{Refusal}
+use Rattle.protocol.specs.declared.refusals.Refusal.{Refusal}
 use Rattle.laws.proofs.Choosing.{pick_false, pick_true}
 use Rattle.laws.proofs.Comparing.{le_or_lt}
 use Rattle.laws.proofs.Storing.{store_start}
@@ -36,6 +36,7 @@ use Rattle.packet_words.specs.Writing.{field_word, type_word}
 use Rattle.packet_words.proofs.Rows.{own_fields_lem, own_of}
 use Rattle.protocol.specs.Limits.{packet_limit}
 use Rattle.protocol.specs.declared.table.TypeRow.{TypeRow}
+use Rattle.protocol.specs.Refusals.{number}
 
 -- ---- values
 
@@ -125,10 +126,10 @@ some_number reader.header_cut = lit< tt
 some_number reader.wrong_lengths = lit< tt
 
 -- no refusal has the number 0
-no_refusal : (bs : List ℕ) (k : Refusal) → read_of every_row packet_limit bs ≡ Err k → k.number ≡ 0 → ⊥
+no_refusal : (bs : List ℕ) (k : Refusal) → read_of every_row packet_limit bs ≡ Err k → number k ≡ 0 → ⊥
 unfolding RefusedByFirstToFail
 no_refusal bs k e z =
-    let (i, l, same, f) = (refused_by_first_to_fail true packet_limit bs k.number).0 (ap (read_says bs) e) in
+    let (i, l, same, f) = (refused_by_first_to_fail true packet_limit bs (number k)).0 (ap (read_says bs) e) in
     omega (arith, some_number (reader.check_at i))
 
 module _ (bs values : List ℕ) where
@@ -142,7 +143,7 @@ module _ (bs values : List ℕ) where
 
   same_said : (o : Result Packet Refusal) → read_of every_row packet_limit bs ≡ o → took_says bs (took_as values o) ≡ read_says bs o
   unfolding took_says
-  same_said (Err k) e = pick_false _ _ (ne_eqb k.number 0 (no_refusal bs k e))
+  same_said (Err k) e = pick_false _ _ (ne_eqb (number k) 0 (no_refusal bs k e))
   same_said (Ok p) e = pick_true _ _ refl ∙ ap gives (words_told values p bs)
 
 pub reads_into_words : ReadsIntoWords
@@ -164,8 +165,8 @@ refused_read_changes_nothing bs values n e = ⊎_elim (λ l. read l (read_of eve
 
     read : 19 ≤ length values → (o : Result Packet Refusal) → read_of every_row packet_limit bs ≡ o → read_into bs values ≡ record { refusal = n; values = values }
     read l (Err k) y =
-        let x : refused k.number ≡ refused n = sym ((reads_into_words bs values).0 l ∙ ap (read_says bs) y) ∙ e in
-        let same : k.number ≡ n = cc in
+        let x : refused (number k) ≡ refused n = sym ((reads_into_words bs values).0 l ∙ ap (read_says bs) y) ∙ e in
+        let same : number k ≡ n = cc in
         enough bs values l ∙ ap (took_as values) y ∙ ap (λ (k : ℕ). record { refusal = k; values = values }) same
     read l (Ok p) y =
         let x : gives (values_in p bs) ≡ refused n = sym ((reads_into_words bs values).0 l ∙ ap (read_says bs) y) ∙ e in

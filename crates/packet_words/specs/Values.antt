@@ -2,7 +2,7 @@
 use Rattle.std.specs.Prelude.{ℕ, List, [], ◌∷◌, length, leb, Result, Ok, Err}
 use Rattle.laws.specs.Choose.{pick}
 use Rattle.laws.specs.Parts.{store_at}
-use Rattle.protocol.specs.Refusals.{no_room}
+use Rattle.protocol.specs.Refusals.{no_room, number}
 use Rattle.protocol.specs.declared.types.Fields.{Fields}
 use Rattle.protocol.specs.declared.types.Header.{Header}
 use Rattle.protocol.specs.declared.types.Packet.{Packet}
@@ -10,7 +10,7 @@ use Rattle.protocol.specs.Reading.{read_of}
 use Rattle.protocol.specs.Types.{every_row}
 use Rattle.protocol.specs.Limits.{packet_limit}
 use Rattle.words.specs.Presence.{bool_bit, option_bit, option_value}
-use Rattle.protocol.specs.declared.types.Refusal.{Refusal}
+use Rattle.protocol.specs.declared.refusals.Refusal.{Refusal}
 
 abbrev pub value_count : ℕ
 value_count = 19
@@ -29,10 +29,10 @@ pub record Took : Type 0 where
   pub values : List ℕ
 
 abbrev pub took_as : List ℕ → Result Packet Refusal → Took
-took_as values (Err k) = record { refusal = k.number; values = values }
+took_as values (Err k) = record { refusal = number k; values = values }
 took_as values (Ok p) = record { refusal = 0; values = store_at values 0 (value_words p) }
 
 -- with too few words nothing is read
 unfoldable pub read_into : List ℕ → List ℕ → Took
 read_into bytes values =
-    pick (leb value_count (length values)) (took_as values (read_of every_row packet_limit bytes)) (record { refusal = no_room.number; values = values })
+    pick (leb value_count (length values)) (took_as values (read_of every_row packet_limit bytes)) (record { refusal = number no_room; values = values })

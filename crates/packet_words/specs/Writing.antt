@@ -2,7 +2,7 @@
 -- Too few words come first. Only the type's own fields are looked at.
 use Rattle.std.specs.Prelude.{ℕ, ◌%◌, ◌^◌, List, [], ◌∷◌, Bool, true, not, ◌&&◌, length, get_or, leb, ltb, eqb, Option, Some, None, Result, Ok, Err}
 use Rattle.laws.specs.Choose.{pick}
-use Rattle.protocol.specs.Refusals.{bad_flags, bad_length, bad_type, no_room}
+use Rattle.protocol.specs.Refusals.{bad_flags, bad_length, bad_type, no_room, number}
 use Rattle.protocol.specs.declared.table.TypeRow.{TypeRow}
 use Rattle.protocol.specs.declared.types.Fields.{Fields}
 use Rattle.protocol.specs.declared.types.Header.{Header}
@@ -11,7 +11,7 @@ use Rattle.protocol.specs.Optional.{options_fit}
 use Rattle.protocol.specs.Types.{row_of}
 use Rattle.protocol.specs.Writing.{WriteLeaves, write_of}
 use Rattle.packet_words.specs.Values.{value_count}
-use Rattle.protocol.specs.declared.types.Refusal.{Refusal}
+use Rattle.protocol.specs.declared.refusals.Refusal.{Refusal}
 
 -- ---- the words of the values
 
@@ -116,7 +116,7 @@ pub record Put : Type 0 where
   pub size : ℕ
 
 abbrev pub put_as : ℕ → List ℕ → Result ℕ Refusal → Put
-put_as size out (Err k) = record { refusal = k.number; out = out; size = size }
+put_as size out (Err k) = record { refusal = number k; out = out; size = size }
 put_as size out (Ok n) = record { refusal = 0; out = out; size = n }
 
 -- of what the packet writer leaves
@@ -129,15 +129,15 @@ refused_put k out size = record { refusal = k; out = out; size = size }
 -- 9; then 10 (an optional header its type can't have); then a number that its field cannot hold, the first cause of 11; then the packet
 -- writer's own checks: lengths 11, 6, 21
 unfoldable pub put_typed : Option TypeRow → List ℕ → List ℕ → List ℕ → List ℕ → ℕ → Put
-put_typed None v raw body out size = refused_put bad_type.number out size
+put_typed None v raw body out size = refused_put (number bad_type) out size
 put_typed (Some r) v raw body out size =
     pick (options_fit r (words_header v))
     (pick (words_fit r v)
     (put_of size (write_of (words_header v) raw body out))
-    (refused_put bad_length.number out size))
-    (refused_put bad_flags.number out size)
+    (refused_put (number bad_length) out size))
+    (refused_put (number bad_flags) out size)
 
 -- with too few words nothing is written
 unfoldable pub write_from : List ℕ → List ℕ → List ℕ → List ℕ → ℕ → Put
 write_from v raw body out size =
-    pick (leb value_count (length v)) (put_typed (row_of (type_word v)) v raw body out size) (refused_put no_room.number out size)
+    pick (leb value_count (length v)) (put_typed (row_of (type_word v)) v raw body out size) (refused_put (number no_room) out size)

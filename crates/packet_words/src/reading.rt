@@ -2,8 +2,8 @@
 ghost use Rattle.std.specs.Prelude.{◌≡◌};
 ghost use Rattle.packet_words.specs.Values.{value_words, read_into};
 
-use crate::types::{FEW_WORDS, TAKEN, VALUES};
-use protocol::Packet;
+use crate::types::{TAKEN, VALUES};
+use protocol::{Packet, Refusal};
 
 fn value_words(packet: Packet) -> [u64; 19]
     ensures { result ≡ value_words packet }
@@ -43,10 +43,10 @@ pub fn read(bytes: &[u8], values: &mut [u64]) -> usize
     ensures { record { refusal = result; values = values.new } ≡ read_into bytes.now values.old }
 {
     if values.len() < VALUES {
-        return FEW_WORDS;
+        return Refusal::NoRoom.number() as usize;
     }
     match packet::read(bytes) {
-        Err(refusal) => refusal.number as usize,
+        Err(refusal) => refusal.number() as usize,
         Ok(packet) => {
             words::put_words(values, 0, &value_words(packet));
             TAKEN

@@ -1,13 +1,13 @@
 // A packet is written from words.
-ghost use Rattle.std.specs.Prelude.{◌≡◌, ◌≤◌, length};
+ghost use Rattle.std.specs.Prelude.{ℕ, ◌≡◌, ◌≤◌, length};
 ghost use Rattle.protocol.specs.Layout.{own_fields};
 ghost use Rattle.protocol.specs.Optional.{options_fit};
 ghost use Rattle.protocol.specs.Rules.{Sound};
 ghost use Rattle.protocol.specs.Writing.{write_of};
-ghost use Rattle.packet_words.specs.Writing.{all_narrow, fields_fit, holds, words_fit, words_fields, words_cq, words_connid, words_header, put_of, put_typed, write_from};
+ghost use Rattle.packet_words.specs.Writing.{all_narrow, fields_fit, holds, words_fit, words_fields, words_cq, words_connid, words_header, put_as, put_typed, write_from};
 
-use crate::types::{BAD_NUMBER, BAD_OPTION, BAD_TYPE, FEW_WORDS, TAKEN, VALUES};
-use protocol::{CREDIT_REQUEST, Fields, Header, MSG_ID, RECV_ID, SEND_ID, TypeRow};
+use crate::types::{TAKEN, VALUES};
+use protocol::{CREDIT_REQUEST, Fields, Header, MSG_ID, RECV_ID, Refusal, SEND_ID, TypeRow};
 
 // The least number that 32 bits do not hold.
 const WIDE: u64 = 0x1_0000_0000;
@@ -146,18 +146,11 @@ fn write_header(
     raw_address: &[u8],
     data: &[u8],
     out: &mut [u8],
-    size: &mut usize,
-) -> usize
+) -> Result<usize, Refusal>
     requires { 19 ≤ length values.now }
-    ensures { record { refusal = result; out = out.new; size = size.new } ≡ put_of size.old (write_of (words_header values.now) raw_address.now «data».now out.old) }
+    ensures { record { answer = result; out = out.new } ≡ write_of (words_header values.now) raw_address.now «data».now out.old }
 {
-    match packet::write(header_in(values), raw_address, data, out) {
-        Err(refusal) => refusal.number as usize,
-        Ok(n) => {
-            *size = n;
-            TAKEN
-        }
-    }
+    packet::write(header_in(values), raw_address, data, out)
 }
 
 // Writes a packet of a type that the table has.
@@ -167,23 +160,49 @@ fn write_as(
     raw_address: &[u8],
     data: &[u8],
     out: &mut [u8],
-    size: &mut usize,
-) -> usize
+) -> Result<usize, Refusal>
     requires sound { Sound row }
     requires in_bounds { 19 ≤ length values.now }
-    ensures { record { refusal = result; out = out.new; size = size.new } ≡ put_typed (Some row) values.now raw_address.now «data».now out.old size.old }
+    ensures { (size : ℕ) → put_as size out.new result ≡ put_typed (Some row) values.now raw_address.now «data».now out.old size }
 {
     if !options_fit(row, values) {
-        return BAD_OPTION;
+        return Err(Refusal::BadFlags);
     }
     if !numbers_fit(row, values) {
-        return BAD_NUMBER;
+        return Err(Refusal::BadLength);
     }
-    write_header(values, raw_address, data, out, size)
+    write_header(values, raw_address, data, out)
 }
 
-// Writes the packet with these values, raw address and data to the start of `out`, puts its length
-// into `size`, and answers 0; or answers the number of a refusal, and leaves both.
+// Writes the packet with these values, raw address and data to the start of `out`, and answers its
+// length. Refused, it leaves `out` as it was.
+fn write_values(
+    values: &[u64],
+    raw_address: &[u8],
+    data: &[u8],
+    out: &mut [u8],
+) -> Result<usize, Refusal>
+    ensures { (size : ℕ) → put_as size out.new result ≡ write_from values.now raw_address.now «data».now out.old size }
+{
+    if values.len() < VALUES {
+        return Err(Refusal::NoRoom);
+    }
+    let kind = values[0];
+    if 255 < kind {
+        return Err(Refusal::BadType);
+    }
+    // the usual case, in which the packet writer's own checks are all: its type is looked up once
+    if all_narrow(values) {
+        return write_header(values, raw_address, data, out);
+    }
+    let Some(row) = headers::table::find(kind as u8) else {
+        return Err(Refusal::BadType);
+    };
+    write_as(row, values, raw_address, data, out)
+}
+
+// The same, but puts the length into `size`, and answers 0; or answers the number of a refusal, and
+// leaves both.
 pub fn write(
     values: &[u64],
     raw_address: &[u8],
@@ -193,19 +212,11 @@ pub fn write(
 ) -> usize
     ensures { record { refusal = result; out = out.new; size = size.new } ≡ write_from values.now raw_address.now «data».now out.old size.old }
 {
-    if values.len() < VALUES {
-        return FEW_WORDS;
-    }
-    let kind = values[0];
-    if 255 < kind {
-        return BAD_TYPE;
-    }
-    // the usual case, in which the packet writer's own checks are all: its type is looked up once
-    if all_narrow(values) {
-        return write_header(values, raw_address, data, out, size);
-    }
-    match headers::table::find(kind as u8) {
-        None => BAD_TYPE,
-        Some(row) => write_as(row, values, raw_address, data, out, size),
+    match write_values(values, raw_address, data, out) {
+        Err(refusal) => refusal.number() as usize,
+        Ok(n) => {
+            *size = n;
+            TAKEN
+        }
     }
 }

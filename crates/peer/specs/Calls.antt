@@ -19,7 +19,7 @@ use Rattle.peer.specs.Judging.{judge}
 use Rattle.peer.specs.Matching.{vacancy}
 use Rattle.peer.specs.State.{slot_count, slot_with, phase_at, overlaps_use}
 use Rattle.protocol.specs.declared.types.Packet.{Packet}
-use Rattle.protocol.specs.declared.types.Refusal.{Refusal}
+use Rattle.protocol.specs.declared.refusals.Refusal.{Refusal}
 
 -- ---- a call
 

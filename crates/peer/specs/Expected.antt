@@ -5,7 +5,7 @@ use Rattle.bitmap.specs.Offsets.{some_of, count_of, first_not}
 use Rattle.protocol.specs.Cts.{cts_bytes}
 use Rattle.protocol.specs.Refusals.{bad_length, bad_slot, beyond_grant, differs, early, late, no_receive, no_slot, overlaps, repeated, short_reply}
 use Rattle.protocol.specs.declared.table.Shape.TheVariants.{Eager}
-use Rattle.protocol.specs.declared.types.Refusal.{Refusal}
+use Rattle.protocol.specs.declared.refusals.Refusal.{Refusal}
 use Rattle.protocol.specs.Reading.{read_of}
 use Rattle.protocol.specs.Values.{bytes_at}
 use Rattle.protocol.specs.Types.{served_row}

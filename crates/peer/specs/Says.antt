@@ -2,6 +2,7 @@
 -- each of its cases").
 use Rattle.std.specs.Prelude.{ℕ, List, [], ◌∷◌, Option, Some, None}
 use Rattle.peer.specs.declared.types.Answer.{Answer}
+use Rattle.protocol.specs.Refusals.{number}
 
 -- 01's answers, with their numbers in its order
 pub data Word : Type 0 where
@@ -20,7 +21,7 @@ cq_numbers None = []
 cq_numbers (Some d) = d ∷ []
 
 abbrev pub said : Answer → Saying
-said (Answer.Refused k) = say refused (k.number ∷ [])
+said (Answer.Refused k) = say refused (number k ∷ [])
 said (Answer.Posted slot) = say posted (slot ∷ [])
 said (Answer.Cancelled slot) = say cancelled (slot ∷ [])
 said Answer.Stored = say stored []

@@ -5,20 +5,20 @@ ghost use Rattle.peer.specs.Effects.{quiet};
 
 use crate::{ages, places};
 use peer::{Answer, Peer, Phase, Receive, SlotStep, Step, Vacancy};
-use protocol::{BAD_LENGTH, BAD_SLOT, NO_SLOT, OVERLAPS};
+use protocol::Refusal;
 
 // A receive is posted in the lowest free slot. Nothing that is lent changes.
 pub fn post(peer: Peer, area: usize, receive: Receive) -> Step
     ensures { (words : List ℕ) → quiet result.peer words result.answer ≡ post_effect area peer words receive }
 {
     if !wire::ends_by(receive.start, receive.capacity, area) {
-        return peer.refused(BAD_LENGTH);
+        return peer.refused(Refusal::BadLength);
     }
     if places::overlaps_some(peer, receive) {
-        return peer.refused(OVERLAPS);
+        return peer.refused(Refusal::Overlaps);
     }
     match places::find_vacancy(peer) {
-        Vacancy::Full => peer.refused(NO_SLOT),
+        Vacancy::Full => peer.refused(Refusal::NoSlot),
         Vacancy::Slot(i) => Step {
             peer: ages::placed(peer, receive, i),
             answer: Answer::Posted(i),
@@ -31,11 +31,11 @@ pub fn cancel(peer: Peer, slot: usize) -> Step
     ensures { (words : List ℕ) → quiet result.peer words result.answer ≡ cancel_effect peer words slot }
 {
     if Peer::SLOTS <= slot {
-        return peer.refused(BAD_SLOT);
+        return peer.refused(Refusal::BadSlot);
     }
     let there = peer.slots[slot];
     if there.is_free() {
-        return peer.refused(BAD_SLOT);
+        return peer.refused(Refusal::BadSlot);
     }
     let step = SlotStep {
         phase: Phase::Free,

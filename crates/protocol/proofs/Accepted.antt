@@ -17,7 +17,6 @@ use Rattle.protocol.specs.Sentences.{ReaderCheck, check_at, head_in, header_cut,
 use Rattle.protocol.specs.Layout.{layout}
 use Rattle.protocol.specs.Lengths.{lengths_fit}
 use Rattle.protocol.specs.Reading.{read_of}
-use Rattle.protocol.specs.Refusals.{refusal}
 use Rattle.protocol.specs.Types.{admit, every_row, row_of}
 use Rattle.protocol.specs.WriterSentences.{WriterCheck, broken_lengths, misplaced_header, no_type, over_longest, packet_length, short_buffer, write_refused_as, writer_check_at, writer_checks}
 use Rattle.protocol.specs.Writing.{WriteLeaves, packet_bytes, write_of}
@@ -25,15 +24,15 @@ use Rattle.protocol.specs.declared.table.TypeRow.{TypeRow}
 use Rattle.protocol.specs.declared.types.Fields.{Fields}
 use Rattle.protocol.specs.declared.types.Header.{Header}
 use Rattle.protocol.specs.declared.types.Packet.{Packet}
-use Rattle.protocol.specs.declared.types.Refusal.{Refusal}
+use Rattle.protocol.specs.declared.refusals.Refusal.{Refusal}
 use Rattle.wire.specs.LittleEndian.{le_at}
 use Rattle.protocol.proofs.FirstFailing.{all_pass, judged_ap, none_of}
 use Rattle.protocol.proofs.FoundRows.{is_unknown, row_at, row_out}
-use Rattle.protocol.proofs.OrderHolds.{failing, is_judged, passed_as, placed, row_head}
+use Rattle.protocol.proofs.OrderHolds.{failing, is_judged, passed_as, placed, refusal_of, row_head}
 use Rattle.protocol.proofs.TypeSentences.{fields_in_words}
 pub use Rattle.protocol.proofs.WholePacket.{connid_from, data_from, packet_of}
 use Rattle.protocol.proofs.SentencesHold.{of_row}
-use Rattle.protocol.proofs.WriterHolds.{length_in_words, refusing, write_failing, write_judged, write_placed, written}
+use Rattle.protocol.proofs.WriterHolds.{length_in_words, refusing, write_failing, write_judged, write_placed, write_refusal_of, written}
 use Rattle.protocol.specs.Limits.{packet_limit}
 
 -- bs are a packet of type r that the reader takes
@@ -50,7 +49,7 @@ pub read_as : (limit : ℕ) (bs : List ℕ) (r : TypeRow) → ReadAs limit bs r 
 unfolding admit pick
 read_as limit bs r a =
     is_judged true limit bs
-    ∙ none_of wrong_lengths (failing true limit bs) (λ c. Err (refusal (refused_as c))) (Ok (passed_as true limit bs (row_of k))) reader_checks
+    ∙ none_of wrong_lengths (failing true limit bs) (λ c. Err (refusal_of c)) (Ok (passed_as true limit bs (row_of k))) reader_checks
     (λ i l. pass (check_at i))
     ∙ ap (λ (o : Option TypeRow). Ok (passed_as true limit bs o)) a.row
   where
@@ -84,7 +83,7 @@ as_read limit bs p e = accepted (of_row true (row_of k) _ (row_out _ (pass wrong
 
     tests : ((i : ℕ) → i < 7 → failing true limit bs (check_at i) ≡ false) × (◌≡◌ {A = Result Packet Refusal} (Ok (passed_as true limit bs (row_of k))) (Ok p))
     tests =
-        all_pass wrong_lengths (failing true limit bs) (λ c. Err (refusal (refused_as c))) (Ok (passed_as true limit bs (row_of k))) reader_checks
+        all_pass wrong_lengths (failing true limit bs) (λ c. Err (refusal_of c)) (Ok (passed_as true limit bs (row_of k))) reader_checks
         (Ok p)
         (λ c. no_packet _ p)
         (sym (is_judged true limit bs) ∙ e)
@@ -161,7 +160,7 @@ as_written h raw body out n e = accepted (row_out _ (pass no_type))
 
     tests : ((i : ℕ) → i < 5 → write_failing h raw body out (writer_check_at i) ≡ false) × (◌≡◌ {A = Result ℕ Refusal} (Ok total) (Ok n))
     tests =
-        all_pass short_buffer (write_failing h raw body out) (λ c. Err (refusal (write_refused_as c)))
+        all_pass short_buffer (write_failing h raw body out) (λ c. Err (write_refusal_of c))
         (Ok total)
         writer_checks
         (Ok n)

@@ -16,7 +16,7 @@ use Rattle.protocol.specs.Flags.{flags_fit, has_flag}
 use Rattle.protocol.specs.Sentences.{ReaderCheck, ReadFails, ReadIfNoneFails, RefusedByFirstToFail, TypesAreTheTables, check_at, flags_in, head_in, header_cut, no_base, over_limit, reader_checks, refused_as, type_in, wrong_flags, wrong_lengths, wrong_type, wrong_version}
 use Rattle.protocol.specs.Lengths.{lengths_fit}
 use Rattle.protocol.specs.Reading.{header_in, packet_in, read_flags, read_lengths, read_of, read_sections, read_typed}
-use Rattle.protocol.specs.Refusals.{above_limit, bad_length, bad_type, bad_version, cut_short, refusal}
+use Rattle.protocol.specs.Refusals.{above_limit, bad_flags, bad_length, bad_type, bad_version, cut_short}
 use Rattle.protocol.specs.Says.{read_says}
 use Rattle.protocol.specs.Optional.{connid, cq_data, raw_address}
 use Rattle.protocol.specs.Sections.{extent_of}
@@ -37,7 +37,7 @@ use Rattle.protocol.proofs.TableRule.{no_array}
 use Rattle.protocol.proofs.RowLaws.{after_no_array}
 use Rattle.protocol.proofs.TypeSentences.{connid_in_words, fields_in_words, header_in_words, lengths_in_words, unknown_flags, unknown_lengths}
 use Rattle.protocol.proofs.SentencesHold.{types_are_the_tables}
-use Rattle.protocol.specs.declared.types.Refusal.{Refusal}
+use Rattle.protocol.specs.declared.refusals.Refusal.{Refusal}
 
 -- where a packet's headers end by its row, and by its type number
 pub row_head : (bs : List ℕ) (r : TypeRow) → row_of (type_in bs) ≡ Some r → flags_fit r (flags_in bs) ≡ true → data_from r (flags_in bs) bs ≡ head_in bs
@@ -55,6 +55,16 @@ placed wrong_type = (3, lit< tt, refl)
 placed wrong_flags = (4, lit< tt, refl)
 placed header_cut = (5, lit< tt, refl)
 placed wrong_lengths = (6, lit< tt, refl)
+
+-- what it is refused as
+abbrev pub refusal_of : ReaderCheck → Refusal
+refusal_of over_limit = above_limit
+refusal_of no_base = cut_short
+refusal_of wrong_version = bad_version
+refusal_of wrong_type = bad_type
+refusal_of wrong_flags = bad_flags
+refusal_of header_cut = cut_short
+refusal_of wrong_lengths = bad_length
 
 module _ (all : Bool) (limit : ℕ) (bs : List ℕ) where
   abbrev k : ℕ
@@ -80,7 +90,7 @@ module _ (all : Bool) (limit : ℕ) (bs : List ℕ) where
   passed_as (Some r) = packet_of r f bs
 
   abbrev judged_as : Option TypeRow → List ReaderCheck → Result Packet Refusal
-  judged_as o = judged (fails_as o) (λ c. Err (refusal (refused_as c))) (Ok (passed_as o))
+  judged_as o = judged (fails_as o) (λ c. Err (refusal_of c)) (Ok (passed_as o))
 
   sections_judged : (r : TypeRow) → row_of k ≡ Some r → flags_fit r f ≡ true
       → read_sections r f bs (extent_of r f bs) ≡ judged_as (Some r) (header_cut ∷ wrong_lengths ∷ [])
@@ -156,7 +166,7 @@ module _ (all : Bool) (limit : ℕ) (bs : List ℕ) where
   is_said : read_says bs (read_of (reader_rows all) limit bs) ≡ judged failing (λ c. refused (refused_as c)) (gives passed) reader_checks
   is_said =
       ap (read_says bs) is_judged
-      ∙ judged_ap (read_says bs) failing (λ c. Err (refusal (refused_as c))) (Ok (passed_as (row_of k))) reader_checks
+      ∙ judged_ap (read_says bs) failing (λ c. Err (refusal_of c)) (Ok (passed_as (row_of k))) reader_checks
 
 pub refused_by_first_to_fail : RefusedByFirstToFail
 unfolding RefusedByFirstToFail

@@ -22,7 +22,7 @@ use Rattle.protocol.specs.Writing.{WriteLeaves, packet_bytes, write_as, write_by
 use Rattle.protocol.specs.declared.table.TypeRow.{TypeRow}
 use Rattle.protocol.specs.declared.types.Header.{Header}
 use Rattle.protocol.specs.declared.types.Packet.{Packet}
-use Rattle.protocol.specs.declared.types.Refusal.{Refusal}
+use Rattle.protocol.specs.declared.refusals.Refusal.{Refusal}
 use Rattle.wire.specs.LittleEndian.{le_at}
 use Rattle.laws.proofs.Choosing.{and_left, and_right, pick_ap, pick_false, pick_first, pick_second, pick_true}
 use Rattle.laws.proofs.Storing.{drop_store, part_store}

@@ -8,7 +8,7 @@ use Rattle.protocol.specs.Checks.{gives, refused}
 use Rattle.protocol.specs.Says.{read_says, written_says}
 use Rattle.protocol.specs.Values.{Values, values_in}
 use Rattle.protocol.specs.declared.types.Packet.{Packet}
-use Rattle.protocol.specs.declared.types.Refusal.{Refusal}
+use Rattle.protocol.specs.declared.refusals.Refusal.{Refusal}
 
 refused_not_gives : {A : Type 0} (a : A) (n : ℕ) → refused n ≡ gives a → ⊥
 refused_not_gives a n e = let z : ◌≡◌ {A = ℕ} 0 1 = cc in omega arith

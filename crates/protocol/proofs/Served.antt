@@ -12,7 +12,7 @@ use Rattle.protocol.specs.Refusals.{bad_type}
 use Rattle.protocol.specs.Types.{admit, every_row, row_of}
 use Rattle.protocol.specs.declared.table.TypeRow.{TypeRow}
 use Rattle.protocol.specs.declared.types.Packet.{Packet}
-use Rattle.protocol.specs.declared.types.Refusal.{Refusal}
+use Rattle.protocol.specs.declared.refusals.Refusal.{Refusal}
 use Rattle.laws.proofs.Choosing.{pick_false, pick_first, pick_second, pick_true}
 
 no_packet : (k : Refusal) (p : Packet) → Err k ≡ Ok p → ⊥

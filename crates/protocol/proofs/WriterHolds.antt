@@ -17,7 +17,8 @@ use Rattle.protocol.specs.Optional.{options_fit}
 use Rattle.protocol.specs.Sentences.{TypesAreTheTables}
 use Rattle.protocol.specs.Lengths.{lengths_fit}
 use Rattle.protocol.specs.Options.{connid_bytes, cq_data_bytes}
-use Rattle.protocol.specs.Refusals.{refusal}
+use Rattle.protocol.specs.Refusals.{above_limit, bad_flags, bad_length, bad_type, no_room}
+use Rattle.protocol.specs.declared.refusals.Refusal.{Refusal}
 use Rattle.protocol.specs.Says.{written_says}
 use Rattle.protocol.specs.Types.{admit, every_row, row_of}
 use Rattle.protocol.specs.WriterSentences.{Misplaced, RefusedWriteChangesNothing, WriteFails, WriteRefusedByFirstToFail, WriterCheck, WrittenIfNoneFails, broken_lengths, connid_takes, cq_data_takes, misplaced_header, no_type, over_longest, packet_length, short_buffer, write_refused_as, writer_check_at, writer_checks}
@@ -94,6 +95,14 @@ write_placed broken_lengths = (2, lit< tt, refl)
 write_placed over_longest = (3, lit< tt, refl)
 write_placed short_buffer = (4, lit< tt, refl)
 
+-- what it is refused as
+abbrev pub write_refusal_of : WriterCheck → Refusal
+write_refusal_of no_type = bad_type
+write_refusal_of misplaced_header = bad_flags
+write_refusal_of broken_lengths = bad_length
+write_refusal_of over_longest = above_limit
+write_refusal_of short_buffer = no_room
+
 module _ (h : Header) (raw body out : List ℕ) where
   abbrev k : ℕ
   k = h.kind
@@ -119,7 +128,7 @@ module _ (h : Header) (raw body out : List ℕ) where
   written o = record { answer = Ok n; out = store_at out 0 (bytes_as o) }
 
   abbrev pub refusing : WriterCheck → WriteLeaves
-  refusing c = record { answer = Err (refusal (write_refused_as c)); out = out }
+  refusing c = record { answer = Err (write_refusal_of c); out = out }
 
   abbrev judged_as : Option TypeRow → List WriterCheck → WriteLeaves
   judged_as o = judged (fails_as o) refusing (written o)

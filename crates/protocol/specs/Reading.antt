@@ -15,7 +15,7 @@ use Rattle.protocol.specs.Optional.{connid, cq_data, flagged, raw_address}
 use Rattle.protocol.specs.Options.{cq_data_in, connid_in}
 use Rattle.protocol.specs.Sections.{span, extent_of}
 use Rattle.protocol.specs.Refusals.{above_limit, cut_short, bad_version, bad_type, bad_flags, bad_length}
-use Rattle.protocol.specs.declared.types.Refusal.{Refusal}
+use Rattle.protocol.specs.declared.refusals.Refusal.{Refusal}
 
 -- the numbers of a packet of this type, with the flags f and the sections s
 unfoldable pub header_in : TypeRow → ℕ → List ℕ → Sections → Header

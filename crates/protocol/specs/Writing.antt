@@ -5,7 +5,7 @@ use Rattle.laws.specs.Parts.{store_at}
 use Rattle.wire.specs.LittleEndian.{le_bytes}
 use Rattle.protocol.specs.declared.table.TypeRow.{TypeRow}
 use Rattle.protocol.specs.declared.types.Header.{Header}
-use Rattle.protocol.specs.declared.types.Refusal.{Refusal}
+use Rattle.protocol.specs.declared.refusals.Refusal.{Refusal}
 use Rattle.protocol.specs.Types.{row_of}
 use Rattle.protocol.specs.Arrays.{array_allowed, array_count, array_whole}
 use Rattle.protocol.specs.FieldNumbers.{field_bytes}

@@ -1,5 +1,5 @@
 // What a packet of EFA RDM protocol v4 is: its types here, the definitions of reading and writing in
-// specs/, and what is proved of them in proofs/. There is no function: reader and writer stand in `packet`.
+// specs/, and what is proved of them in proofs/. Reader and writer stand in `packet`.
 #![tactic(auto)]
 
 mod flags;
@@ -16,11 +16,7 @@ pub use places::{
     COUNT, CREDIT_REQUEST, MSG_ID, MSG_LENGTH, MULTIUSE, PADDING, RECV_ID, RECV_LENGTH, SEG_LENGTH,
     SEG_OFFSET, SEND_ID, TAG,
 };
-pub use refusals::{
-    ABOVE_LIMIT, BAD_FLAGS, BAD_LENGTH, BAD_LENT, BAD_PEER, BAD_SET_UP, BAD_SLOT, BAD_STATE,
-    BAD_TYPE, BAD_VERSION, BEYOND_GRANT, CUT_SHORT, DIFFERS, EARLY, LATE, NO_RECEIVE, NO_ROOM,
-    NO_SLOT, OVERLAPS, REPEATED, SHORT_REPLY,
-};
+pub use refusals::Refusal;
 pub use sections::Sections;
 pub use table::{Shape, TypeRow};
-pub use types::{Fields, Header, Packet, Refusal, Span};
+pub use types::{Fields, Header, Packet, Span};

@@ -43,9 +43,3 @@ pub struct Packet {
     pub raw_address: Span,
     pub data: Span,
 }
-
-// Why a packet is refused: the number of 01's table.
-#[derive(Clone, Copy)]
-pub struct Refusal {
-    pub number: u8,
-}

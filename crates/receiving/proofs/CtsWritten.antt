@@ -12,7 +12,7 @@ use Rattle.protocol.specs.Types.{cts_row, row_in, row_of}
 use Rattle.protocol.specs.Writing.{WriteLeaves, base_bytes, mandatory_bytes, packet_bytes, write_of}
 use Rattle.wire.specs.LittleEndian.{le_bytes}
 use Rattle.protocol.proofs.Accepted.{WrittenAs, write_as}
-use Rattle.protocol.specs.declared.types.Refusal.{Refusal}
+use Rattle.protocol.specs.declared.refusals.Refusal.{Refusal}
 
 cts_length : (send recv n : ℕ) → length (cts_bytes send recv n) ≡ 24
 unfolding cts_bytes packet_bytes mandatory_bytes base_bytes field_bytes layout sections_of le_bytes pick

@@ -6,7 +6,7 @@ ghost use Rattle.peer.specs.Judging.{judge_more, judge_again, judge_data, judge_
 
 use crate::{matching, shapes};
 use peer::{Fit, FoundOpen, Inbound, Incoming, Peer, Verdict};
-use protocol::{BEYOND_GRANT, DIFFERS, EARLY, LATE, NO_RECEIVE, REPEATED};
+use protocol::Refusal;
 
 // A segment of this message, which is open in slot i, is taken if none of its bytes is in.
 fn judge_more(inbound: Inbound, i: usize, h: Incoming, words: &[u64]) -> Verdict
@@ -17,7 +17,7 @@ fn judge_more(inbound: Inbound, i: usize, h: Incoming, words: &[u64]) -> Verdict
     let at = receive.start + h.offset;
     let size = h.size;
     if bitmap::is_touched(words, at, size) {
-        Verdict::Refuse(REPEATED)
+        Verdict::Refuse(Refusal::Repeated)
     } else {
         Verdict::More(i, inbound)
     }
@@ -32,7 +32,7 @@ fn judge_again(inbound: Inbound, i: usize, h: Incoming, words: &[u64]) -> Verdic
     if matching::goes_on(message, h) {
         judge_more(inbound, i, h, words)
     } else {
-        Verdict::Refuse(DIFFERS)
+        Verdict::Refuse(Refusal::Differs)
     }
 }
 
@@ -44,12 +44,12 @@ fn judge_data(inbound: Inbound, i: usize, h: Incoming, words: &[u64]) -> Verdict
     let message = inbound.message;
     let shape = message.shape;
     if !shapes::is_long(shape) {
-        return Verdict::Refuse(LATE);
+        return Verdict::Refuse(Refusal::Late);
     }
     if wire::ends_by(h.offset, h.size, message.granted) {
         judge_more(inbound, i, h, words)
     } else {
-        Verdict::Refuse(BEYOND_GRANT)
+        Verdict::Refuse(Refusal::BeyondGrant)
     }
 }
 
@@ -58,7 +58,7 @@ fn judge_fit(fit: Fit, h: Incoming) -> Verdict
     ensures { result ≡ judge_fit h fit }
 {
     match fit {
-        Fit::Unfit => Verdict::Refuse(NO_RECEIVE),
+        Fit::Unfit => Verdict::Refuse(Refusal::NoReceive),
         Fit::To(i, receive, _) => {
             if receive.capacity < h.length {
                 Verdict::Truncate(i)
@@ -75,10 +75,10 @@ fn judge_new(peer: Peer, h: Incoming) -> Verdict
 {
     let ahead = matching::ahead_of(h.id, peer.next);
     if 0x8000_0000 <= ahead {
-        return Verdict::Refuse(LATE);
+        return Verdict::Refuse(Refusal::Late);
     }
     if 1 <= ahead {
-        return Verdict::Refuse(EARLY);
+        return Verdict::Refuse(Refusal::Early);
     }
     judge_fit(matching::find_oldest(peer, h), h)
 }
@@ -102,7 +102,7 @@ pub(crate) fn judge(peer: Peer, h: Incoming, words: &[u64]) -> Verdict
             if rtm {
                 judge_new(peer, h)
             } else {
-                Verdict::Refuse(LATE)
+                Verdict::Refuse(Refusal::Late)
             }
         }
     }

@@ -6,7 +6,7 @@ ghost use Rattle.receiving.specs.Leaves.{packet_leaves};
 
 use crate::{effects, incoming};
 use peer::{Peer, Step};
-use protocol::SHORT_REPLY;
+use protocol::Refusal;
 
 // A packet comes in: it is read, judged, and the verdict carried out in the peer's own area and map words.
 pub fn packet(
@@ -22,7 +22,7 @@ pub fn packet(
     ensures { record { step = result; area = area.new; words = words.new; reply = reply.new } ≡ packet_leaves area.old reply.old (packet_effect limit peer words.old bytes.now (length reply.old)) }
 {
     if reply.len() < Peer::CTS_LENGTH {
-        return peer.refused(SHORT_REPLY);
+        return peer.refused(Refusal::ShortReply);
     }
     match packet::read_served(bytes, limit) {
         Err(refusal) => peer.refused(refusal),

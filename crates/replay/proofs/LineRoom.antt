@@ -12,11 +12,12 @@ use Rattle.guarantees.specs.Outputs.{output_of}
 use Rattle.guarantees.proofs.RunInvariant.{output_room}
 use Rattle.replay.specs.Lines.{answer_line, ending_line}
 use Rattle.replay.specs.declared.types.Ending.{Ending}
+use Rattle.protocol.specs.Refusals.{number}
 
 -- the line of an answer, and the last line, have room in 80 and in 55 bytes
 pub answer_room : (a : Answer) → length (answer_line a) ≤ 80
 unfolding answer_line
-answer_room (Answer.Refused k) = let n = length_line (bytes_of "refused") (k.number ∷ []) in omega arith
+answer_room (Answer.Refused k) = let n = length_line (bytes_of "refused") (number k ∷ []) in omega arith
 answer_room (Answer.Posted slot) = let n = length_line (bytes_of "posted") (slot ∷ []) in omega arith
 answer_room (Answer.Cancelled slot) = let n = length_line (bytes_of "cancelled") (slot ∷ []) in omega arith
 answer_room Answer.Stored = let n = length_line (bytes_of "stored") [] in omega arith
@@ -30,7 +31,7 @@ unfolding ending_line
 ending_room taken Ending.End = let n = length_line (bytes_of "end") (taken ∷ []) in omega arith
 ending_room taken Ending.Stopped = let n = length_line (bytes_of "stopped") (taken ∷ []) in omega arith
 ending_room taken (Ending.Bad at) = let n = length_line (bytes_of "bad trace at") (at ∷ []) in omega arith
-ending_room taken (Ending.NotSetUp k) = let n = length_line (bytes_of "setup") (k.number ∷ []) in omega arith
+ending_room taken (Ending.NotSetUp k) = let n = length_line (bytes_of "setup") (number k ∷ []) in omega arith
 ending_room taken Ending.NoRoom = omega arith
 
 -- a text of the last line alone

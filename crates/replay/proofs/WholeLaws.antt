@@ -14,7 +14,7 @@ use Rattle.laws.proofs.Choosing.{branch, pick_either}
 use Rattle.laws.proofs.Storing.{length_store, store_next, store_start}
 use Rattle.text.specs.Lines.{bytes_of}
 use Rattle.text.proofs.LineLaws.{length_line}
-use Rattle.protocol.specs.declared.types.Refusal.{Refusal}
+use Rattle.protocol.specs.declared.refusals.Refusal.{Refusal}
 use Rattle.engine.specs.Sentences.{Eights}
 use Rattle.engine.specs.Leaves.{world}
 use Rattle.engine.specs.SetUp.{Prepared, engine_fits, engine_of, lent_fits, not_started, numbers_fit, set_up}

@@ -3,6 +3,7 @@ use Rattle.std.specs.Prelude.{ℕ, List, [], ◌∷◌}
 use Rattle.text.specs.Lines.{bytes_of, line}
 use Rattle.peer.specs.declared.types.Answer.{Answer}
 use Rattle.replay.specs.declared.types.Ending.{Ending}
+use Rattle.protocol.specs.Refusals.{number}
 
 abbrev pub set_up_line : List ℕ
 set_up_line = line (bytes_of "setup ok") []
@@ -10,7 +11,7 @@ set_up_line = line (bytes_of "setup ok") []
 -- "then `posted S`, `cancelled S`, `stored`, `granted G`, `done S M N`, `truncated S M N` or `refused K`". A trace asks for no
 -- missing-byte report, so the last line is never written.
 unfoldable pub answer_line : Answer → List ℕ
-answer_line (Answer.Refused k) = line (bytes_of "refused") (k.number ∷ [])
+answer_line (Answer.Refused k) = line (bytes_of "refused") (number k ∷ [])
 answer_line (Answer.Posted slot) = line (bytes_of "posted") (slot ∷ [])
 answer_line (Answer.Cancelled slot) = line (bytes_of "cancelled") (slot ∷ [])
 answer_line Answer.Stored = line (bytes_of "stored") []
@@ -24,5 +25,5 @@ unfoldable pub ending_line : ℕ → Ending → List ℕ
 ending_line taken Ending.End = line (bytes_of "end") (taken ∷ [])
 ending_line taken Ending.Stopped = line (bytes_of "stopped") (taken ∷ [])
 ending_line taken (Ending.Bad at) = line (bytes_of "bad trace at") (at ∷ [])
-ending_line taken (Ending.NotSetUp k) = line (bytes_of "setup") (k.number ∷ [])
+ending_line taken (Ending.NotSetUp k) = line (bytes_of "setup") (number k ∷ [])
 ending_line taken Ending.NoRoom = []

@@ -3,13 +3,13 @@
 use Rattle.std.specs.Prelude.{Option, Some, None, Result, Ok, Err}
 use Rattle.std.proofs.Common.{◌≡◌, ℕ, ◌+◌, ◌<◌, ◌≤◌, Bool, true, false, List, get_or, sym, refl, ap, ◌∙◌, subst, arith, ltb-false, leb-false}
 use Rattle.protocol.specs.Reading.{packet_in, read_flags, read_lengths, read_of, read_sections, read_typed}
-use Rattle.protocol.specs.Refusals.{bad_length, bad_slot, no_slot, overlaps, short_reply}
+use Rattle.protocol.specs.Refusals.{bad_length, bad_slot, no_slot, overlaps, short_reply, number}
 use Rattle.protocol.specs.Sections.{extent_of}
 use Rattle.protocol.specs.Types.{admit, row_of, served_row}
 use Rattle.protocol.specs.Values.{bytes_at}
 use Rattle.protocol.specs.declared.table.TypeRow.{TypeRow}
 use Rattle.protocol.specs.declared.types.Packet.{Packet}
-use Rattle.protocol.specs.declared.types.Refusal.{Refusal}
+use Rattle.protocol.specs.declared.refusals.Refusal.{Refusal}
 use Rattle.wire.specs.LittleEndian.{le_at}
 use Rattle.peer.specs.Calls.{Call, cancel, cancel_effect, cancel_slot, missing_in, packet, packet_effect, peer_step, placed, placed_in, post, post_effect, read_effect, report, report_effect, report_slot, overlaps_some}
 use Rattle.peer.specs.Claims.{takes}
@@ -41,7 +41,7 @@ abbrev pub data_of : List ℕ → Packet → List ℕ
 data_of bs q = bytes_at bs q.«data»
 
 pub data StepCase (area limit : ℕ) (p : Peer) (ws : List ℕ) : Call → Effect → Type 0 where
-  refused : (c : Call) (k : Refusal) → among (refusals_of c) k.number ≡ true → StepCase area limit p ws c (refuse p ws k)
+  refused : (c : Call) (k : Refusal) → among (refusals_of c) (number k) ≡ true → StepCase area limit p ws c (refuse p ws k)
   posted : (r : Receive) (i : ℕ) → vacancy 0 p.slots ≡ Vacancy.Slot i → r.start + r.capacity ≤ area → overlaps_some r p.slots ≡ false
       → StepCase area limit p ws (post r) (quiet (placed p r i) ws (Answer.Posted i))
   cancelled : (i : ℕ) → i < slot_count → is_free (phase_at p.slots i) ≡ false
@@ -123,7 +123,7 @@ module _ (area limit : ℕ) (p : Peer) (ws : List ℕ) where
 
 -- f is a refusal only by leaving all, with a number that is listed
 abbrev pub Refusing : Peer → List ℕ → List ℕ → Effect → Type 0
-Refusing p ws numbers f = (k : Refusal) → f.answer ≡ Answer.Refused k → (f ≡ refuse p ws k) × (among numbers k.number ≡ true)
+Refusing p ws numbers f = (k : Refusal) → f.answer ≡ Answer.Refused k → (f ≡ refuse p ws k) × (among numbers (number k) ≡ true)
 
 pub step_refusing : (area limit : ℕ) (p : Peer) (ws : List ℕ) (c : Call) → Refusing p ws (refusals_of c) (peer_step area limit p ws c)
 unfolding truncated_at begun accept
@@ -132,7 +132,7 @@ step_refusing area limit p ws c = go (step_case area limit p ws c)
     go : {c : Call} {f : Effect} → StepCase area limit p ws c f → Refusing p ws (refusals_of c) f
     go (refused c m e) k x =
         let is : m ≡ k = cc in
-        (ap (refuse p ws) is, ap (λ (n : Refusal). among (refusals_of c) n.number) (sym is) ∙ e)
+        (ap (refuse p ws) is, ap (λ (n : Refusal). among (refusals_of c) (number n)) (sym is) ∙ e)
     go (posted r i e a w) k x = absurd (let z : ◌≡◌ {A = ℕ} 0 1 = cc in omega arith)
     go (cancelled i l u) k x = absurd (let z : ◌≡◌ {A = ℕ} 0 1 = cc in omega arith)
     go (reported i o e) k x = absurd (let z : ◌≡◌ {A = ℕ} 0 1 = cc in omega arith)

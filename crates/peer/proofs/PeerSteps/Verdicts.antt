@@ -4,7 +4,7 @@ use mathlib.Core.Bool.{false≢true}
 use Rattle.bitmap.specs.Map.{touched}
 use Rattle.protocol.specs.declared.table.Shape.{Shape}
 use Rattle.protocol.specs.declared.table.Shape.TheVariants.{Cts, CtsData, Eager, LongCts, Medium}
-use Rattle.protocol.specs.declared.types.Refusal.{Refusal}
+use Rattle.protocol.specs.declared.refusals.Refusal.{Refusal}
 use Rattle.peer.specs.Calls.{packet}
 use Rattle.peer.specs.Formed.{Formed}
 use Rattle.peer.specs.Incomings.{is_long, is_medium, is_rtm}
@@ -24,6 +24,7 @@ use Rattle.peer.specs.declared.types.Verdict.{Verdict}
 use Rattle.laws.proofs.Choosing.{and_left, and_right, branch}
 use Rattle.peer.proofs.Slots.Slots.{found_open, oldest_fits}
 use Rattle.peer.proofs.Slots.Valid.{Valid, Within, open_within}
+use Rattle.protocol.specs.Refusals.{number}
 
 -- the packet is matched to the oldest receive that it fits: its id is the next one, and open nowhere
 
@@ -53,7 +54,7 @@ pub record Continues (p : Peer) (ws : List ℕ) (h : Incoming) (i : ℕ) (o : In
 
 -- the refusal is one of a packet's
 abbrev pub Listed : Refusal → Type 0
-Listed k = among (refusals_of (packet [] 0)) k.number ≡ true
+Listed k = among (refusals_of (packet [] 0)) (number k) ≡ true
 
 abbrev pub Judged : Peer → List ℕ → Incoming → Verdict → Type 0
 Judged p ws h (Verdict.Refuse k) = Listed k

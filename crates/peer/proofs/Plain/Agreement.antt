@@ -9,7 +9,7 @@ use Rattle.laws.specs.Choose.{pick}
 use Rattle.protocol.specs.Reading.{read_of}
 use Rattle.protocol.specs.Refusals.{bad_length, bad_slot, beyond_grant, differs, early, late, no_receive, no_slot, overlaps, repeated, short_reply}
 use Rattle.protocol.specs.declared.types.Packet.{Packet}
-use Rattle.protocol.specs.declared.types.Refusal.{Refusal}
+use Rattle.protocol.specs.declared.refusals.Refusal.{Refusal}
 use Rattle.protocol.specs.Types.{served_row}
 use Rattle.peer.specs.Calls.{Call, cancel, cancel_effect, cancel_slot, missing_in, packet, packet_effect, peer_step, placed, placed_in, post, post_effect, read_effect, report, report_effect, report_slot}
 use Rattle.peer.specs.Claims.{takes}

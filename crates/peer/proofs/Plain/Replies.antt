@@ -9,7 +9,7 @@ use Rattle.protocol.specs.FieldNumbers.{field_bytes}
 use Rattle.protocol.specs.Layout.{layout}
 use Rattle.protocol.specs.Optional.{sections_of}
 use Rattle.protocol.specs.Writing.{base_bytes, mandatory_bytes, packet_bytes}
-use Rattle.protocol.specs.declared.types.Refusal.{Refusal}
+use Rattle.protocol.specs.declared.refusals.Refusal.{Refusal}
 use Rattle.wire.specs.LittleEndian.{le_bytes}
 use Rattle.peer.specs.Answers.{on_done, on_granted}
 use Rattle.peer.specs.Calls.{Call, cancel, on_packet, packet, peer_step, placed, post, renumbered, renumbered_phase, report}

@@ -1,7 +1,7 @@
 -- One step of the peer and of the plain receiver: the same answer, and they go on agreeing.
 use Rattle.std.proofs.Common.{◌≡◌, ℕ, zero, suc, ◌+◌, ◌*◌, ◌<◌, ◌≤◌, true, ltb, List, [], length, set, replicate, sym, refl, ap, ◌∙◌, subst, ap₂, inr, arith, get_or-set_other, get_or-set_same, le-ltb, lt-ltb}
 use native.Mathlib.Decide.{ℕ_discrete}
-use Rattle.protocol.specs.declared.types.Refusal.{Refusal}
+use Rattle.protocol.specs.declared.refusals.Refusal.{Refusal}
 use Rattle.bitmap.specs.Map.{cleared, marked}
 use Rattle.peer.specs.Calls.{Call, cancel, count_older, count_posted, packet, peer_step, placed, post, renumbered, renumbered_phase, report}
 use Rattle.peer.specs.Effects.{Effect, accept, advance, begun, opened, progress_of, truncated_at}

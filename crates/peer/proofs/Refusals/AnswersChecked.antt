@@ -6,7 +6,7 @@ use lib.ListN.{length-map}
 use mathlib.Core.Logic.{⊎_map}
 use Rattle.protocol.specs.Sentences.{ReadIfNoneFails, RefusedByFirstToFail, reader_checks, wrong_lengths}
 use Rattle.protocol.specs.Reading.{read_of}
-use Rattle.protocol.specs.Refusals.{bad_slot, beyond_grant, differs, early, late, no_receive, repeated}
+use Rattle.protocol.specs.Refusals.{bad_slot, beyond_grant, differs, early, late, no_receive, repeated, number}
 use Rattle.protocol.specs.Says.{read_says}
 use Rattle.protocol.specs.Values.{bytes_at, values_in}
 use Rattle.protocol.specs.declared.types.Packet.{Packet}
@@ -39,7 +39,7 @@ use Rattle.peer.proofs.Refusals.PostChecked.{GoneFor, Unrefused, cancel_free, ca
 use Rattle.peer.proofs.Plain.Roles.{role_of_entry}
 use Rattle.peer.proofs.Sentences.SentencesHold.{found_is_the_lowest_open, nothing_found_is_none_open, rtm_is_64_to_69, unfit_is_none_waiting, medium_is_66_and_67}
 use Rattle.peer.specs.State.{slot_count}
-use Rattle.protocol.specs.declared.types.Refusal.{Refusal}
+use Rattle.protocol.specs.declared.refusals.Refusal.{Refusal}
 
 -- ---- the type of a packet
 
@@ -176,7 +176,7 @@ module _ (area limit : ℕ) (l : Plain) where
       -- the reader's checks, then the judgement's
       read : (d : Result Packet Refusal) → read_of served_row limit bs ≡ d → G (map (unread bs) reader_checks ++ judged_checks bs) (expect_read limit l bs d).answer
       read (Err k) e =
-          let (i, w, n, (x, b)) = (refused_by_first_to_fail false limit bs k.number).0 (ap (read_says bs) e) in
+          let (i, w, n, (x, b)) = (refused_by_first_to_fail false limit bs (number k)).0 (ap (read_says bs) e) in
           gone_at (CallFails area limit v) call_refused_as (unread bs) reader_checks (judged_checks bs) wrong_lengths (said (Answer.Refused k)) i w x b
           (ap (λ (m : ℕ). say refused (m ∷ [])) (sym n))
       read (Ok q) e =

@@ -11,7 +11,7 @@ use Rattle.protocol.specs.Refusals.{bad_type}
 use Rattle.protocol.specs.Types.{admit, row_of, served_row}
 use Rattle.protocol.specs.declared.table.TypeRow.{TypeRow}
 use Rattle.protocol.specs.declared.types.Packet.{Packet}
-use Rattle.protocol.specs.declared.types.Refusal.{Refusal}
+use Rattle.protocol.specs.declared.refusals.Refusal.{Refusal}
 use Rattle.peer.specs.Sentences.{IncomingTold, ReadAsTheTableSays}
 use Rattle.peer.specs.Incomings.{incoming_of}
 use Rattle.peer.specs.PacketBytes.{RtmIn, id_in, length_as, length_in, offset_as, offset_in, size_in, tag_as, tag_in, type_in, type_said}

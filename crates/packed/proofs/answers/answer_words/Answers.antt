@@ -5,7 +5,7 @@ use Rattle.packed.proofs.answers.answer_words.Goals as goal
 
 pub returns-in-Refused : goal.returns-in-Refused
 unfolding answer_words
-returns-in-Refused c = rw c.in-Refused.is
+returns-in-Refused c = rw (c.in-Refused.is, c.number.ensures)
 
 pub returns-in-Posted : goal.returns-in-Posted
 unfolding answer_words

@@ -15,11 +15,11 @@ answer c = c.read.ensures
 
 pub returns-then-values-lt-VALUES : goal.returns-then-values-lt-VALUES
 unfolding read_into pick
-returns-then-values-lt-VALUES c = rw (lt-leb _ _ c.if-values-lt-VALUES.true)
+returns-then-values-lt-VALUES c = rw (lt-leb _ _ c.if-values-lt-VALUES.true, c.number.ensures)
 
 pub returns-in-Err : goal.returns-in-Err
 unfolding read_into pick
-returns-in-Err c = rw (le-leb value_count _ c.if-values-lt-VALUES.false, ← answer (goal.at.returns-in-Err c).After-read, c.in-Err.is)
+returns-in-Err c = rw (le-leb value_count _ c.if-values-lt-VALUES.false, ← answer (goal.at.returns-in-Err c).After-read, c.in-Err.is, c.number-in-Err.ensures)
 
 pub returns-in-Ok : goal.returns-in-Ok
 unfolding read_into pick

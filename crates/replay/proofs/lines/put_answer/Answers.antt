@@ -4,7 +4,7 @@ use Rattle.replay.proofs.lines.put_answer.Goals as goal
 
 pub put_line-requires : goal.put_line-requires
 unfolding answer_line
-put_line-requires c = rw c.in-Refused.is at c.requires
+put_line-requires c = rw (c.in-Refused.is, ← c.number.ensures) at c.requires
 
 pub put_line-requires-in-Posted : goal.put_line-requires-in-Posted
 unfolding answer_line
@@ -36,7 +36,7 @@ put_line-requires-in-Missing c = rw c.in-Missing.is at c.requires
 
 pub returns-in-Refused : goal.returns-in-Refused
 unfolding answer_line
-returns-in-Refused c = rw c.in-Refused.is c.put_line.ensures
+returns-in-Refused c = rw (c.in-Refused.is, ← c.number.ensures) c.put_line.ensures
 
 pub returns-in-Posted : goal.returns-in-Posted
 unfolding answer_line

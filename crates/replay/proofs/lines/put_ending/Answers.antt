@@ -19,7 +19,7 @@ put_line-requires-in-Bad c = rw c.in-Bad.is at c.requires
 
 pub put_line-requires-in-NotSetUp : goal.put_line-requires-in-NotSetUp
 unfolding ending_line
-put_line-requires-in-NotSetUp c = rw c.in-NotSetUp.is at c.requires
+put_line-requires-in-NotSetUp c = rw (c.in-NotSetUp.is, ← c.number.ensures) at c.requires
 
 pub returns-in-End : goal.returns-in-End
 unfolding ending_line
@@ -35,7 +35,7 @@ returns-in-Bad c = rw c.in-Bad.is c.put_line-in-Bad.ensures
 
 pub returns-in-NotSetUp : goal.returns-in-NotSetUp
 unfolding ending_line
-returns-in-NotSetUp c = rw c.in-NotSetUp.is c.put_line-in-NotSetUp.ensures
+returns-in-NotSetUp c = rw (c.in-NotSetUp.is, ← c.number.ensures) c.put_line-in-NotSetUp.ensures
 
 pub returns-in-NoRoom : goal.returns-in-NoRoom
 unfolding ending_line
