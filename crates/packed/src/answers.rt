@@ -24,6 +24,7 @@ fn done_words(slot: usize, id: u32, length: usize, cq_data: CqData) -> [u64; WOR
     ]
 }
 
+#[tactic(auto, unfolding(crate::specs::Answers::answer_words))]
 fn answer_words(answer: Answer) -> [u64; WORDS]
     ensures { result ≡ answer_words answer }
 {
