@@ -34,6 +34,7 @@ pub(crate) fn run(
     let mut place = from;
     let mut written = at;
     let mut taken: usize = 0;
+    // a `while`: the entries differ in length, and either the budget or the trace ends it
     while taken < budget && place < trace.len() {
         let Some((request, next)) = trace_reader::read_entry(trace, place) else {
             let ending = Ending::Bad(place);
@@ -83,6 +84,7 @@ fn with_buffer(recorded: Call, room: usize) -> Call
 }
 
 // Whether the trace ended, or entries are left.
+#[tactic(auto, unfolding(laws::specs::Choose::pick))]
 fn ending(place: usize, length: usize) -> Ending
     ensures { result ≡ ending_at place length }
 {

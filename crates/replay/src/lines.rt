@@ -7,6 +7,7 @@ use crate::types::Ending;
 use peer::Answer;
 
 // The line of a call's answer.
+#[tactic(auto, unfolding(crate::specs::Lines::answer_line))]
 pub(crate) fn put_answer(text: &mut [u8], at: usize, answer: Answer) -> usize
     requires { at + length (answer_line answer) ≤ length text.old }
     ensures { (result ≡ at + length (answer_line answer)) × (text.new ≡ store_at text.old at (answer_line answer)) }
@@ -36,6 +37,7 @@ pub(crate) fn put_answer(text: &mut [u8], at: usize, answer: Answer) -> usize
 }
 
 // The last line, where one is written.
+#[tactic(auto, using(laws::proofs::Storing::store_nothing), unfolding(crate::specs::Lines::ending_line))]
 pub(crate) fn put_ending(text: &mut [u8], at: usize, taken: usize, ending: Ending) -> usize
     requires { at + length (ending_line taken ending) ≤ length text.old }
     ensures { (result ≡ at + length (ending_line taken ending)) × (text.new ≡ store_at text.old at (ending_line taken ending)) }

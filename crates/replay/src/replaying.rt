@@ -15,6 +15,7 @@ const ENDS: usize = 64;
 const LINE: usize = 80;
 
 // How many elements are lent on, of those that are there.
+#[tactic(auto, unfolding(crate::specs::Replaying::lent_of, laws::specs::Choose::pick))]
 fn lent(n: usize, each: usize, there: usize) -> usize
     ensures { result ≡ lent_of n each there }
 {
@@ -31,6 +32,7 @@ fn lent(n: usize, each: usize, there: usize) -> usize
 }
 
 // Whether a text of that many bytes is long enough for so many entries.
+#[tactic(auto, using(crate::proofs::RoomLaws::room_by_lines), unfolding(crate::specs::Replaying::has_room))]
 fn has_room(budget: usize, text: usize) -> bool
     ensures { result ≡ has_room budget text }
 {

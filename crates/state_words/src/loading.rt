@@ -36,6 +36,7 @@ fn cq_in(words: &[u64], at: usize) -> Option<u64>
 
 // The shape with this number. It is no `From`: `Shape` is another crate's, and a number past the last shape's is taken for
 // the last here, which `load` refuses when it writes the words again.
+#[tactic(auto, unfolding(laws::specs::Choose::pick))]
 fn shape_in(number: u64) -> Shape
     ensures { result ≡ shape_in number }
 {
@@ -68,6 +69,7 @@ fn message_in(words: &[u64], at: usize) -> Message
     }
 }
 
+#[tactic(auto, unfolding(crate::specs::Loading::phase_in, laws::specs::Choose::pick))]
 fn slot_in(words: &[u64], at: usize) -> Slot
     requires { at + 16 ≤ length words.now }
     ensures { result ≡ slot_with (phase_in words.now at) }
