@@ -2,7 +2,7 @@
 use crate::types::Span;
 
 // The raw address, and where CQ data, connid and data begin.
-#[derive(Clone, Copy)]
+#[derive(Clone, Copy, PartialEq, Eq, Debug)]
 pub struct Sections {
     pub raw: Span,
     pub cq_at: usize,

@@ -1,7 +1,7 @@
 // What the table of packet types says of a type.
 
 // The kinds of packets, by which the rules on lengths are told apart.
-#[derive(Clone, Copy)]
+#[derive(Clone, Copy, PartialEq, Eq, Debug)]
 pub enum Shape {
     Cts,
     CtsData,
@@ -10,7 +10,7 @@ pub enum Shape {
     LongCts,
 }
 
-#[derive(Clone, Copy)]
+#[derive(Clone, Copy, PartialEq, Eq, Debug)]
 pub struct TypeRow {
     // the type's number
     pub kind: u8,

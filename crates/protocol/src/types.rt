@@ -2,7 +2,7 @@
 use crate::table::Shape;
 
 // The numbers of a type's own fields; 0 in a field that the type has not.
-#[derive(Clone, Copy)]
+#[derive(Clone, Copy, PartialEq, Eq, Debug)]
 pub struct Fields {
     pub msg_id: u32,
     pub recv_id: u32,
@@ -17,7 +17,7 @@ pub struct Fields {
 
 // The numbers of a packet, and whether it has a raw address. The bytes of raw address and data
 // stand beside it: lent to the writer, in the packet for the reader.
-#[derive(Clone, Copy)]
+#[derive(Clone, Copy, PartialEq, Eq, Debug)]
 pub struct Header {
     pub kind: u8,
     pub fields: Fields,
@@ -27,7 +27,7 @@ pub struct Header {
 }
 
 // Some bytes of a packet: size of them, from at on.
-#[derive(Clone, Copy)]
+#[derive(Clone, Copy, PartialEq, Eq, Debug)]
 pub struct Span {
     pub at: usize,
     pub size: usize,
@@ -35,7 +35,7 @@ pub struct Span {
 
 // A packet that was read: its numbers, what the table says of its type, and where its raw address,
 // which is empty where there is none, and its data lie.
-#[derive(Clone, Copy)]
+#[derive(Clone, Copy, PartialEq, Eq, Debug)]
 pub struct Packet {
     pub header: Header,
     pub shape: Shape,

@@ -8,50 +8,26 @@ use protocol::Shape;
 pub(crate) fn is_eager(shape: Shape) -> bool
     ensures { result ≡ is_eager shape }
 {
-    match shape {
-        Shape::Cts => false,
-        Shape::CtsData => false,
-        Shape::Eager => true,
-        Shape::Medium => false,
-        Shape::LongCts => false,
-    }
+    matches!(shape, Shape::Eager)
 }
 
 // Whether the packet brings a segment of a message whose segments need no grant.
 pub(crate) fn is_medium(shape: Shape) -> bool
     ensures { result ≡ is_medium shape }
 {
-    match shape {
-        Shape::Cts => false,
-        Shape::CtsData => false,
-        Shape::Eager => false,
-        Shape::Medium => true,
-        Shape::LongCts => false,
-    }
+    matches!(shape, Shape::Medium)
 }
 
 // Whether the packet begins a message that goes on by grants.
 pub(crate) fn is_long(shape: Shape) -> bool
     ensures { result ≡ is_long shape }
 {
-    match shape {
-        Shape::Cts => false,
-        Shape::CtsData => false,
-        Shape::Eager => false,
-        Shape::Medium => false,
-        Shape::LongCts => true,
-    }
+    matches!(shape, Shape::LongCts)
 }
 
 // Whether the packet names its message by the sender's id: these three kinds do.
 pub(crate) fn is_rtm(shape: Shape) -> bool
     ensures { result ≡ is_rtm shape }
 {
-    match shape {
-        Shape::Cts => false,
-        Shape::CtsData => false,
-        Shape::Eager => true,
-        Shape::Medium => true,
-        Shape::LongCts => true,
-    }
+    matches!(shape, Shape::Eager | Shape::Medium | Shape::LongCts)
 }
