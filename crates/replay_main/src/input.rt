@@ -9,6 +9,7 @@ pub(crate) fn read<R: Read>(from: &mut R, buffer: &mut [u8]) -> io::Result<usize
     ensures { IfOk result (λ n. n ≤ length buffer.old) }
 {
     let mut n: usize = 0;
+    // a `while`: each read brings as many bytes as it has, and no method of `Read` fills a slice as far as the input goes
     while n < buffer.len() {
         let count = from.read(&mut buffer[n..])?;
         if count == 0 {
