@@ -12,6 +12,8 @@ pub fn read_full<R: Read>(from: &mut R, buffer: &mut [u8]) -> io::Result<usize>
     ensures { ReadsAtMost result buffer.new }
 {
     let mut done = 0;
+    // a `while`: each read brings as many bytes as it has, and no method of `Read` fills a slice as far as the
+    // input goes
     while done < buffer.len() {
         let n = from.read(&mut buffer[done..])?;
         if n == 0 {
