@@ -1,6 +1,7 @@
 -- The cases of a peer's step: what a call may come to, with what the tests have shown; a refused call leaves all and answers a number of its
 -- call's list. It holds of every peer, also one that cannot be.
 use Rattle.std.proofs.Common.{◌≡◌, ℕ, ◌+◌, ◌<◌, ◌≤◌, Bool, true, false, List, get_or, sym, refl, ap, ◌∙◌, subst, arith, ltb-false, leb-false}
+use Rattle.std.specs.Prelude.{Option, Some, None}
 use Rattle.protocol.specs.Reading.{packet_in, read_flags, read_lengths, read_of, read_sections, read_typed}
 use Rattle.protocol.specs.Refusals.{bad_length, bad_slot, no_slot, overlaps, short_reply}
 use Rattle.protocol.specs.Sections.{extent_of}
@@ -26,7 +27,6 @@ use Rattle.peer.specs.declared.types.Inbound.{Inbound}
 use Rattle.peer.specs.declared.types.Peer.{Peer}
 use Rattle.peer.specs.declared.types.Phase.{Phase}
 use Rattle.peer.specs.declared.types.Receive.{Receive}
-use Rattle.peer.specs.declared.types.Vacancy.{Vacancy}
 use Rattle.peer.specs.declared.types.Verdict.{Verdict}
 use Rattle.laws.proofs.Choosing.{branch, clashing}
 use Rattle.peer.proofs.PeerSteps.AnswerLaws.{settled_takes}
@@ -43,7 +43,7 @@ data_of bs q = bytes_at bs q.«data»
 
 pub data StepCase (area limit : ℕ) (p : Peer) (ws : List ℕ) : Call → Effect → Type 0 where
   refused : (c : Call) (k : Refusal) → among (refusals_of c) k.number ≡ true → StepCase area limit p ws c (refuse p ws k)
-  posted : (r : Receive) (i : ℕ) → vacancy 0 p.slots ≡ Vacancy.Slot i → r.start + r.capacity ≤ area → overlaps_some r p.slots ≡ false
+  posted : (r : Receive) (i : ℕ) → vacancy 0 p.slots ≡ Some i → r.start + r.capacity ≤ area → overlaps_some r p.slots ≡ false
       → StepCase area limit p ws (post r) (quiet (placed p r i) ws (Answer.Posted i))
   cancelled : (i : ℕ) → i < slot_count → is_free (phase_at p.slots i) ≡ false
       → StepCase area limit p ws (cancel i) (quiet (with_phase p i Phase.Free) ws (Answer.Cancelled i))
@@ -96,9 +96,9 @@ module _ (area limit : ℕ) (p : Peer) (ws : List ℕ) where
       branch (StepCase area limit p ws (post r)) _ _ _ (λ x. refused (post r) bad_length refl) (λ x.
       branch (StepCase area limit p ws (post r)) _ _ _ (λ y. refused (post r) overlaps refl) (λ y. place (vacancy 0 p.slots) refl (ltb-false area _ x) y))
     where
-      place : (v : Vacancy) → vacancy 0 p.slots ≡ v → r.start + r.capacity ≤ area → overlaps_some r p.slots ≡ false → StepCase area limit p ws (post r) (placed_in p ws r v)
-      place Vacancy.Full e x y = refused (post r) no_slot refl
-      place (Vacancy.Slot i) e x y = posted r i e x y
+      place : (v : Option ℕ) → vacancy 0 p.slots ≡ v → r.start + r.capacity ≤ area → overlaps_some r p.slots ≡ false → StepCase area limit p ws (post r) (placed_in p ws r v)
+      place None e x y = refused (post r) no_slot refl
+      place (Some i) e x y = posted r i e x y
   step_case (packet bs room) =
       branch (StepCase area limit p ws (packet bs room)) _ _ _ (λ x. refused (packet bs room) short_reply refl) (λ x. read (read_of served_row limit bs) refl (ltb-false room 24 x))
     where
