@@ -1,15 +1,13 @@
--- The checks of a call: the numbers, the walk over the peers, and the gate in front of the peer's own step.
-use Prim.Native.Nat.{ℕ, zero, suc, ◌+◌, ◌*◌, ◌/◌, ◌%◌, ◌≤◌, ◌<◌}
-use borrow.Author.Tests.{ltb-true, ltb-false, leb-true}
+-- The checks of a call: the numbers, the state, and the gate in front of the peer's own step.
+use Prim.Native.Nat.{ℕ, zero, suc, ◌*◌, ◌/◌, ◌%◌, ◌≤◌, ◌<◌}
+use borrow.Author.Tests.{ltb-true, leb-true}
 use lib.Dec.{leb, ltb, eqb}
-use lib.ListN.{length, get_or, take, drop, drop_of_length-le}
-use lib.Seq.{length-take-le, drop-cons, get_or-take}
+use lib.ListN.{length, get_or, take}
+use lib.Seq.{length-take-le, get_or-take}
 use mathlib.Core.Bool.{Bool, true, false, ◌&&◌}
 use mathlib.Core.List.{List, [], ◌∷◌}
-use mathlib.Core.Logic.{◌⊎◌, ⊎_elim}
 use mathlib.Core.Path.{◌≡◌, refl, sym, ap, ◌∙◌}
 use native.Mathlib.Nat.{mul-le-mul}
-use native.Mathlib.Numerals.{add-one}
 use native.Mathlib.Omega.{arith}
 use Rattle.protocol.specs.Refusals.{bad_lent, bad_peer, bad_state}
 use Rattle.engine.specs.Gates.{SmallArena, gate_of, through_gate}
@@ -40,59 +38,12 @@ small n area limit e =
       short = leb-true area area_limit (and_left _ (eqb (area % 64) 0 && (leb 64 limit && leb limit packet_limit)) d);
     }
 
-pub arena_small : (n area : ℕ) → SmallArena n area → n * area ≤ peer_count * area_limit
-arena_small n area s = mul-le-mul s.few s.short
-
 pub map_small : (n area : ℕ) → SmallArena n area → n * (area / 64) ≤ peer_count * (area_limit / 64)
 map_small n area s =
     let w : area / 64 ≤ area_limit / 64 = omega (arith, s.short) in
     mul-le-mul s.few w
 
--- ---- the walk over the peers
-
-module _ (area n : ℕ) (ps : List Peer) (i : ℕ) where
-  peers_turn : (d : Peer) → i < n → n ≤ length ps → all_peers_fit area (drop i (take n ps)) ≡ (peer_fits area (get_or ps i d) && all_peers_fit area (drop (i + 1) (take n ps)))
-  unfolding all_peers_fit
-  peers_turn d h k =
-      let l : i < length (take n ps) = simp (length-take-le n ps k) (omega arith) in
-      let e : get_or (take n ps) i d ≡ get_or ps i d = get_or-take n ps i d h in
-      rw (add-one, drop-cons (take n ps) i d l, e)
-
-  peers_end : n ≤ i → n ≤ length ps → all_peers_fit area (drop i (take n ps)) ≡ true
-  unfolding all_peers_fit
-  peers_end h k =
-      let l : length (take n ps) ≤ i = simp (length-take-le n ps k) (omega arith) in
-      rw (drop_of_length-le (take n ps) l)
-
--- the walk has come to peer i with `fits`: the state can be if it `fits` and the peers from i on can be
-pub record Walked (e : Engine) (fits : Bool) (i : ℕ) : Type 0 where
-  pub eight : length e.peers ≡ peer_count
-  pub small : fits ≡ true → SmallArena e.n e.area
-  pub rest : engine_fits e ≡ (fits && all_peers_fit e.area (drop i (take e.n e.peers)))
-
-module _ {e : Engine} where
-  pub walk_start : {fits : Bool} → length e.peers ≡ peer_count → fits ≡ numbers_fit e.n e.area e.limit → Walked e fits 0
-  unfolding engine_fits
-  walk_start k x = record { eight = k; small = λ y. small e.n e.area e.limit (sym x ∙ y); rest = rw x }
-
-  module _ {fits : Bool} {i : ℕ} (w : Walked e fits i) where
-    -- on the way i is a peer's number
-    pub walk_below : fits ≡ true → ltb i e.n ≡ true → (i < e.n) × (i < peer_count)
-    walk_below t l = let h = ltb-true i e.n l in (h, omega (arith, (w.small t).few))
-
-    pub walk_turn : (d : Peer) {next : Bool} → fits ≡ true → ltb i e.n ≡ true → next ≡ peer_fits e.area (get_or e.peers i d) → Walked e next (i + 1)
-    walk_turn d t l y =
-        record {
-          eight = w.eight;
-          small = λ _. w.small t;
-          rest = w.rest ∙ rw (t, y) (peers_turn e.area e.n e.peers i d (walk_below t l).0 (omega (arith, w.eight, (w.small t).few)));
-        }
-
-    pub walk_left : fits ≡ false → engine_fits e ≡ fits
-    walk_left x = w.rest ∙ rw x
-
-    pub walk_end : fits ≡ true → ltb i e.n ≡ false → engine_fits e ≡ fits
-    walk_end t l = w.rest ∙ rw (t, peers_end e.area e.n e.peers i (ltb-false i e.n l) (omega (arith, w.eight, (w.small t).few)))
+-- ---- the check of the state
 
 module _ (e : Engine) where
   -- what the check says of the numbers and of each peer
@@ -109,8 +60,8 @@ module _ (e : Engine) where
     where
       each : (ps : List Peer) (j : ℕ) → j < length ps → all_peers_fit e.area ps ≡ true → peer_fits e.area (get_or ps j d) ≡ true
       each [] j l y = absurd (omega arith)
-      each (q ∷ ps) zero l y = unfold all_peers_fit in and_left (peer_fits e.area q) (all_peers_fit e.area ps) y
-      each (q ∷ ps) (suc j) l y = each ps j (omega arith) (unfold all_peers_fit in and_right (peer_fits e.area q) (all_peers_fit e.area ps) y)
+      each (q ∷ ps) zero l y = and_left (peer_fits e.area q) (all_peers_fit e.area ps) y
+      each (q ∷ ps) (suc j) l y = each ps j (omega arith) (and_right (peer_fits e.area q) (all_peers_fit e.area ps) y)
 
 -- ---- the gate
 
@@ -159,16 +110,15 @@ numbers_twice false b = refl
 numbers_twice true false = refl
 numbers_twice true true = refl
 
--- behind the walk
-pub gated : {e : Engine} {fits : Bool} {i arena map p : ℕ} {g : Gate} → Walked e fits i → ((fits ≡ true) × (ltb i e.n ≡ false)) ⊎ (fits ≡ false)
+-- behind the check of the state
+pub gated : {e : Engine} {fits : Bool} {arena map p : ℕ} {g : Gate} → length e.peers ≡ peer_count → fits ≡ engine_fits e
     → g ≡ gate_of (fits && numbers_fit e.n e.area e.limit) e.n e.area arena map p → Gated e arena map p g
 unfolding engine_fits
-gated {e} {fits} {i} {arena} {map} {p} {g} w c y =
-    let whole : engine_fits e ≡ fits = ⊎_elim (λ h. walk_end w h.0 h.1) (λ h. walk_left w h) c in
+gated {e} {fits} {arena} {map} {p} k x y =
     let numbers : Bool = numbers_fit e.n e.area e.limit in
     record {
-      eight = w.eight;
-      says = y ∙ ap (λ (b : Bool). gate_of b e.n e.area arena map p) (ap (λ (b : Bool). b && numbers) (sym whole) ∙ numbers_twice numbers _);
+      eight = k;
+      says = y ∙ ap (λ (b : Bool). gate_of b e.n e.area arena map p) (ap (λ (b : Bool). b && numbers) x ∙ numbers_twice numbers _);
     }
 
 pub opened : {e : Engine} {arena map p : ℕ} {g : Gate} → Gated e arena map p g → g ≡ Gate.Open → Opened e arena map p

@@ -134,14 +134,12 @@ set_up_is_checked n area limit arena map =
 
 -- a peer that cannot be
 one_unfit : (area : ℕ) (ps : List Peer) → all_peers_fit area ps ≡ false → (j : ℕ) × (j < length ps) × (peer_fits area (get_or ps j fresh_peer) ≡ false)
-unfolding all_peers_fit
 one_unfit area [] e = absurd (true≢false e)
 one_unfit area (p ∷ ps) e =
     ⊎_elim (λ x. (0, omega arith, x)) (λ x. let (j, l, y) = one_unfit area ps x in (suc j, omega arith, y))
     (and_fails (peer_fits area p) (all_peers_fit area ps) e)
 
 unfit_one : (area : ℕ) (ps : List Peer) (j : ℕ) → j < length ps → peer_fits area (get_or ps j fresh_peer) ≡ false → all_peers_fit area ps ≡ false
-unfolding all_peers_fit
 unfit_one area [] j l e = absurd (omega arith)
 unfit_one area (p ∷ ps) zero l e = ap (λ (t : Bool). t && all_peers_fit area ps) e
 unfit_one area (p ∷ ps) (suc j) l e = ap (λ (t : Bool). peer_fits area p && t) (unfit_one area ps j (omega arith) e) ∙ and-false (peer_fits area p)

@@ -78,7 +78,6 @@ parts_apart p q size d = elim (dec_lt q p) as (λ x. (q * size + size ≤ p * si
 -- ---- the state check
 
 each_fits : (area : ℕ) (ps : List Peer) → ((j : ℕ) → j < length ps → peer_fits area (get_or ps j fresh_peer) ≡ true) → all_peers_fit area ps ≡ true
-unfolding all_peers_fit
 each_fits area [] f = refl
 each_fits area (p ∷ ps) f = and_intro (peer_fits area p) (all_peers_fit area ps) (f 0 (omega arith)) (each_fits area ps (λ j h. f (suc j) (omega arith)))
 

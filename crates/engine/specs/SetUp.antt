@@ -1,5 +1,6 @@
 -- The set-up: its limits, the fresh engine, and which engines can be.
-use Rattle.std.specs.Prelude.{ℕ, ◌*◌, ◌/◌, ◌%◌, List, [], ◌∷◌, Bool, true, ◌&&◌, length, get_or, take, replicate, leb, eqb}
+use Rattle.std.specs.Prelude.{ℕ, ◌*◌, ◌/◌, ◌%◌, List, Bool, ◌&&◌, length, get_or, take, replicate, leb, eqb}
+use Rattle.std.specs.List.{list_all}
 use Rattle.laws.specs.Choose.{pick}
 use Rattle.protocol.specs.Refusals.{bad_set_up}
 use Rattle.protocol.specs.Limits.{packet_limit}
@@ -44,9 +45,8 @@ set_up n area limit arena map =
 
 -- ---- refusal 2
 
-unfoldable pub all_peers_fit : ℕ → List Peer → Bool
-all_peers_fit area [] = true
-all_peers_fit area (p ∷ ps) = peer_fits area p && all_peers_fit area ps
+abbrev pub all_peers_fit : ℕ → List Peer → Bool
+all_peers_fit area ps = list_all (λ (p : Peer). peer_fits area p) ps
 
 -- not "a state that can't be", over every peer below n
 unfoldable pub engine_fits : Engine → Bool

@@ -1,27 +1,32 @@
 // The checks of a call by themselves: whoever makes many calls on one engine checks the state once,
 // and hands the result to the gate of each.
-ghost use Rattle.std.specs.Prelude.{◌≡◌, ◌&&◌};
+ghost use Rattle.std.specs.Prelude.{◌≡◌, ◌&&◌, take};
 ghost use Rattle.engine.specs.Gates.{gate_of};
-ghost use Rattle.engine.specs.SetUp.{engine_fits, numbers_fit};
+ghost use Rattle.engine.specs.SetUp.{all_peers_fit, engine_fits, numbers_fit};
 
 use crate::checks;
 use crate::types::{Engine, Gate};
+use peer::Peer;
 use protocol::Refusal;
 
+// Whether each of the first n peers can be.
+fn peers_fit(peers: &[Peer], n: usize, area: usize) -> bool
+    ensures { result ≡ all_peers_fit area (take n peers.now) }
+{
+    peers
+        .iter()
+        .take(n)
+        .all(|peer| state_check::fits(peer, area))
+}
+
 // Whether the state can be.
-pub fn fits(engine: Engine) -> bool
-    ensures { result ≡ engine_fits engine }
+#[tactic(auto, unfolding(crate::specs::SetUp::engine_fits))]
+pub fn fits(engine: &Engine) -> bool
+    ensures { result ≡ engine_fits engine.now }
 {
     let n = engine.n;
     let area = engine.area;
-    let mut good = checks::numbers_fit(n, area, engine.limit);
-    let mut i: usize = 0;
-    while good && i < n {
-        let other = engine.peers[i];
-        good = state_check::fits(other, area);
-        i += 1;
-    }
-    good
+    checks::numbers_fit(n, area, engine.limit) && peers_fit(&engine.peers, n, area)
 }
 
 // Whether a call of a peer goes through, by what the check of the state said, the set-up numbers, the

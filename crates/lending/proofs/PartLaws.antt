@@ -5,29 +5,16 @@ use lib.ListN.{length, take, drop}
 use mathlib.Core.Bool.{true}
 use mathlib.Core.List.{List}
 use mathlib.Core.Path.{◌≡◌, ap, ◌∙◌}
-use native.Mathlib.Omega.{arith}
 use Rattle.laws.specs.Parts.{part}
 use Rattle.laws.proofs.Storing.{length_part, lent_part, put_part, put_store}
 use Rattle.peer.specs.Calls.{packet, packet_effect, peer_step}
 use Rattle.peer.specs.Effects.{Effect}
-use Rattle.receiving.specs.Preconditions.{Limited, Mapped}
 use Rattle.receiving.specs.Leaves.{PacketLeaves, packet_leaves}
 use Rattle.peer.specs.State.{peer_fits, slot_count}
 use Rattle.peer.specs.declared.types.Peer.{Peer}
 use Rattle.peer.proofs.PeerSteps.Kept.{Kept, step_kept}
 use Rattle.peer.proofs.Slots.Valid.{fits_valid}
 use Rattle.lending.specs.Lending.{Lent, Owned, leaves_at}
-
--- ---- a packet's step, on a part of the whole
-
--- a part of as many bytes and words as the peer's area has is what the step asks for
-pub own_part : {area limit p arena map bytes words : ℕ} {q : Peer} → Owned area limit p arena map q → bytes ≡ area → words ≡ area / 64
-    → Limited limit × Mapped bytes words q
-own_part {area} o e f =
-    let whole : 64 * (area / 64) ≡ area = omega (arith, o.mapped.whole) in
-    rw (e, f) (record { low = o.low; high = o.high }, record { whole = whole; small = o.mapped.short; fits = o.mapped.fits })
-
--- ---- and put into the whole
 
 packet_kept : (area limit : ℕ) (q : Peer) (ws bs : List ℕ) (room : ℕ) → peer_fits area q ≡ true → length q.slots ≡ slot_count
     → Kept area q ws (packet_effect limit q ws bs room)

@@ -11,6 +11,7 @@ use peer::{Call, LocalCall, Peer, Step};
 
 // One call of peer p that writes nothing lent, whose gate is open. Of the map only the peer's own part is
 // lent on, to be read. No packet comes in, so that no limit on packets counts.
+#[tactic(auto, unfolding(peer::specs::Calls::peer_step))]
 pub fn local(there: Peer, p: usize, area: usize, call: LocalCall, map: &[u64]) -> Step
     requires { WordsOwned area p (length map.now) there }
     ensures { (limit : ℕ) → quiet result.peer (part map.now (p * (area / 64)) (area / 64)) result.answer ≡ peer_step area limit there (part map.now (p * (area / 64)) (area / 64)) (local_call_of call) }
@@ -20,7 +21,7 @@ pub fn local(there: Peer, p: usize, area: usize, call: LocalCall, map: &[u64]) -
         LocalCall::Cancel(slot) => posting::cancel(there, slot),
         LocalCall::Report(slot) => Step {
             peer: there,
-            answer: report_at(there, p, slot, area, map),
+            answer: report_at(&there, p, slot, area, map),
         },
     }
 }

@@ -44,9 +44,10 @@ pub(crate) fn packet_at(
 }
 
 // The missing-byte report of a slot of peer p.
-pub(crate) fn report_at(there: Peer, p: usize, slot: usize, area: usize, map: &[u64]) -> Answer
-    requires { WordsOwned area p (length map.now) there }
-    ensures { quiet there (part map.now (p * (area / 64)) (area / 64)) result ≡ report_effect there (part map.now (p * (area / 64)) (area / 64)) slot }
+#[tactic(auto, using(laws::proofs::Storing::lent_part))]
+pub(crate) fn report_at(there: &Peer, p: usize, slot: usize, area: usize, map: &[u64]) -> Answer
+    requires { WordsOwned area p (length map.now) there.now }
+    ensures { quiet there.now (part map.now (p * (area / 64)) (area / 64)) result ≡ report_effect there.now (part map.now (p * (area / 64)) (area / 64)) slot }
 {
     let words = area / 64;
     let first = p * words;

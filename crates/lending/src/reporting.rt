@@ -12,29 +12,25 @@ fn missing(inbound: Inbound, words: &[u64]) -> Answer
     requires { Mapping (length words.now) inbound }
     ensures { result ≡ missing_in words.now inbound }
 {
-    let receive = inbound.receive;
-    let message = inbound.message;
-    let start = receive.start;
+    let Inbound { receive, message } = inbound;
     let length = message.length;
     Answer::Missing {
-        received: bitmap::count_set(words, start, length),
-        first: bitmap::first_clear(words, start, length),
+        received: bitmap::count_set(words, receive.start, length),
+        first: bitmap::first_clear(words, receive.start, length),
     }
 }
 
 // The missing-byte report of an open slot. Nothing changes.
-pub(crate) fn report(peer: Peer, slot: usize, words: &[u64]) -> Answer
-    requires { Mapped (64 * length words.now) (length words.now) peer }
-    ensures { quiet peer words.now result ≡ report_effect peer words.now slot }
+#[tactic(auto, using(crate::proofs::OpenSlots::open_mapped), unfolding(peer::specs::Calls::report_effect, peer::specs::Calls::report_slot, laws::specs::Choose::pick))]
+pub(crate) fn report(peer: &Peer, slot: usize, words: &[u64]) -> Answer
+    requires { Mapped (64 * length words.now) (length words.now) peer.now }
+    ensures { quiet peer.now words.now result ≡ report_effect peer.now words.now slot }
 {
     if Peer::SLOTS <= slot {
         return Answer::Refused(Refusal::BadSlot);
     }
-    let there = peer.slots[slot];
-    let phase = there.phase;
-    match phase {
-        Phase::Free => Answer::Refused(Refusal::BadSlot),
-        Phase::Posted(_, _) => Answer::Refused(Refusal::BadSlot),
+    match peer.slots[slot].phase {
+        Phase::Free | Phase::Posted(_, _) => Answer::Refused(Refusal::BadSlot),
         Phase::Open(inbound) => missing(inbound, words),
     }
 }

@@ -31,7 +31,7 @@ fn run_calls(
     requires { Eights start }
     ensures { record { world = world result.engine arena.new map.new; taken = result.taken; replies = replies.new; output = answers.new; place = words_each * result.taken } ≡ ran_from (world start arena.old map.old) calls.now bytes.now replies.old answers.old }
 {
-    let good = engine::fits(start);
+    let good = engine::fits(&start);
     let most = budget(calls.len(), answers.len());
     let mut engine = start;
     let mut at: usize = 0;

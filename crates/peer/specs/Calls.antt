@@ -1,5 +1,6 @@
 -- One peer's step: a call on the peer and its own map words (01's table of refusals: the order of each call's checks from 5 on).
-use Rattle.std.specs.Prelude.{ℕ, ◌+◌, Bool, false, ◌||◌, List, [], ◌∷◌, length, set, nat_le, nat_lt, Result, Ok, Err}
+use Rattle.std.specs.Prelude.{ℕ, ◌+◌, Bool, true, false, List, [], ◌∷◌, length, set, nat_le, nat_lt, Option, Some, None, ◌||◌, Result, Ok, Err}
+use Rattle.std.specs.List.{list_any}
 use Rattle.laws.specs.Choose.{pick}
 use Rattle.bitmap.specs.Map.{count_set, first_clear}
 use Rattle.protocol.specs.Refusals.{bad_length, bad_slot, no_slot, overlaps, short_reply}
@@ -11,7 +12,6 @@ use Rattle.peer.specs.declared.types.Inbound.{Inbound}
 use Rattle.peer.specs.declared.types.Phase.{Phase}
 use Rattle.peer.specs.declared.types.Slot.{Slot}
 use Rattle.peer.specs.declared.types.Peer.{Peer}
-use Rattle.peer.specs.declared.types.Vacancy.{Vacancy}
 use Rattle.peer.specs.declared.types.Answer.{Answer}
 use Rattle.peer.specs.Effects.{Effect, quiet, refuse, with_phase, carry}
 use Rattle.peer.specs.Incomings.{incoming_of}
@@ -60,9 +60,13 @@ on_packet other arriving (report i) = other
 
 -- ---- post
 
-unfoldable pub overlaps_some : Receive → List Slot → Bool
-overlaps_some r [] = false
-overlaps_some r (s ∷ ss) = overlaps_use r s.phase || overlaps_some r ss
+abbrev pub overlaps_some : Receive → List Slot → Bool
+overlaps_some r ss = list_any (λ (s : Slot). overlaps_use r s.phase) ss
+
+abbrev pub is_posted : Phase → Bool
+is_posted Phase.Free = false
+is_posted (Phase.Posted r a) = true
+is_posted (Phase.Open o) = false
 
 -- how many posted receives there are
 abbrev pub one_posted : Phase → ℕ
@@ -73,6 +77,12 @@ one_posted (Phase.Open o) = 0
 unfoldable pub count_posted : List Slot → ℕ
 count_posted [] = 0
 count_posted (s ∷ ss) = one_posted s.phase + count_posted ss
+
+-- a posted receive that is older than age a
+abbrev pub is_older : ℕ → Phase → Bool
+is_older a Phase.Free = false
+is_older a (Phase.Posted r b) = nat_lt b a
+is_older a (Phase.Open o) = false
 
 -- how many posted receives are older than age a
 abbrev pub one_older : ℕ → Phase → ℕ
@@ -99,9 +109,9 @@ unfoldable pub placed : Peer → Receive → ℕ → Peer
 placed p r i =
     record { next = p.next; slots = set (renumbered p.slots p.slots) i (slot_with (Phase.Posted r (count_posted p.slots))) }
 
-unfoldable pub placed_in : Peer → List ℕ → Receive → Vacancy → Effect
-placed_in p ws r Vacancy.Full = refuse p ws no_slot
-placed_in p ws r (Vacancy.Slot i) = quiet (placed p r i) ws (Answer.Posted i)
+unfoldable pub placed_in : Peer → List ℕ → Receive → Option ℕ → Effect
+placed_in p ws r None = refuse p ws no_slot
+placed_in p ws r (Some i) = quiet (placed p r i) ws (Answer.Posted i)
 
 -- "Post: .. 11, 19, 18"
 unfoldable pub post_effect : ℕ → Peer → List ℕ → Receive → Effect

@@ -1,5 +1,5 @@
 -- What 01 demands of a call after a history: every refusal from 5 on, in its order, every other answer with its numbers, and what comes with it.
-use Rattle.std.specs.Prelude.{ℕ, suc, ◌+◌, Bool, false, ◌&&◌, ◌||◌, List, [], ◌∷◌, nat_le, nat_lt, None, Result, Ok, Err}
+use Rattle.std.specs.Prelude.{ℕ, suc, ◌+◌, Bool, false, ◌&&◌, ◌||◌, List, [], ◌∷◌, nat_le, nat_lt, Option, Some, None, Result, Ok, Err}
 use Rattle.laws.specs.Choose.{pick}
 use Rattle.bitmap.specs.Offsets.{some_of, count_of, first_not}
 use Rattle.protocol.specs.Cts.{cts_bytes}
@@ -13,9 +13,6 @@ use Rattle.peer.specs.declared.types.Receive.{Receive}
 use Rattle.peer.specs.declared.types.Message.{Message}
 use Rattle.peer.specs.declared.types.Inbound.{Inbound}
 use Rattle.peer.specs.declared.types.Incoming.{Incoming}
-use Rattle.peer.specs.declared.types.FoundOpen.{FoundOpen}
-use Rattle.peer.specs.declared.types.Fit.{Fit}
-use Rattle.peer.specs.declared.types.Vacancy.{Vacancy}
 use Rattle.peer.specs.declared.types.Answer.{Answer}
 use Rattle.peer.specs.Answers.{on_done, on_granted}
 use Rattle.peer.specs.Calls.{Call, cancel, on_packet, packet, post, report}
@@ -37,16 +34,16 @@ any_overlap r (waiting s ∷ us) = overlap r s || any_overlap r us
 any_overlap r (receiving o ∷ us) = overlap r o.receive || any_overlap r us
 
 -- "A post takes the lowest free slot"
-unfoldable pub lowest_idle : ℕ → List Role → Vacancy
-lowest_idle i [] = Vacancy.Full
-lowest_idle i (idle ∷ us) = Vacancy.Slot i
+unfoldable pub lowest_idle : ℕ → List Role → Option ℕ
+lowest_idle i [] = None
+lowest_idle i (idle ∷ us) = Some i
 lowest_idle i (waiting r ∷ us) = lowest_idle (suc i) us
 lowest_idle i (receiving o ∷ us) = lowest_idle (suc i) us
 
 -- 18: "no free slot"
-abbrev pub expect_place : Vacancy → Answer
-expect_place Vacancy.Full = Answer.Refused no_slot
-expect_place (Vacancy.Slot i) = Answer.Posted i
+abbrev pub expect_place : Option ℕ → Answer
+expect_place None = Answer.Refused no_slot
+expect_place (Some i) = Answer.Posted i
 
 unfoldable pub expect_post : ℕ → Plain → Receive → Answer
 expect_post area l r =
@@ -96,9 +93,9 @@ expect_data limit l h bytes i o =
     (refusing late)
 
 -- "matches the oldest fitting receive"; "Length above capacity: answer truncated (slot, id, length)"
-unfoldable pub expect_fit : ℕ → Incoming → List ℕ → Fit → Ruling
-expect_fit limit h bytes Fit.Unfit = refusing no_receive
-expect_fit limit h bytes (Fit.To i r serial) =
+unfoldable pub expect_fit : ℕ → Incoming → List ℕ → Option (ℕ × Receive × ℕ) → Ruling
+expect_fit limit h bytes None = refusing no_receive
+expect_fit limit h bytes (Some (i, r, serial)) =
     let t : Target = begun_at h i r serial (segment_of h bytes) in
     pick (nat_lt r.capacity h.length) (record { target = t; answer = Answer.Truncated i h.id h.length })
     (accepting limit (opened r h) t)
@@ -108,11 +105,11 @@ unfoldable pub expect_new : ℕ → Plain → Incoming → List ℕ → Ruling
 expect_new limit l h bytes =
     pick (nat_lt 2147483647 (ahead h.id l.next)) (refusing late)
     (pick (nat_lt 0 (ahead h.id l.next)) (refusing early)
-    (expect_fit limit h bytes (first_posted h 0 Fit.Unfit l.entries)))
+    (expect_fit limit h bytes (first_posted h 0 None l.entries)))
 
-unfoldable pub expect_found : ℕ → Plain → Incoming → List ℕ → FoundOpen → Ruling
-expect_found limit l h bytes (FoundOpen.At i o) = pick (is_rtm h.shape) (expect_again limit l h bytes i o) (expect_data limit l h bytes i o)
-expect_found limit l h bytes FoundOpen.Nothing = pick (is_rtm h.shape) (expect_new limit l h bytes) (refusing late)
+unfoldable pub expect_found : ℕ → Plain → Incoming → List ℕ → Option (ℕ × Inbound) → Ruling
+expect_found limit l h bytes (Some (i, o)) = pick (is_rtm h.shape) (expect_again limit l h bytes i o) (expect_data limit l h bytes i o)
+expect_found limit l h bytes None = pick (is_rtm h.shape) (expect_new limit l h bytes) (refusing late)
 
 -- the reader's refusals come first
 unfoldable pub expect_read : ℕ → Plain → List ℕ → Result Packet Refusal → Ruling

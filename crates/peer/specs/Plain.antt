@@ -1,12 +1,10 @@
 -- The plain receiver: what the history of one peer, its calls and the answers they got, says of its receives and messages.
 -- No map, no ages, no arena.
-use Rattle.std.specs.Prelude.{ℕ, suc, ◌+◌, ◌%◌, Bool, true, false, List, [], ◌∷◌, map, replicate, ◌==◌, slice_index_or, slice_set}
+use Rattle.std.specs.Prelude.{ℕ, suc, ◌+◌, ◌%◌, Bool, true, false, List, [], ◌∷◌, map, replicate, ◌==◌, slice_index_or, slice_set, Option, Some, None}
 use Rattle.laws.specs.Choose.{pick}
 use Rattle.peer.specs.declared.types.Receive.{Receive}
 use Rattle.peer.specs.declared.types.Inbound.{Inbound}
 use Rattle.peer.specs.declared.types.Incoming.{Incoming}
-use Rattle.peer.specs.declared.types.FoundOpen.{FoundOpen}
-use Rattle.peer.specs.declared.types.Fit.{Fit}
 use Rattle.peer.specs.declared.types.Answer.{Answer}
 use Rattle.peer.specs.Answers.{on_cancelled, on_posted, on_taken}
 use Rattle.peer.specs.Calls.{Call, cancel, packet, post, report}
@@ -56,19 +54,19 @@ roles es = map (λ (e : Entry). e.role) es
 -- ---- the message that a packet belongs to
 
 -- "An RTM whose id is open belongs to that message": the open message with this id, in roles that are numbered from i on
-unfoldable pub open_in : ℕ → ℕ → List Role → FoundOpen
-open_in id i [] = FoundOpen.Nothing
+unfoldable pub open_in : ℕ → ℕ → List Role → Option (ℕ × Inbound)
+open_in id i [] = None
 open_in id i (idle ∷ us) = open_in id (suc i) us
 open_in id i (waiting r ∷ us) = open_in id (suc i) us
-open_in id i (receiving o ∷ us) = pick (o.message.id == id) (FoundOpen.At i o) (open_in id (suc i) us)
+open_in id i (receiving o ∷ us) = pick (o.message.id == id) (Some (i, o)) (open_in id (suc i) us)
 
 -- "Oldest means posted first": of the receives that the packet fits the one with the fewest posts before it
-unfoldable pub first_here : Incoming → Fit → ℕ → Role → ℕ → Fit
+unfoldable pub first_here : Incoming → Option (ℕ × Receive × ℕ) → ℕ → Role → ℕ → Option (ℕ × Receive × ℕ)
 first_here h best i idle serial = best
 first_here h best i (waiting r) serial = pick (fits h r) (older best i r serial) best
 first_here h best i (receiving o) serial = best
 
-unfoldable pub first_posted : Incoming → ℕ → Fit → List Entry → Fit
+unfoldable pub first_posted : Incoming → ℕ → Option (ℕ × Receive × ℕ) → List Entry → Option (ℕ × Receive × ℕ)
 first_posted h i best [] = best
 first_posted h i best (e ∷ es) = first_posted h (suc i) (first_here h best i e.role e.serial) es
 

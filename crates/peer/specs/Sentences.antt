@@ -1,6 +1,6 @@
 -- The tests that engine and plain receiver share, in 01's own words, over numbers, bits and bytes.
 -- Proved in proofs/Sentences/SentencesHold.antt, proofs/Sentences/OffsetsHold.antt and proofs/Sentences/FieldsHold.antt.
-use Rattle.std.specs.Prelude.{◌≡◌, ℕ, ◌+◌, ◌%◌, ◌^◌, ◌<◌, ◌≤◌, Bool, true, false, ◌≢◌, ◌⊎◌, ◌↔◌, List, [], ◌∷◌, length, get_or, slice_index, slice_index_or, Ok}
+use Rattle.std.specs.Prelude.{◌≡◌, ℕ, ◌+◌, ◌%◌, ◌^◌, ◌<◌, ◌≤◌, Bool, true, false, ◌≢◌, ◌⊎◌, ◌↔◌, List, [], ◌∷◌, length, get_or, slice_index, slice_index_or, Some, None, Ok}
 use mathlib.Core.List.{Memᴰ}
 use Rattle.bitmap.specs.Offsets.{count_of, first_not, some_of}
 use Rattle.protocol.specs.ByType.{tagged_told}
@@ -15,8 +15,6 @@ use Rattle.peer.specs.Matching.{ahead, fits, same_message}
 use Rattle.peer.specs.PacketBytes.{type_number, type_of, type_said}
 use Rattle.peer.specs.Plain.{Entry, Role, first_posted, idle, open_in, receiving, slot_entry, waiting}
 use Rattle.peer.specs.State.{overlap, slot_count}
-use Rattle.peer.specs.declared.types.Fit.{Fit}
-use Rattle.peer.specs.declared.types.FoundOpen.{FoundOpen}
 use Rattle.peer.specs.declared.types.Inbound.{Inbound}
 use Rattle.peer.specs.declared.types.Incoming.{Incoming}
 use Rattle.peer.specs.declared.types.Message.{Message}
@@ -105,18 +103,18 @@ OpenUnder us id i o = (slice_index_or us i idle ≡ receiving o) × (o.message.i
 unfoldable pub FoundIsTheLowestOpen : Type 0
 FoundIsTheLowestOpen =
     (us : List Role) (id i : ℕ) (o : Inbound)
-    → (open_in id 0 us ≡ FoundOpen.At i o) ↔ (OpenUnder us id i o × ((j : ℕ) (m : Inbound) → j < i → OpenUnder us id j m → ⊥))
+    → (open_in id 0 us ≡ Some (i, o)) ↔ (OpenUnder us id i o × ((j : ℕ) (m : Inbound) → j < i → OpenUnder us id j m → ⊥))
 
 -- 15, 12, 13: "if not open"
 unfoldable pub NothingFoundIsNoneOpen : Type 0
 NothingFoundIsNoneOpen =
-    (us : List Role) (id : ℕ) → (open_in id 0 us ≡ FoundOpen.Nothing) ↔ ((j : ℕ) (m : Inbound) → OpenUnder us id j m → ⊥)
+    (us : List Role) (id : ℕ) → (open_in id 0 us ≡ None) ↔ ((j : ℕ) (m : Inbound) → OpenUnder us id j m → ⊥)
 
 -- 13: "no posted receive of this peer fits"
 unfoldable pub UnfitIsNoneWaiting : Type 0
 UnfitIsNoneWaiting =
     (h : Incoming) (es : List Entry)
-    → (first_posted h 0 Fit.Unfit es ≡ Fit.Unfit) ↔ ((j : ℕ) (r : Receive) → (slot_entry es j).role ≡ waiting r → fits h r ≢ true)
+    → (first_posted h 0 None es ≡ None) ↔ ((j : ℕ) (r : Receive) → (slot_entry es j).role ≡ waiting r → fits h r ≢ true)
 
 -- ---- offsets
 

@@ -1,5 +1,6 @@
 -- Slots and their phases, and which states can be.
 use Rattle.std.specs.Prelude.{ℕ, ◌+◌, min, max, Bool, true, false, not, ◌&&◌, ◌||◌, List, [], ◌∷◌, replicate, ◌==◌, nat_le, nat_lt, slice_index_or}
+use Rattle.std.specs.List.{list_all}
 use Rattle.peer.specs.declared.types.Receive.{Receive}
 use Rattle.peer.specs.declared.types.Phase.{Phase}
 use Rattle.peer.specs.declared.types.Slot.{Slot}
@@ -63,13 +64,11 @@ clash (Phase.Open o) Phase.Free = false
 clash (Phase.Open o) (Phase.Posted s b) = overlap o.receive s
 clash (Phase.Open o) (Phase.Open q) = overlap o.receive q.receive || o.message.id == q.message.id
 
-unfoldable pub all_fit : ℕ → List Slot → Bool
-all_fit area [] = true
-all_fit area (s ∷ ss) = phase_fits area s.phase && all_fit area ss
+abbrev pub all_fit : ℕ → List Slot → Bool
+all_fit area ss = list_all (λ (s : Slot). phase_fits area s.phase) ss
 
-unfoldable pub none_clash : Phase → List Slot → Bool
-none_clash f [] = true
-none_clash f (s ∷ ss) = not (clash f s.phase) && none_clash f ss
+abbrev pub none_clash : Phase → List Slot → Bool
+none_clash f ss = list_all (λ (s : Slot). not (clash f s.phase)) ss
 
 unfoldable pub pairs_apart : List Slot → Bool
 pairs_apart [] = true

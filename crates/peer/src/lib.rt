@@ -6,6 +6,6 @@ mod state;
 mod types;
 
 pub use types::{
-    Answer, Call, Fit, FoundOpen, Inbound, Incoming, LocalCall, Message, Peer, Phase, Progress,
-    Receive, Request, Slot, SlotStep, Step, Vacancy, Verdict,
+    Answer, Call, Inbound, Incoming, LocalCall, Message, Peer, Phase, Progress, Receive, Request,
+    Slot, SlotStep, Step, Verdict,
 };

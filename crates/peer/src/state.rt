@@ -30,12 +30,7 @@ impl Slot {
     pub fn is_free(self) -> bool
         ensures { result ≡ is_free self.phase }
     {
-        let phase = self.phase;
-        match phase {
-            Phase::Free => true,
-            Phase::Posted(_, _) => false,
-            Phase::Open(_) => false,
-        }
+        matches!(self.phase, Phase::Free)
     }
 }
 
@@ -68,8 +63,7 @@ impl Peer {
         ensures { result ≡ with_phase self i phase }
     {
         let mut peer = self;
-        let slot = Slot { phase };
-        peer.slots[i] = slot;
+        peer.slots[i] = Slot { phase };
         peer
     }
 
@@ -87,11 +81,9 @@ impl Peer {
         requires { i < slot_count }
         ensures { result ≡ record { peer = with_phase self i step.phase; answer = step.answer } }
     {
-        let phase = step.phase;
-        let answer = step.answer;
         Step {
-            peer: self.with_phase(i, phase),
-            answer,
+            peer: self.with_phase(i, step.phase),
+            answer: step.answer,
         }
     }
 

@@ -68,27 +68,6 @@ pub struct Peer {
     pub slots: [Slot; Peer::SLOTS],
 }
 
-// The open message that a packet belongs to.
-#[derive(Clone, Copy)]
-pub enum FoundOpen {
-    At(usize, Inbound),
-    Nothing,
-}
-
-// The oldest receive that a packet fits, with its age.
-#[derive(Clone, Copy)]
-pub enum Fit {
-    To(usize, Receive, u64),
-    Unfit,
-}
-
-// The lowest free slot.
-#[derive(Clone, Copy)]
-pub enum Vacancy {
-    Slot(usize),
-    Full,
-}
-
 // What is to be done with a packet.
 #[derive(Clone, Copy)]
 pub enum Verdict {

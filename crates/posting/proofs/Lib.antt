@@ -1,2 +1,1 @@
-pub mod Cancelling
 pub mod Renumbering

@@ -1,21 +1,21 @@
 -- What the parts of a packet call ask is there: from the peer's own check, from what a packet that was read keeps to, and from the verdict.
 use Rattle.std.specs.Prelude.{Ok}
-use Rattle.std.proofs.Common.{◌≡◌, ℕ, ◌+◌, ◌-◌, ◌*◌, ◌<◌, ◌≤◌, min, max, true, leb, List, [], length, sym, refl, ap, subst, mul-le-mul, arith, leb-true}
+use Rattle.std.proofs.Common.{◌≡◌, ℕ, ◌+◌, ◌-◌, ◌*◌, ◌<◌, ◌≤◌, min, max, true, leb, List, [], length, sym, ap, subst, mul-le-mul, arith, leb-true, refl}
 use borrow.Author.Tests.{eqb-false}
 use Rattle.bitmap.specs.Map.{first_clear}
 use Rattle.protocol.specs.Reading.{packet_in, read_of}
 use Rattle.protocol.specs.declared.table.TypeRow.{TypeRow}
 use Rattle.protocol.specs.declared.types.Packet.{Packet}
 use Rattle.protocol.specs.Types.{served_row}
-use Rattle.receiving.specs.Preconditions.{Limited, MayBegin, MayCarry, MayGrant, MayJudge, MayStore, Placed}
-use Rattle.peer.specs.Effects.{grant_of, opened, progress_of, quiet, with_phase}
+use Rattle.receiving.specs.Preconditions.{MayBegin, MayCarry, MayGrant, MayJudge, MayStore, Placed}
+use Rattle.peer.specs.Effects.{grant_of, progress_of, quiet, with_phase}
 use Rattle.peer.specs.Incomings.{is_rtm}
 use Rattle.peer.specs.Judging.{judge}
 use Rattle.receiving.specs.Leaves.{PacketLeaves, Replied, SegmentLeaves, packet_leaves}
 use Rattle.peer.specs.Matching.{find_open, same_message}
 use Rattle.peer.specs.State.{slot_count}
 use Rattle.peer.specs.declared.types.Answer.{Answer}
-use Rattle.peer.specs.declared.types.FoundOpen.{FoundOpen}
+use Rattle.std.specs.Prelude.{Some}
 use Rattle.peer.specs.declared.types.Inbound.{Inbound}
 use Rattle.peer.specs.declared.types.Incoming.{Incoming}
 use Rattle.peer.specs.declared.types.Message.{Message}
@@ -32,7 +32,6 @@ use Rattle.protocol.proofs.Served.{any_read}
 use Rattle.peer.proofs.PeerSteps.Kept.{begun_beside, continued_beside}
 use Rattle.peer.proofs.Slots.Valid.{Valid, Within, fits_valid}
 use Rattle.peer.proofs.PeerSteps.Verdicts.{Judged, again_inside, chosen_at, continued_at, found_within, judged}
-use Rattle.protocol.specs.Limits.{packet_limit}
 
 -- ---- a grant
 
@@ -42,11 +41,6 @@ grant_one limit m g =
     let most : 1 ≤ min (max m.credit_request 1) 16 = omega arith in
     let some : 1 ≤ limit - 32 = omega (arith, g.limited.low) in
     omega (arith, g.remains, mul-le-mul most some)
-
-pub grant_most : (limit credits : ℕ) → Limited limit → credits ≤ 16 → credits * (limit - 32) ≤ 131072
-grant_most limit credits l h =
-    let some : limit - 32 ≤ packet_limit = omega (arith, l.high) in
-    omega (arith, mul-le-mul h some)
 
 -- more is due only where length remains
 pub due_remains : (ws : List ℕ) (o : Inbound) → progress_of ws o ≡ Progress.Due → o.message.granted < o.message.length
@@ -60,7 +54,7 @@ due_remains ws o e =
 
 -- ---- the judgement
 
-module _ (words : ℕ) (p : Peer) (h : Incoming) (j : MayJudge words p h) (i : ℕ) (o : Inbound) (e : find_open h.id 0 p.slots ≡ FoundOpen.At i o) where
+module _ (words : ℕ) (p : Peer) (h : Incoming) (j : MayJudge words p h) (i : ℕ) (o : Inbound) (e : find_open h.id 0 p.slots ≡ Some (i, o)) where
   valid : Valid (64 * words) p.slots
   valid = fits_valid (64 * words) p j.mapped.fits
 
@@ -79,13 +73,6 @@ module _ (words : ℕ) (p : Peer) (h : Incoming) (j : MayJudge words p h) (i : �
 -- ---- a verdict is carried out
 
 module _ (limit : ℕ) (p : Peer) (h : Incoming) (n area words reply : ℕ) (c : MayCarry limit p h n area words reply) (eight : length p.slots ≡ slot_count) (ws : List ℕ) where
-  pub judging : MayJudge words p h
-  judging =
-      record {
-        mapped = record { whole = refl; small = omega (arith, c.mapped.whole, c.mapped.small); fits = rw c.mapped.whole c.mapped.fits };
-        form = record { size = refl; inside = c.form.inside; start = c.form.start; some = c.form.some };
-      }
-
   sound : Valid area p.slots
   sound = fits_valid area p c.mapped.fits
 
@@ -136,23 +123,6 @@ module _ (limit : ℕ) (p : Peer) (h : Incoming) (n area words reply : ℕ) (c :
         };
         in_message = omega (arith, v.in_length s.within.in_length, c.form.size);
       }
-
--- a message that begins is stored as it was opened
-pub begun_stores : (limit : ℕ) (r : Receive) (h : Incoming) (n area words words' reply : ℕ) → MayBegin limit r h n area words reply
-    → 64 * words' ≡ area → MayStore limit (opened r h) h.offset n area words' reply
-begun_stores limit r h n area words words' reply b whole =
-    record {
-      accepting = record {
-        limited = b.limited;
-        in_area = b.in_area;
-        in_range = b.in_range;
-        in_length = omega (arith, b.in_length);
-        whole = whole;
-        small = b.small;
-        room = b.room;
-      };
-      in_message = omega (arith, b.in_length, b.size);
-    }
 
 -- ---- a packet that was read
 

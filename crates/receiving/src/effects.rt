@@ -16,10 +16,8 @@ use peer::{
 fn opened(receive: Receive, h: Incoming) -> Inbound
     ensures { result ≡ opened receive h }
 {
-    let shape = h.shape;
-    let cq_data = h.cq_data;
     let message = Message {
-        shape,
+        shape: h.shape,
         tagged: h.tagged,
         id: h.id,
         tag: h.tag,
@@ -27,41 +25,35 @@ fn opened(receive: Receive, h: Incoming) -> Inbound
         granted: h.size,
         send_id: h.send_id,
         credit_request: h.credit_request,
-        cq_data,
+        cq_data: h.cq_data,
     };
     Inbound { receive, message }
 }
 
 // One search of the map: every byte is in, all that was granted is, or neither.
+#[tactic(auto, unfolding(peer::specs::Effects::progress_of, laws::specs::Choose::pick))]
 fn progress(inbound: Inbound, words: &[u64]) -> Progress
     requires { Mapping (length words.now) inbound }
     ensures { result ≡ progress_of words.now inbound }
 {
-    let receive = inbound.receive;
-    let message = inbound.message;
-    let length = message.length;
-    let first = bitmap::first_clear(words, receive.start, length);
-    if first == length {
-        return Progress::Whole;
+    let Inbound { receive, message } = inbound;
+    let first = bitmap::first_clear(words, receive.start, message.length);
+    if first == message.length {
+        Progress::Whole
+    } else if shapes::is_long(message.shape) && message.granted <= first {
+        Progress::Due
+    } else {
+        Progress::Partial
     }
-    let shape = message.shape;
-    if shapes::is_long(shape) {
-        if message.granted <= first {
-            return Progress::Due;
-        }
-    }
-    Progress::Partial
 }
 
 // The granted end moves on by n.
-fn extended(inbound: Inbound, n: usize) -> Inbound
+fn extended(mut inbound: Inbound, n: usize) -> Inbound
     requires { inbound.message.granted + n ≤ inbound.message.length }
     ensures { result ≡ extended n inbound }
 {
-    let receive = inbound.receive;
-    let mut message = inbound.message;
-    message.granted = message.granted + n;
-    Inbound { receive, message }
+    inbound.message.granted += n;
+    inbound
 }
 
 // Every byte of the message in slot i is in: the slot is freed.
@@ -69,14 +61,13 @@ fn finish(i: usize, inbound: Inbound) -> SlotStep
     ensures { result ≡ record { phase = (finished i inbound).phase; answer = (finished i inbound).answer } }
 {
     let message = inbound.message;
-    let cq_data = message.cq_data;
     SlotStep {
         phase: Phase::Free,
         answer: Answer::Done {
             slot: i,
             id: message.id,
             length: message.length,
-            cq_data,
+            cq_data: message.cq_data,
         },
     }
 }
@@ -119,6 +110,7 @@ fn settle(limit: usize, i: usize, inbound: Inbound, words: &[u64], reply: &mut [
 }
 
 // A segment is written and marked, and its message settled.
+#[tactic(auto, using(crate::proofs::Asking::within), unfolding(peer::specs::Effects::accept))]
 fn accept(
     limit: usize,
     i: usize,
@@ -132,14 +124,14 @@ fn accept(
     requires { MayStore limit inbound offset (length bytes.now) (length area.old) (length words.old) (length reply.old) }
     ensures { record { step = result; area = area.new; words = words.new; reply = reply.new } ≡ segment_leaves area.old reply.old (accept limit words.old i inbound offset bytes.now) }
 {
-    let receive = inbound.receive;
-    let at = receive.start + offset;
+    let at = inbound.receive.start + offset;
     segment::write_segment(area, at, bytes);
     bitmap::mark(words, at, bytes.len());
     settle(limit, i, inbound, words, reply)
 }
 
 // A message begins in the receive of slot i, whose bits are cleared first.
+#[tactic(auto, unfolding(peer::specs::Effects::begun))]
 fn begin(
     limit: usize,
     i: usize,
@@ -186,7 +178,7 @@ pub(crate) fn carry(
     requires { MayCarry limit peer h (length bytes.now) (length area.old) (length words.old) (length reply.old) }
     ensures { record { step = result; area = area.new; words = words.new; reply = reply.new } ≡ packet_leaves area.old reply.old (carry limit peer words.old h bytes.now (judge peer words.old h)) }
 {
-    match judging::judge(peer, h, words) {
+    match judging::judge(&peer, h, words) {
         Verdict::Refuse(refusal) => peer.refused(refusal),
         Verdict::Truncate(i) => peer.advanced().stepped(i, truncate(i, h)),
         Verdict::Begin(i, receive) => {

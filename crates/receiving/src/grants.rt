@@ -47,21 +47,16 @@ pub(crate) fn write_cts(reply: &mut [u8], send_id: u32, recv_id: u32, recv_lengt
 fn granted_packets(credit_request: u32) -> usize
     ensures { result ≡ min (max credit_request 1) 16 }
 {
-    if credit_request < 1 {
-        return 1;
-    }
-    if 16 < credit_request {
-        return 16;
-    }
-    credit_request as usize
+    credit_request.clamp(1, 16) as usize
 }
 
 // How many bytes the next CTS grants.
+#[tactic(auto, unfolding(peer::specs::Effects::grant_of))]
 pub(crate) fn grant_of(message: Message, limit: usize) -> usize
     requires { MayGrant limit message }
     ensures { result ≡ grant_of limit message }
 {
     let most = granted_packets(message.credit_request) * (limit - Peer::HEADER_ALLOWANCE);
     let left = message.length - message.granted;
-    if left < most { left } else { most }
+    left.min(most)
 }

@@ -8,6 +8,7 @@ use peer::Incoming;
 use protocol::{Fields, Packet, Shape};
 
 // The message's id: CTSDATA names its message by recv_id.
+#[tactic(auto, unfolding(laws::specs::Choose::pick))]
 fn message_id(shape: Shape, fields: Fields) -> u32
     ensures { result ≡ pick (is_rtm shape) fields.msg_id fields.recv_id }
 {
@@ -19,6 +20,7 @@ fn message_id(shape: Shape, fields: Fields) -> u32
 }
 
 // The message's length: an eager packet's data, `size` bytes, are the whole message.
+#[tactic(auto, unfolding(laws::specs::Choose::pick))]
 fn message_length(shape: Shape, fields: Fields, size: usize) -> usize
     ensures { result ≡ pick (is_eager shape) size fields.msg_length }
 {
@@ -30,14 +32,13 @@ fn message_length(shape: Shape, fields: Fields, size: usize) -> usize
 }
 
 // What the packet says.
+#[tactic(auto, unfolding(peer::specs::Incomings::incoming_of))]
 pub(crate) fn incoming_of(packet: Packet) -> Incoming
     ensures { result ≡ incoming_of packet }
 {
     let shape = packet.shape;
-    let header = packet.header;
-    let fields = header.fields;
+    let fields = packet.header.fields;
     let data = packet.data;
-    let cq_data = header.cq_data;
     Incoming {
         shape,
         tagged: packet.tagged,
@@ -48,6 +49,6 @@ pub(crate) fn incoming_of(packet: Packet) -> Incoming
         size: data.size,
         send_id: fields.send_id,
         credit_request: fields.credit_request,
-        cq_data,
+        cq_data: packet.header.cq_data,
     }
 }

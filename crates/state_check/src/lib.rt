@@ -5,63 +5,42 @@
 mod open;
 mod slots;
 
-ghost use Rattle.std.specs.Prelude.{◌≡◌, ◌+◌, ◌<◌};
-ghost use Rattle.laws.specs.Choose.{pick};
-ghost use Rattle.peer.specs.State.{all_fit, is_free, pairs_apart, peer_fits, slot_count};
+ghost use Rattle.std.specs.Prelude.{◌≡◌};
+ghost use Rattle.peer.specs.State.{all_fit, none_clash, pairs_apart, peer_fits};
 
 use peer::{Peer, Slot};
 
 // Whether each slot by itself can be.
-fn slots_fit(peer: Peer, area: usize) -> bool
-    ensures { result ≡ all_fit area peer.slots }
+fn slots_fit(slots: &[Slot], area: usize) -> bool
+    ensures { result ≡ all_fit area slots.now }
 {
-    let mut i: usize = 0;
-    while i < Peer::SLOTS {
-        let slot = peer.slots[i];
-        if !slots::fits(slot, area) {
+    slots.iter().all(|slot| slots::fits(slot, area))
+}
+
+// Whether a slot clashes with none of these. A free one does not, and none is looked at for it.
+#[tactic(auto, using(peer::proofs::Slots::SlotTurns::free_apart))]
+fn apart(slot: &Slot, others: &[Slot]) -> bool
+    ensures { result ≡ none_clash slot.now.phase others.now }
+{
+    slot.is_free() || others.iter().all(|other| !slots::clashes(slot, other))
+}
+
+// Whether no two slots clash: each pair is looked at once.
+fn pairs_apart(slots: &[Slot]) -> bool
+    ensures { result ≡ pairs_apart slots.now }
+{
+    for (i, slot) in slots.iter().enumerate() {
+        if !apart(slot, &slots[i + 1..]) {
             return false;
         }
-        i += 1;
-    }
-    true
-}
-
-// Where the slots begin that slot i is held against: behind it. A free one is held against none.
-fn first_other(slot: Slot, i: usize) -> usize
-    requires { i < slot_count }
-    ensures { result ≡ pick (is_free slot.phase) slot_count (i + 1) }
-{
-    if slot.is_free() { Peer::SLOTS } else { i + 1 }
-}
-
-// Whether no two slots clash: each pair is looked at once. Both loops stand here, where the peer is: a
-// function for the inner one would be handed the whole peer at each slot.
-fn pairs_apart(peer: Peer) -> bool
-    ensures { result ≡ pairs_apart peer.slots }
-{
-    let mut i: usize = 0;
-    while i < Peer::SLOTS {
-        let slot = peer.slots[i];
-        let mut j = first_other(slot, i);
-        while j < Peer::SLOTS {
-            let other = peer.slots[j];
-            if slots::clashes(slot, other) {
-                return false;
-            }
-            j += 1;
-        }
-        i += 1;
     }
     true
 }
 
 // Whether this is a peer that can be, with an area of this length.
-pub fn fits(peer: Peer, area: usize) -> bool
-    ensures { result ≡ peer_fits area peer }
+#[tactic(auto, unfolding(peer::specs::State::peer_fits))]
+pub fn fits(peer: &Peer, area: usize) -> bool
+    ensures { result ≡ peer_fits area peer.now }
 {
-    if slots_fit(peer, area) {
-        pairs_apart(peer)
-    } else {
-        false
-    }
+    slots_fit(&peer.slots, area) && pairs_apart(&peer.slots)
 }

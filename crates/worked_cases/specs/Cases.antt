@@ -3,8 +3,8 @@
 use Rattle.std.specs.Prelude.{ℕ, ◌≡◌, List, [], ◌∷◌, ◌++◌, map, true, false, length, replicate}
 use Rattle.wire.specs.LittleEndian.{le_at, le_bytes, le_of}
 use Rattle.peer.specs.Says.{Saying, say, refused, posted, stored, granted, done, truncated, missing}
-use Rattle.engine.specs.SetUp.{all_peers_fit, engine_fits, lent_fits, numbers_fit, peer_at, set_up}
-use Rattle.peer.specs.Calls.{LentCall, cancel_effect, cancel_slot, count_older, count_posted, packet, packet_effect, peer_step, placed, placed_in, post, post_effect, read_effect, renumbered, report, report_effect, report_slot, overlaps_some}
+use Rattle.engine.specs.SetUp.{engine_fits, lent_fits, numbers_fit, peer_at, set_up}
+use Rattle.peer.specs.Calls.{LentCall, cancel_effect, cancel_slot, count_older, count_posted, packet, packet_effect, peer_step, placed, placed_in, post, post_effect, read_effect, renumbered, report, report_effect, report_slot}
 use Rattle.guarantees.specs.Runs.{calls_of, observe, world_after}
 use Rattle.guarantees.specs.Receiving.{LentRequest, Seen, fresh_world, no_starts, receiving, turn_of}
 use Rattle.laws.specs.Choose.{pick}
@@ -25,8 +25,8 @@ use Rattle.bitmap.specs.Map.{bit, bit_at, set_bit, clear_bit, marked, cleared, t
 use Rattle.peer.specs.Effects.{progress_of, grant_of, settled_as, accept, begun, truncated_at, carry}
 use Rattle.peer.specs.Incomings.{incoming_of}
 use Rattle.peer.specs.Judging.{judge_more, judge_again, judge_data, judge_fit, judge_new, judge_found, judge}
-use Rattle.peer.specs.Matching.{open_here, find_open, same_outside, fits, older, older_here, oldest, vacancy, ahead, same_medium, same_message}
-use Rattle.peer.specs.State.{fresh_peer, overlap, overlaps_use, phase_fits, clash, all_fit, none_clash, pairs_apart, peer_fits}
+use Rattle.peer.specs.Matching.{open_here, find_open, same_outside, fits, older, older_here, oldest, ahead, same_medium, same_message}
+use Rattle.peer.specs.State.{fresh_peer, overlap, overlaps_use, phase_fits, clash, pairs_apart, peer_fits}
 use Rattle.engine.specs.Steps.{World, put_back, peer_turn, call_turn}
 
 -- ---- packets
@@ -169,11 +169,11 @@ unfoldable pub run : List LentCall → Case
 unfolding pick part store_at le_bytes le_of le_at cts_bytes has_flag flags_fit flagged flags_of sections_of layout field_bytes field_in fields_in
     lengths_fit raw_address_bytes cq_data_bytes connid_bytes connid_or_zero cq_data_in connid_in header_in packet_in read_lengths read_sections read_flags
     read_typed read_of array_length array_count count_in number_there array_span raw_span begin_of connid_at data_at sections_in extent_of row_in row_of admit
-    base_bytes mandatory_bytes packet_bytes bit bit_at set_bit clear_bit marked cleared touched count_set first_clear overlaps_some count_posted
+    base_bytes mandatory_bytes packet_bytes bit bit_at set_bit clear_bit marked cleared touched count_set first_clear count_posted
     count_older renumbered placed placed_in post_effect read_effect packet_effect cancel_slot cancel_effect report_slot report_effect peer_step progress_of
     grant_of settled_as accept begun truncated_at carry incoming_of judge_more judge_again judge_data judge_fit judge_new judge_found judge open_here
-    find_open same_outside fits older older_here oldest vacancy ahead same_medium same_message fresh_peer overlap overlaps_use phase_fits clash all_fit
-    none_clash pairs_apart peer_fits numbers_fit lent_fits all_peers_fit engine_fits put_back peer_turn call_turn set_up fresh_world turn_of world_after
+    find_open same_outside fits older older_here oldest ahead same_medium same_message fresh_peer overlap overlaps_use phase_fits clash
+    pairs_apart peer_fits numbers_fit lent_fits engine_fits put_back peer_turn call_turn set_up fresh_world turn_of world_after
     observe calls_of
 run calls =
     let start : World = fresh_world 2 256 96 (replicate 512 7) (replicate 8 1) in

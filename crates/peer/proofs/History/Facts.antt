@@ -2,6 +2,7 @@
 -- through the tests of the plain receiver; and what every change of an entry keeps, every history keeps.
 use Rattle.std.specs.Prelude.{Option, Result, Ok, Err}
 use Rattle.std.proofs.Common.{◌≡◌, ℕ, ◌+◌, ◌<◌, ◌≤◌, Bool, true, false, ltb, leb, List, [], ◌∷◌, sym, refl, ◌∙◌, subst, arith, ltb-false, ltb-true}
+use Rattle.std.specs.Prelude.{Option, Some, None}
 use mathlib.Core.Bool.{false≢true}
 use Rattle.bitmap.specs.Offsets.{some_of}
 use Rattle.laws.specs.Choose.{pick}
@@ -24,12 +25,9 @@ use Rattle.peer.specs.Origins.{Origin, note_origin}
 use Rattle.peer.specs.Plain.{Entry, Plain, Role, Target, begun_at, enter_at, first_posted, fresh_plain, granted_entry, idle, more_at, no_entry, nowhere, open_in, posted, put, receiving, roles, segment_of, settle, slot_entry, waiting}
 use Rattle.peer.specs.State.{slot_count}
 use Rattle.peer.specs.declared.types.Answer.{Answer}
-use Rattle.peer.specs.declared.types.Fit.{Fit}
-use Rattle.peer.specs.declared.types.FoundOpen.{FoundOpen}
 use Rattle.peer.specs.declared.types.Inbound.{Inbound}
 use Rattle.peer.specs.declared.types.Incoming.{Incoming}
 use Rattle.peer.specs.declared.types.Receive.{Receive}
-use Rattle.peer.specs.declared.types.Vacancy.{Vacancy}
 use Rattle.laws.proofs.Choosing.{and_left, and_right, branch}
 use Rattle.laws.proofs.Listing.{replicate_each, set_each}
 use Rattle.peer.proofs.PeerSteps.AnswerLaws.{claim_from, claim_taken}
@@ -56,10 +54,10 @@ bytes_of b = bytes_at b.text b.read.«data»
 
 -- the message o that is open under the packet's id, in entry i, or none is
 abbrev pub Open : Plain → Incoming → ℕ → Inbound → Type 0
-Open l h i o = open_in h.id 0 (roles l.entries) ≡ FoundOpen.At i o
+Open l h i o = open_in h.id 0 (roles l.entries) ≡ Some (i, o)
 
 abbrev pub Unopened : Plain → Incoming → Type 0
-Unopened l h = open_in h.id 0 (roles l.entries) ≡ FoundOpen.Nothing
+Unopened l h = open_in h.id 0 (roles l.entries) ≡ None
 
 -- a segment of the open message o: one more RTM of it, or CTSDATA that was granted
 pub data Belongs (h : Incoming) (o : Inbound) : Type 0 where
@@ -186,7 +184,7 @@ pub data Reason (l : Plain) (h : Incoming) : Refusal → Type 0 where
   not_open : Unopened l h → is_rtm h.shape ≡ false → Reason l h late
   behind : Unopened l h → is_rtm h.shape ≡ true → 2147483648 ≤ ahead h.id l.next → Reason l h late
   too_soon : Unopened l h → is_rtm h.shape ≡ true → ahead h.id l.next < 2147483648 → 1 ≤ ahead h.id l.next → Reason l h early
-  unmatched : Unopened l h → is_rtm h.shape ≡ true → ahead h.id l.next ≡ 0 → first_posted h 0 Fit.Unfit l.entries ≡ Fit.Unfit
+  unmatched : Unopened l h → is_rtm h.shape ≡ true → ahead h.id l.next ≡ 0 → first_posted h 0 None l.entries ≡ None
       → Reason l h no_receive
 
 -- what a packet comes to
@@ -220,11 +218,11 @@ module _ (limit : ℕ) (l : Plain) (h : Incoming) (body : List ℕ) where
       (λ x. more i o e (granted d long (ltb-false _ _ x))))
       (λ x. refusal late (not_long i o e d x))
 
-  fitted : (f : Fit) → first_posted h 0 Fit.Unfit l.entries ≡ f → Unopened l h → is_rtm h.shape ≡ true → ahead h.id l.next ≡ 0
+  fitted : (f : Option (ℕ × Receive × ℕ)) → first_posted h 0 None l.entries ≡ f → Unopened l h → is_rtm h.shape ≡ true → ahead h.id l.next ≡ 0
       → R (expect_fit limit h body f)
   unfolding expect_fit
-  fitted Fit.Unfit e n rtm next = refusal no_receive (unmatched n rtm next e)
-  fitted (Fit.To i r serial) e n rtm next =
+  fitted None e n rtm next = refusal no_receive (unmatched n rtm next e)
+  fitted (Some (i, r, serial)) e n rtm next =
       let m : Matches l h i r serial = record { unopened = n; rtm = rtm; next = next; chosen = foremost h l.entries i r serial e } in
       branch R (ltb r.capacity h.length) _ _ (λ x. cut_off i r serial m (ltb-true _ _ x))
       (λ x. accepted _ _ (begins i r serial m) (λ y. ltb-false r.capacity h.length x))
@@ -237,10 +235,10 @@ module _ (limit : ℕ) (l : Plain) (h : Incoming) (body : List ℕ) where
       (λ y. refusal early (too_soon n rtm (omega (arith, ltb-false 2147483647 (ahead h.id l.next) x)) (ltb-true _ _ y)))
       (λ y. fitted _ refl n rtm (omega (arith, ltb-false 0 (ahead h.id l.next) y))))
 
-  ruled_found : (f : FoundOpen) → open_in h.id 0 (roles l.entries) ≡ f → R (expect_found limit l h body f)
+  ruled_found : (f : Option (ℕ × Inbound)) → open_in h.id 0 (roles l.entries) ≡ f → R (expect_found limit l h body f)
   unfolding expect_found
-  ruled_found (FoundOpen.At i o) e = branch R _ _ _ (λ x. further i o e x) (λ x. cts_data i o e x)
-  ruled_found FoundOpen.Nothing e = branch R _ _ _ (λ x. fresh e x) (λ x. refusal late (not_open e x))
+  ruled_found (Some (i, o)) e = branch R _ _ _ (λ x. further i o e x) (λ x. cts_data i o e x)
+  ruled_found None e = branch R _ _ _ (λ x. fresh e x) (λ x. refusal late (not_open e x))
 
   pub ruled : Ruled limit l h body (expect_found limit l h body (open_in h.id 0 (roles l.entries)))
   ruled = ruled_found (open_in h.id 0 (roles l.entries)) refl
@@ -289,9 +287,9 @@ walked area limit l (post r) =
     P : Answer → Type 0
     P = Walked limit l (post r) nowhere
 
-    go : (v : Vacancy) → P (expect_place v)
-    go Vacancy.Full = refused_walked limit l (post r) no_slot
-    go (Vacancy.Slot i) = (tt, with_post nowhere i r refl)
+    go : (v : Option ℕ) → P (expect_place v)
+    go None = refused_walked limit l (post r) no_slot
+    go (Some i) = (tt, with_post nowhere i r refl)
 walked area limit l (packet bs room) =
     branch (λ (x : Ruling). Walked limit l (packet bs room) x.target x.answer) (ltb room 24) _ _
     (λ x. refused_walked limit l (packet bs room) short_reply) (λ x. go (read_of served_row limit bs) refl)

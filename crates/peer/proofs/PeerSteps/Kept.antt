@@ -1,5 +1,6 @@
 -- A call leaves a peer that can be where it found one, keeps the number of slots and of map words, and writes inside the area only.
 use Rattle.std.proofs.Common.{◌≡◌, ℕ, ◌+◌, ◌-◌, ◌<◌, ◌≤◌, false, ◌||◌, eqb, List, length, set, sym, refl, ap, ◌∙◌, subst, ap₂, arith, length-set, ne_eqb, le-leb}
+use Rattle.std.specs.Prelude.{Some}
 use Rattle.bitmap.specs.Map.{cleared, marked}
 use Rattle.peer.specs.Calls.{Call, count_older, count_posted, missing_in, peer_step, placed, renumbered, renumbered_phase, overlaps_some}
 use Rattle.peer.specs.Effects.{Effect, accept, advance, begun, extended, grant_of, in_slot, opened, progress_of, quiet, settled_as, truncated_at, with_phase}
@@ -16,7 +17,6 @@ use Rattle.peer.specs.declared.types.Phase.{Phase}
 use Rattle.peer.specs.declared.types.Progress.{Progress}
 use Rattle.peer.specs.declared.types.Receive.{Receive}
 use Rattle.peer.specs.declared.types.Slot.{Slot}
-use Rattle.peer.specs.declared.types.Vacancy.{Vacancy}
 use Rattle.bitmap.proofs.BitLaws.{length_cleared, length_marked}
 use Rattle.laws.proofs.Choosing.{or_left, or_neither}
 use Rattle.peer.proofs.Slots.Ages.{length_renumbered, older_below, phase_renumbered, valid_renumbered}
@@ -124,7 +124,7 @@ continued_beside area p ws h i o v c =
 
 -- ---- a post
 
-placed_kept : (area : ℕ) (p : Peer) (ws : List ℕ) (r : Receive) (i : ℕ) → vacancy 0 p.slots ≡ Vacancy.Slot i → Valid area p.slots
+placed_kept : (area : ℕ) (p : Peer) (ws : List ℕ) (r : Receive) (i : ℕ) → vacancy 0 p.slots ≡ Some i → Valid area p.slots
     → r.start + r.capacity ≤ area → overlaps_some r p.slots ≡ false → Kept area p ws (quiet (placed p r i) ws (Answer.Posted i))
 unfolding placed
 placed_kept area p ws r i e v a c =

@@ -1,6 +1,7 @@
 -- Each answer of a peer's call leaves what 01 says: the statements of specs/SlotMoves.antt and specs/Moves.antt.
 use Rattle.std.specs.Prelude.{Ok}
 use Rattle.std.proofs.Common.{◌≡◌, ℕ, ◌+◌, ◌*◌, ◌%◌, ◌<◌, ◌≤◌, false, ◌⊎◌, List, [], length, drop, set, sym, refl, ap, ◌∙◌, subst, inl, inr, ⊎_elim, true≢false, arith, length-set}
+use Rattle.std.specs.Prelude.{Some, None}
 use Rattle.bitmap.specs.Map.{cleared, marked}
 use Rattle.protocol.specs.CtsSentences.{CtsReadBack}
 use Rattle.protocol.specs.Sentences.{head_in}
@@ -22,7 +23,6 @@ use Rattle.peer.specs.SlotMoves.{Cancelling, Matching, OnlySlot, Posting, Trunca
 use Rattle.peer.specs.State.{is_free, phase_at, slot_with, slot_count}
 use Rattle.peer.specs.View.{role_of, roles_of, view_of}
 use Rattle.peer.specs.declared.types.Answer.{Answer}
-use Rattle.peer.specs.declared.types.Fit.{Fit}
 use Rattle.peer.specs.declared.types.Inbound.{Inbound}
 use Rattle.peer.specs.declared.types.Incoming.{Incoming}
 use Rattle.peer.specs.declared.types.Peer.{Peer}
@@ -30,7 +30,6 @@ use Rattle.peer.specs.declared.types.Phase.{Phase}
 use Rattle.peer.specs.declared.types.Progress.{Progress}
 use Rattle.peer.specs.declared.types.Receive.{Receive}
 use Rattle.peer.specs.declared.types.Slot.{Slot}
-use Rattle.peer.specs.declared.types.Vacancy.{Vacancy}
 use Rattle.bitmap.proofs.BitLaws.{length_cleared, length_marked}
 use Rattle.laws.proofs.Comparing.{le_or_lt}
 use Rattle.protocol.proofs.CtsRead.{cts_read_back}
@@ -76,7 +75,7 @@ used_role (Phase.Posted r a) e x = let z : ◌≡◌ {A = ℕ} 0 1 = cc in omega
 used_role (Phase.Open o) e x = let z : ◌≡◌ {A = ℕ} 0 1 = cc in omega arith
 
 module _ (p : Peer) (ws : List ℕ) (eight : length p.slots ≡ slot_count) where
-  pub placed_moves : (r : Receive) (i : ℕ) → vacancy 0 p.slots ≡ Vacancy.Slot i → Posting p ws r i (quiet (placed p r i) ws (Answer.Posted i))
+  pub placed_moves : (r : Receive) (i : ℕ) → vacancy 0 p.slots ≡ Some i → Posting p ws r i (quiet (placed p r i) ws (Answer.Posted i))
   unfolding placed
   placed_moves r i e =
       record {
@@ -147,7 +146,7 @@ module _ (p : Peer) (ws : List ℕ) (eight : length p.slots ≡ slot_count) wher
         none o = []
 
         first : Foremost h (entries_of none p.slots) i r m.age
-        first = foremost h (entries_of none p.slots) i r m.age (sym (entries_oldest none h 0 Fit.Unfit p.slots) ∙ m.chosen)
+        first = foremost h (entries_of none p.slots) i r m.age (sym (entries_oldest none h 0 None p.slots) ∙ m.chosen)
 
     pub truncated_moves : (room i : ℕ) → CutOff p h i → Truncating p ws (packet bs room) i h.id h.length (truncated_at p ws i h)
     unfolding truncated_at

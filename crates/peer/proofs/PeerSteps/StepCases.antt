@@ -24,7 +24,6 @@ use Rattle.peer.specs.declared.types.Inbound.{Inbound}
 use Rattle.peer.specs.declared.types.Peer.{Peer}
 use Rattle.peer.specs.declared.types.Phase.{Phase}
 use Rattle.peer.specs.declared.types.Receive.{Receive}
-use Rattle.peer.specs.declared.types.Vacancy.{Vacancy}
 use Rattle.peer.specs.declared.types.Verdict.{Verdict}
 use Rattle.laws.proofs.Choosing.{branch, clashing}
 use Rattle.peer.proofs.PeerSteps.AnswerLaws.{settled_takes}
@@ -42,7 +41,7 @@ data_of bs q = bytes_at bs q.«data»
 
 pub data StepCase (area limit : ℕ) (p : Peer) (ws : List ℕ) : Call → Effect → Type 0 where
   refused : (c : Call) (k : Refusal) → among (refusals_of c) (number k) ≡ true → StepCase area limit p ws c (refuse p ws k)
-  posted : (r : Receive) (i : ℕ) → vacancy 0 p.slots ≡ Vacancy.Slot i → r.start + r.capacity ≤ area → overlaps_some r p.slots ≡ false
+  posted : (r : Receive) (i : ℕ) → vacancy 0 p.slots ≡ Some i → r.start + r.capacity ≤ area → overlaps_some r p.slots ≡ false
       → StepCase area limit p ws (post r) (quiet (placed p r i) ws (Answer.Posted i))
   cancelled : (i : ℕ) → i < slot_count → is_free (phase_at p.slots i) ≡ false
       → StepCase area limit p ws (cancel i) (quiet (with_phase p i Phase.Free) ws (Answer.Cancelled i))
@@ -95,9 +94,9 @@ module _ (area limit : ℕ) (p : Peer) (ws : List ℕ) where
       branch (StepCase area limit p ws (post r)) _ _ _ (λ x. refused (post r) bad_length refl) (λ x.
       branch (StepCase area limit p ws (post r)) _ _ _ (λ y. refused (post r) overlaps refl) (λ y. place (vacancy 0 p.slots) refl (ltb-false area _ x) y))
     where
-      place : (v : Vacancy) → vacancy 0 p.slots ≡ v → r.start + r.capacity ≤ area → overlaps_some r p.slots ≡ false → StepCase area limit p ws (post r) (placed_in p ws r v)
-      place Vacancy.Full e x y = refused (post r) no_slot refl
-      place (Vacancy.Slot i) e x y = posted r i e x y
+      place : (v : Option ℕ) → vacancy 0 p.slots ≡ v → r.start + r.capacity ≤ area → overlaps_some r p.slots ≡ false → StepCase area limit p ws (post r) (placed_in p ws r v)
+      place None e x y = refused (post r) no_slot refl
+      place (Some i) e x y = posted r i e x y
   step_case (packet bs room) =
       branch (StepCase area limit p ws (packet bs room)) _ _ _ (λ x. refused (packet bs room) short_reply refl) (λ x. read (read_of served_row limit bs) refl (ltb-false room 24 x))
     where

@@ -2,6 +2,7 @@
 -- the tests of both: each call's answer is the expected one, and the segment of a packet goes to one and the same message.
 use Rattle.std.specs.Prelude.{Result, Ok, Err}
 use Rattle.std.proofs.Common.{◌≡◌, ℕ, ◌+◌, ◌*◌, ◌<◌, ◌≤◌, Bool, true, false, ◌&&◌, eqb, ltb, leb, List, [], ◌∷◌, length, sym, refl, ap, ◌∙◌, subst, ap₂, arith, ltb-false, le-ltb, lt-ltb, leb-false, leb-true}
+use Rattle.std.specs.Prelude.{Option, Some, None}
 use borrow.Author.Tests.{eqb-false}
 use Rattle.bitmap.specs.Map.{cleared, count_set, first_clear, marked}
 use Rattle.bitmap.specs.Offsets.{first_not}
@@ -24,15 +25,12 @@ use Rattle.peer.specs.Plain.{Plain, Role, Target, begun_at, more_at, nowhere, op
 use Rattle.peer.specs.State.{phase_at, phase_fits, slot_count}
 use Rattle.peer.specs.View.{role_of, roles_of}
 use Rattle.peer.specs.declared.types.Answer.{Answer}
-use Rattle.peer.specs.declared.types.Fit.{Fit}
-use Rattle.peer.specs.declared.types.FoundOpen.{FoundOpen}
 use Rattle.peer.specs.declared.types.Inbound.{Inbound}
 use Rattle.peer.specs.declared.types.Incoming.{Incoming}
 use Rattle.peer.specs.declared.types.Peer.{Peer}
 use Rattle.peer.specs.declared.types.Phase.{Phase}
 use Rattle.peer.specs.declared.types.Progress.{Progress}
 use Rattle.peer.specs.declared.types.Receive.{Receive}
-use Rattle.peer.specs.declared.types.Vacancy.{Vacancy}
 use Rattle.peer.specs.declared.types.Verdict.{Verdict}
 use Rattle.bitmap.proofs.BitLaws.{first_clear_le, length_cleared}
 use Rattle.bitmap.proofs.CoverLaws.{count_cover, first_cover, touched_cover}
@@ -87,7 +85,7 @@ alike_same w (taken a b x y e) = e w
 -- what a call comes to, with the target that the plain receiver has for its packet's segment
 pub data Meets (area limit : ℕ) (p : Peer) (ws : List ℕ) (l : Plain) : Call → Effect → Target → Type 0 where
   refused : (c : Call) (k : Refusal) → Meets area limit p ws l c (refuse p ws k) nowhere
-  posted : (r : Receive) (i : ℕ) → vacancy 0 p.slots ≡ Vacancy.Slot i → Meets area limit p ws l (post r) (quiet (placed p r i) ws (Answer.Posted i)) nowhere
+  posted : (r : Receive) (i : ℕ) → vacancy 0 p.slots ≡ Some i → Meets area limit p ws l (post r) (quiet (placed p r i) ws (Answer.Posted i)) nowhere
   cancelled : (i : ℕ) → i < slot_count → Meets area limit p ws l (cancel i) (quiet (with_phase p i Phase.Free) ws (Answer.Cancelled i)) nowhere
   reported : (i : ℕ) (o : Inbound) → Meets area limit p ws l (report i) (quiet p ws (missing_in ws o)) nowhere
   truncated : (bs : List ℕ) (room : ℕ) (q : Packet) → Arrives limit bs room q → (i : ℕ) → CutOff p (incoming_of q) i
@@ -177,7 +175,7 @@ module _ (area limit : ℕ) (p : Peer) (ws : List ℕ) (l : Plain) (v : Valid ar
     refused_ruled k = (same _, refl)
 
     -- for the open message o in slot i
-    more_ruled : (i : ℕ) (o : Inbound) → find_open h.id 0 p.slots ≡ FoundOpen.At i o → h.offset + h.size ≤ o.message.length
+    more_ruled : (i : ℕ) (o : Inbound) → find_open h.id 0 p.slots ≡ Some (i, o) → h.offset + h.size ≤ o.message.length
         → Ruled (judge_more ws i o h) (expect_more limit l h bytes i o)
     unfolding judge_more expect_more
     more_ruled i o e fit =
@@ -198,13 +196,13 @@ module _ (area limit : ℕ) (p : Peer) (ws : List ℕ) (l : Plain) (v : Valid ar
         within : Within area o
         within = found_within area p h.id i o v e
 
-    again_ruled : (i : ℕ) (o : Inbound) → find_open h.id 0 p.slots ≡ FoundOpen.At i o → is_rtm h.shape ≡ true
+    again_ruled : (i : ℕ) (o : Inbound) → find_open h.id 0 p.slots ≡ Some (i, o) → is_rtm h.shape ≡ true
         → Ruled (judge_again ws i o h) (expect_again limit l h bytes i o)
     unfolding judge_again expect_again
     again_ruled i o e rtm =
         beside Ruled _ _ _ _ refl (λ x. more_ruled i o e (again_inside p ws h (length bytes) form o rtm x).0) (λ x. refused_ruled differs)
 
-    data_ruled : (i : ℕ) (o : Inbound) → find_open h.id 0 p.slots ≡ FoundOpen.At i o → Ruled (judge_data ws i o h) (expect_data limit l h bytes i o)
+    data_ruled : (i : ℕ) (o : Inbound) → find_open h.id 0 p.slots ≡ Some (i, o) → Ruled (judge_data ws i o h) (expect_data limit l h bytes i o)
     unfolding judge_data expect_data
     data_ruled i o e =
         beside Ruled _ _ _ _ refl
@@ -231,7 +229,7 @@ module _ (area limit : ℕ) (p : Peer) (ws : List ℕ) (l : Plain) (v : Valid ar
       refl,
     )
 
-    fit_ruled : (f f' : Fit) → SameFit p.slots l.entries f f' → is_rtm h.shape ≡ true → Ruled (judge_fit h f) (expect_fit limit h bytes f')
+    fit_ruled : (f f' : Option (ℕ × Receive × ℕ)) → SameFit p.slots l.entries f f' → is_rtm h.shape ≡ true → Ruled (judge_fit h f) (expect_fit limit h bytes f')
     unfolding judge_fit expect_fit
     fit_ruled _ _ unfit rtm = refused_ruled no_receive
     fit_ruled _ _ (to i r a at) rtm =
@@ -247,15 +245,15 @@ module _ (area limit : ℕ) (p : Peer) (ws : List ℕ) (l : Plain) (v : Valid ar
         alike : ahead h.id p.next ≡ ahead h.id l.next
         alike = ap (ahead h.id) m.next
 
-    found_ruled : (f : FoundOpen) → find_open h.id 0 p.slots ≡ f → Ruled (judge_found p ws h f) (expect_found limit l h bytes f)
+    found_ruled : (f : Option (ℕ × Inbound)) → find_open h.id 0 p.slots ≡ f → Ruled (judge_found p ws h f) (expect_found limit l h bytes f)
     unfolding judge_found expect_found
-    found_ruled (FoundOpen.At i o) e = beside Ruled _ _ _ _ refl (λ x. again_ruled i o e x) (λ x. data_ruled i o e)
-    found_ruled FoundOpen.Nothing e = beside Ruled _ _ _ _ refl (λ x. new_ruled x) (λ x. refused_ruled late)
+    found_ruled (Some (i, o)) e = beside Ruled _ _ _ _ refl (λ x. again_ruled i o e x) (λ x. data_ruled i o e)
+    found_ruled None e = beside Ruled _ _ _ _ refl (λ x. new_ruled x) (λ x. refused_ruled late)
 
     packet_ruled : Ruled (judge p ws h) (expect_found limit l h bytes (open_in h.id 0 (roles l.entries)))
     unfolding judge
     packet_ruled =
-        subst (λ (f : FoundOpen). Ruled (judge p ws h) (expect_found limit l h bytes f)) (open_same h.id 0 p.slots ∙ ap (open_in h.id 0) m.same)
+        subst (λ (f : Option (ℕ × Inbound)). Ruled (judge p ws h) (expect_found limit l h bytes f)) (open_same h.id 0 p.slots ∙ ap (open_in h.id 0) m.same)
         (found_ruled (find_open h.id 0 p.slots) refl)
 
   -- ---- each call
@@ -282,12 +280,12 @@ module _ (area limit : ℕ) (p : Peer) (ws : List ℕ) (l : Plain) (v : Valid ar
   meets (post r) =
       beside (λ (f : Effect) (a : Answer). Both (post r) f nowhere a) _ _ _ _ refl (λ x. refused_both (post r) bad_length) (λ x.
       beside (λ (f : Effect) (a : Answer). Both (post r) f nowhere a) _ _ _ _ (overlap_same r p.slots ∙ ap (any_overlap r) m.same) (λ y. refused_both (post r) overlaps)
-      (λ y. subst (λ (z : Vacancy). Both (post r) (placed_in p ws r (vacancy 0 p.slots)) nowhere (expect_place z)) (vacancy_same 0 p.slots ∙ ap (lowest_idle 0) m.same)
+      (λ y. subst (λ (z : Option ℕ). Both (post r) (placed_in p ws r (vacancy 0 p.slots)) nowhere (expect_place z)) (vacancy_same 0 p.slots ∙ ap (lowest_idle 0) m.same)
       (place (vacancy 0 p.slots) refl)))
     where
-      place : (y : Vacancy) → vacancy 0 p.slots ≡ y → Both (post r) (placed_in p ws r y) nowhere (expect_place y)
-      place Vacancy.Full e = refused_both (post r) no_slot
-      place (Vacancy.Slot i) e = (same _, posted r i e)
+      place : (y : Option ℕ) → vacancy 0 p.slots ≡ y → Both (post r) (placed_in p ws r y) nowhere (expect_place y)
+      place None e = refused_both (post r) no_slot
+      place (Some i) e = (same _, posted r i e)
   meets (packet bs room) =
       beside (λ (f : Effect) (x : Ruling). Both (packet bs room) f x.target x.answer) _ _ _ _ refl (λ x. refused_both (packet bs room) short_reply)
       (λ x. read (read_of served_row limit bs) refl (ltb-false room 24 x))

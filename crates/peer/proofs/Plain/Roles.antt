@@ -1,5 +1,6 @@
 -- The slots without their ages are the plain receiver's roles: what the tests say of the one they say of the other.
-use Rattle.std.proofs.Common.{◌≡◌, ℕ, zero, suc, ◌+◌, Bool, true, false, ◌||◌, eqb, ltb, List, [], ◌∷◌, length, get_or, drop, set, sym, refl, ap, ◌∙◌, ap₂, subst₂, true≢false, arith}
+use Rattle.std.proofs.Common.{◌≡◌, ℕ, zero, suc, ◌+◌, Bool, true, false, ◌||◌, eqb, ltb, List, [], ◌∷◌, length, get_or, drop, set, sym, refl, ap, ◌∙◌, ap₂, subst₂, true≢false, arith, cond, add-one}
+use Rattle.std.specs.Prelude.{Option, Some, None}
 use lib.ListN.{length-map}
 use mathlib.Core.Bool.{false≢true}
 use Rattle.laws.specs.Choose.{pick}
@@ -9,13 +10,10 @@ use Rattle.peer.specs.Matching.{find_open, fits, older, older_here, oldest, open
 use Rattle.peer.specs.Plain.{Entry, Role, first_here, first_posted, idle, open_in, roles, slot_entry}
 use Rattle.peer.specs.State.{overlaps_use, is_free, overlap, phase_at, slot_with}
 use Rattle.peer.specs.View.{role_of, roles_of}
-use Rattle.peer.specs.declared.types.Fit.{Fit}
-use Rattle.peer.specs.declared.types.FoundOpen.{FoundOpen}
 use Rattle.peer.specs.declared.types.Incoming.{Incoming}
 use Rattle.peer.specs.declared.types.Phase.{Phase}
 use Rattle.peer.specs.declared.types.Receive.{Receive}
 use Rattle.peer.specs.declared.types.Slot.{Slot}
-use Rattle.peer.specs.declared.types.Vacancy.{Vacancy}
 
 -- ---- slot by slot
 
@@ -74,23 +72,23 @@ open_same id k (s ∷ ss) = at s.phase (open_same id (suc k) ss)
     at (Phase.Posted r a) e = e
     at (Phase.Open o) e = pass (eqb o.message.id id)
       where
-        pass : (t : Bool) → or_else (pick t (FoundOpen.At k o) FoundOpen.Nothing) (find_open id (suc k) ss) ≡ pick t (FoundOpen.At k o) (open_in id (suc k) (roles_of ss))
+        pass : (t : Bool) → or_else (pick t (Some (k, o)) None) (find_open id (suc k) ss) ≡ pick t (Some (k, o)) (open_in id (suc k) (roles_of ss))
         pass true = unfold pick in refl
         pass false = unfold pick in e
 
 pub vacancy_same : (k : ℕ) (ss : List Slot) → vacancy k ss ≡ lowest_idle k (roles_of ss)
-unfolding vacancy lowest_idle pick
+unfolding lowest_idle
 vacancy_same k [] = refl
-vacancy_same k (s ∷ ss) = at s.phase (vacancy_same (suc k) ss)
+vacancy_same k (s ∷ ss) = at s.phase (rw add-one (vacancy_same (suc k) ss))
   where
-    at : (f : Phase) → vacancy (suc k) ss ≡ lowest_idle (suc k) (roles_of ss)
-        → pick (is_free f) (Vacancy.Slot k) (vacancy (suc k) ss) ≡ lowest_idle k (role_of f ∷ roles_of ss)
+    at : (f : Phase) → vacancy (k + 1) ss ≡ lowest_idle (suc k) (roles_of ss)
+        → cond (is_free f) (Some k) (vacancy (k + 1) ss) ≡ lowest_idle k (role_of f ∷ roles_of ss)
     at Phase.Free e = refl
     at (Phase.Posted r a) e = e
     at (Phase.Open o) e = e
 
 pub overlap_same : (r : Receive) (ss : List Slot) → overlaps_some r ss ≡ any_overlap r (roles_of ss)
-unfolding overlaps_some overlaps_use any_overlap
+unfolding overlaps_use any_overlap
 overlap_same r [] = refl
 overlap_same r (s ∷ ss) = at s.phase (overlap_same r ss)
   where
@@ -108,24 +106,24 @@ Ordered ss es =
     → ltb a b ≡ ltb (slot_entry es j).serial (slot_entry es k).serial
 
 -- the same receive, by its age and by its posts before
-pub data SameFit (ss : List Slot) (es : List Entry) : Fit → Fit → Type 0 where
-  unfit : SameFit ss es Fit.Unfit Fit.Unfit
-  to : (i : ℕ) (r : Receive) (a : ℕ) → phase_at ss i ≡ Phase.Posted r a → SameFit ss es (Fit.To i r a) (Fit.To i r (slot_entry es i).serial)
+pub data SameFit (ss : List Slot) (es : List Entry) : Option (ℕ × Receive × ℕ) → Option (ℕ × Receive × ℕ) → Type 0 where
+  unfit : SameFit ss es None None
+  to : (i : ℕ) (r : Receive) (a : ℕ) → phase_at ss i ≡ Phase.Posted r a → SameFit ss es (Some (i, r, a)) (Some (i, r, (slot_entry es i).serial))
 
 module _ (ss : List Slot) (es : List Entry) (ordered : Ordered ss es) (h : Incoming) where
-  older_fit : (best best' : Fit) (k : ℕ) (r : Receive) (a : ℕ) → phase_at ss k ≡ Phase.Posted r a → SameFit ss es best best'
+  older_fit : (best best' : Option (ℕ × Receive × ℕ)) (k : ℕ) (r : Receive) (a : ℕ) → phase_at ss k ≡ Phase.Posted r a → SameFit ss es best best'
       → SameFit ss es (older best k r a) (older best' k r (slot_entry es k).serial)
   unfolding older
   older_fit _ _ k r a e unfit = to k r a e
   older_fit _ _ k r a e (to i q b x) = go (ltb a b) (ltb (slot_entry es k).serial (slot_entry es i).serial) (ordered k i r q a b e x)
     where
-      go : (t u : Bool) → t ≡ u → SameFit ss es (pick t (Fit.To k r a) (Fit.To i q b)) (pick u (Fit.To k r (slot_entry es k).serial) (Fit.To i q (slot_entry es i).serial))
+      go : (t u : Bool) → t ≡ u → SameFit ss es (pick t (Some (k, r, a)) (Some (i, q, b))) (pick u (Some (k, r, (slot_entry es k).serial)) (Some (i, q, (slot_entry es i).serial)))
       go true true y = unfold pick in to k r a e
       go false false y = unfold pick in to i q b x
       go true false y = absurd (true≢false y)
       go false true y = absurd (false≢true y)
 
-  here_fit : (best best' : Fit) (k : ℕ) (f : Phase) → phase_at ss k ≡ f → SameFit ss es best best'
+  here_fit : (best best' : Option (ℕ × Receive × ℕ)) (k : ℕ) (f : Phase) → phase_at ss k ≡ f → SameFit ss es best best'
       → SameFit ss es (older_here h best k f) (first_here h best' k (role_of f) (slot_entry es k).serial)
   unfolding older_here first_here
   here_fit best best' k Phase.Free e s = s
@@ -137,7 +135,7 @@ module _ (ss : List Slot) (es : List Entry) (ordered : Ordered ss es) (h : Incom
       go false = unfold pick in s
 
   -- over the slots and entries from k on
-  fit_from : (k : ℕ) (rest : List Slot) (rest' : List Entry) (best best' : Fit) → roles_of rest ≡ roles rest'
+  fit_from : (k : ℕ) (rest : List Slot) (rest' : List Entry) (best best' : Option (ℕ × Receive × ℕ)) → roles_of rest ≡ roles rest'
       → ((j : ℕ) → phase_at rest j ≡ phase_at ss (k + j)) → ((j : ℕ) → slot_entry rest' j ≡ slot_entry es (k + j)) → SameFit ss es best best'
       → SameFit ss es (oldest h k best rest) (first_posted h k best' rest')
   unfolding oldest first_posted
@@ -159,5 +157,5 @@ module _ (ss : List Slot) (es : List Entry) (ordered : Ordered ss es) (h : Incom
       here : y ≡ slot_entry es k
       here = q 0 ∙ ap (slot_entry es) (omega arith)
 
-  pub fit_same : roles_of ss ≡ roles es → SameFit ss es (oldest h 0 Fit.Unfit ss) (first_posted h 0 Fit.Unfit es)
-  fit_same e = fit_from 0 ss es Fit.Unfit Fit.Unfit e (λ j. ap (phase_at ss) (omega arith)) (λ j. ap (slot_entry es) (omega arith)) unfit
+  pub fit_same : roles_of ss ≡ roles es → SameFit ss es (oldest h 0 None ss) (first_posted h 0 None es)
+  fit_same e = fit_from 0 ss es None None e (λ j. ap (phase_at ss) (omega arith)) (λ j. ap (slot_entry es) (omega arith)) unfit

@@ -2,6 +2,7 @@
 -- in: the statement of specs/Checks.antt on plain receivers.
 use Rattle.std.specs.Prelude.{Result, Ok, Err}
 use Rattle.std.proofs.Common.{◌≡◌, ℕ, ◌^◌, ◌<◌, true, false, leb, ◌⊎◌, List, [], ◌∷◌, ◌++◌, map, length, get_or, sym, refl, ap, ◌∙◌, subst, inl, inr, ⊎_elim, arith, ltb-false, ltb-true}
+use Rattle.std.specs.Prelude.{Some, None}
 use lib.ListN.{length-map}
 use mathlib.Core.Logic.{⊎_map}
 use Rattle.protocol.specs.Sentences.{ReadIfNoneFails, RefusedByFirstToFail, reader_checks, wrong_lengths}
@@ -24,7 +25,6 @@ use Rattle.peer.specs.Plain.{Plain, Role, slot_entry, idle, open_in, receiving, 
 use Rattle.peer.specs.Says.{refused, said, say}
 use Rattle.peer.specs.View.{OneEach, OpenIn, View, view_in}
 use Rattle.peer.specs.declared.types.Answer.{Answer}
-use Rattle.peer.specs.declared.types.FoundOpen.{FoundOpen}
 use Rattle.peer.specs.declared.types.Inbound.{Inbound}
 use Rattle.peer.specs.declared.types.Incoming.{Incoming}
 use Rattle.peer.specs.declared.types.Receive.{Receive}
@@ -119,7 +119,7 @@ module _ (area limit : ℕ) (l : Plain) where
     J x = G (judged_checks bs) x.answer
 
     -- the one message that is open under the packet's id, or none
-    sole : (i : ℕ) (o : Inbound) → open_in h.id 0 (roles l.entries) ≡ FoundOpen.At i o → Sole v (id_in bs) i o
+    sole : (i : ℕ) (o : Inbound) → open_in h.id 0 (roles l.entries) ≡ Some (i, o) → Sole v (id_in bs) i o
     unfolding FoundIsTheLowestOpen
     sole i o e = subst (λ (id : ℕ). Sole v id i o) says.id (record { here = here; only = only })
       where
@@ -132,7 +132,7 @@ module _ (area limit : ℕ) (l : Plain) where
             let role : receiving m ≡ receiving o = sym x.0 ∙ ap v.role place ∙ here.0 in
             (place, cc)
 
-    none : open_in h.id 0 (roles l.entries) ≡ FoundOpen.Nothing → (i : ℕ) (o : Inbound) → OpenIn v (id_in bs) i o → ⊥
+    none : open_in h.id 0 (roles l.entries) ≡ None → (i : ℕ) (o : Inbound) → OpenIn v (id_in bs) i o → ⊥
     unfolding NothingFoundIsNoneOpen
     none e i o (r, x) = (nothing_found_is_none_open (roles l.entries) h.id).0 e i o (role_of_entry l.entries i ∙ r, x ∙ sym says.id)
 

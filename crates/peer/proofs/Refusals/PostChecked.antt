@@ -1,5 +1,6 @@
 -- Posts, cancels and reports are refused by the first of their checks that fails, by the roles that their slots have.
 use Rattle.std.proofs.Common.{◌≡◌, ℕ, zero, suc, ◌+◌, ◌<◌, true, false, ltb, leb, List, [], ◌∷◌, length, get_or, sym, refl, ap, ◌∙◌, subst, inl, inr, ⊎_elim, true≢false, arith, ltb-false, ltb-true, leb-false, leb-true}
+use Rattle.std.specs.Prelude.{Option, Some, None}
 use mathlib.Core.Bool.{false≢true}
 use Rattle.protocol.specs.Refusals.{bad_length, overlaps}
 use Rattle.peer.specs.Calls.{cancel, post, report}
@@ -14,7 +15,6 @@ use Rattle.peer.specs.View.{UsesRange, View}
 use Rattle.peer.specs.declared.types.Answer.{Answer}
 use Rattle.peer.specs.declared.types.Inbound.{Inbound}
 use Rattle.peer.specs.declared.types.Receive.{Receive}
-use Rattle.peer.specs.declared.types.Vacancy.{Vacancy}
 use Rattle.laws.proofs.Choosing.{branch, or_cases, or_left, or_right}
 use Rattle.peer.proofs.Slots.CannotBeLaws.{overlap_words}
 use Rattle.peer.proofs.Refusals.FirstLaws.{Gone}
@@ -59,17 +59,17 @@ overlap_asked r (receiving o ∷ us) e (suc i) s u w = overlap_asked r us (or_ri
 
 -- ---- 18
 
-abbrev Placed : ℕ → List Role → Vacancy → Type 0
-Placed k us Vacancy.Full = (i : ℕ) → i < length us → get_or us i idle ≡ idle → ⊥
-Placed k us (Vacancy.Slot j) = (i : ℕ) × (i < length us) × (get_or us i idle ≡ idle)
+abbrev Placed : ℕ → List Role → Option ℕ → Type 0
+Placed k us None = (i : ℕ) → i < length us → get_or us i idle ≡ idle → ⊥
+Placed k us (Some j) = (i : ℕ) × (i < length us) × (get_or us i idle ≡ idle)
 
-not_idle : (k : ℕ) (u : Role) (us : List Role) (y : Vacancy) → (u ≡ idle → ⊥) → Placed (suc k) us y → Placed k (u ∷ us) y
-not_idle k u us Vacancy.Full n w = at
+not_idle : (k : ℕ) (u : Role) (us : List Role) (y : Option ℕ) → (u ≡ idle → ⊥) → Placed (suc k) us y → Placed k (u ∷ us) y
+not_idle k u us None n w = at
   where
     at : (i : ℕ) → i < suc (length us) → get_or (u ∷ us) i idle ≡ idle → ⊥
     at zero l e = n e
     at (suc i) l e = w i (omega arith) e
-not_idle k u us (Vacancy.Slot j) n (i, l, e) = (suc i, omega arith, e)
+not_idle k u us (Some j) n (i, l, e) = (suc i, omega arith, e)
 
 placed : (k : ℕ) (us : List Role) → Placed k us (lowest_idle k us)
 unfolding lowest_idle
@@ -83,9 +83,9 @@ placed k (receiving o ∷ us) = not_idle k (receiving o) us (lowest_idle (suc k)
 module _ (area limit : ℕ) (v : View) where
   -- the view's roles are those of a list of eight
   module _ (us : List Role) (same : (i : ℕ) → v.role i ≡ get_or us i idle) (eight : length us ≡ slot_count) where
-    place_gone : (y : Vacancy) → Placed 0 us y → GoneFor area limit v (none_free ∷ []) (expect_place y)
-    place_gone Vacancy.Full w = inl (λ i l e. w i (omega (arith, eight)) (sym (same i) ∙ e), refl)
-    place_gone (Vacancy.Slot j) (i, l, e) = inr (λ n. n i (omega (arith, eight)) (same i ∙ e), λ x. let z : ◌≡◌ {A = ℕ} 0 1 = cc in omega arith)
+    place_gone : (y : Option ℕ) → Placed 0 us y → GoneFor area limit v (none_free ∷ []) (expect_place y)
+    place_gone None w = inl (λ i l e. w i (omega (arith, eight)) (sym (same i) ∙ e), refl)
+    place_gone (Some j) (i, l, e) = inr (λ n. n i (omega (arith, eight)) (same i ∙ e), λ x. let z : ◌≡◌ {A = ℕ} 0 1 = cc in omega arith)
 
     used : (r : Receive) → any_overlap r us ≡ true → CallFails area limit v (in_use r)
     used r y = let (i, s, u, w) = overlap_given r us y in (i, s, subst (λ (x : Role). UsesRange x s) (sym (same i)) u, w)

@@ -1,5 +1,6 @@
 -- The tests that engine and plain receiver share say what 01 says: the statements of specs/Sentences.antt but for those on offsets and on a packet's fields.
 use Rattle.std.proofs.Common.{◌≡◌, ℕ, zero, suc, ◌+◌, ◌/◌, ◌^◌, ◌<◌, min, max, Bool, true, false, not, ◌&&◌, ◌||◌, eqb, leb, ◌≢◌, ◌⊎◌, ◌↔◌, List, [], ◌∷◌, get_or, sym, refl, ap, ◌∙◌, subst, ap₂, inl, inr, ⊎_elim, arith, ltb-true, le-ltb, lt-ltb, eq-eqb, eqb-true}
+use Rattle.std.specs.Prelude.{Option, Some, None}
 use borrow.Author.Tests.{eqb-false, not-true}
 use lib.Bits.{bit_or, or_step, or_shr}
 use mathlib.Core.Bool.{false≢true, or-true}
@@ -15,8 +16,6 @@ use Rattle.peer.specs.Matching.{ahead, both_or_neither, fits, same_medium, same_
 use Rattle.peer.specs.PacketBytes.{type_number, type_of, type_said}
 use Rattle.peer.specs.Plain.{Role, first_posted, idle, open_in, receiving, slot_entry, waiting}
 use Rattle.peer.specs.State.{overlap}
-use Rattle.peer.specs.declared.types.Fit.{Fit}
-use Rattle.peer.specs.declared.types.FoundOpen.{FoundOpen}
 use Rattle.peer.specs.declared.types.Inbound.{Inbound}
 use Rattle.peer.specs.declared.types.Receive.{Receive}
 use Rattle.laws.proofs.Choosing.{and_left, and_right, branch, clashing, or_cases, pick_false, pick_true, tested}
@@ -232,19 +231,19 @@ other_message_differs m h = (
 abbrev Lowest : List Role → ℕ → ℕ → Inbound → Type 0
 Lowest us id i o = OpenUnder us id i o × ((j : ℕ) (m : Inbound) → j < i → OpenUnder us id j m → ⊥)
 
-abbrev Searched : List Role → ℕ → ℕ → FoundOpen → Type 0
-Searched us id k (FoundOpen.At i o) = (j : ℕ) × (i ≡ k + j) × Lowest us id j o
-Searched us id k FoundOpen.Nothing = (j : ℕ) (m : Inbound) → OpenUnder us id j m → ⊥
+abbrev Searched : List Role → ℕ → ℕ → Option (ℕ × Inbound) → Type 0
+Searched us id k (Some (i, o)) = (j : ℕ) × (i ≡ k + j) × Lowest us id j o
+Searched us id k None = (j : ℕ) (m : Inbound) → OpenUnder us id j m → ⊥
 
 -- one role more, that is not open under the id
-passed_over : (u : Role) (us : List Role) (id k : ℕ) (f : FoundOpen) → ((m : Inbound) → OpenUnder (u ∷ us) id 0 m → ⊥) → Searched us id (suc k) f
+passed_over : (u : Role) (us : List Role) (id k : ℕ) (f : Option (ℕ × Inbound)) → ((m : Inbound) → OpenUnder (u ∷ us) id 0 m → ⊥) → Searched us id (suc k) f
     → Searched (u ∷ us) id k f
-passed_over u us id k (FoundOpen.At i o) ne (j, e, (w, least)) = (suc j, omega arith, (w, lower))
+passed_over u us id k (Some (i, o)) ne (j, e, (w, least)) = (suc j, omega arith, (w, lower))
   where
     lower : (x : ℕ) (m : Inbound) → x < suc j → OpenUnder (u ∷ us) id x m → ⊥
     lower zero m l y = ne m y
     lower (suc x) m l y = least x m (omega arith) y
-passed_over u us id k FoundOpen.Nothing ne rest = none_here
+passed_over u us id k None ne rest = none_here
   where
     none_here : (x : ℕ) (m : Inbound) → OpenUnder (u ∷ us) id x m → ⊥
     none_here zero m y = ne m y
@@ -258,7 +257,7 @@ searched id k (idle ∷ us) =
 searched id k (waiting r ∷ us) =
     passed_over (waiting r) us id k (open_in id (suc k) us) (λ m y. let z : ◌≡◌ {A = ℕ} 0 1 = cc y.0 in omega arith) (searched id (suc k) us)
 searched id k (receiving o ∷ us) =
-    branch (Searched (receiving o ∷ us) id k) (eqb o.message.id id) (FoundOpen.At k o) (open_in id (suc k) us)
+    branch (Searched (receiving o ∷ us) id k) (eqb o.message.id id) (Some (k, o)) (open_in id (suc k) us)
     (λ x. (0, omega arith, ((refl, eqb-true o.message.id id x), λ j m l. absurd (omega arith))))
     (λ x. passed_over (receiving o) us id k (open_in id (suc k) us) (other x) (searched id (suc k) us))
   where
@@ -268,24 +267,24 @@ searched id k (receiving o ∷ us) =
         eqb-false o.message.id id x (ap (λ (z : Inbound). z.message.id) same ∙ y.1)
 
 module _ (us : List Role) (id : ℕ) where
-  lowest_at : (i : ℕ) (o : Inbound) → open_in id 0 us ≡ FoundOpen.At i o → Lowest us id i o
+  lowest_at : (i : ℕ) (o : Inbound) → open_in id 0 us ≡ Some (i, o) → Lowest us id i o
   lowest_at i o e =
       let (j, x, w) = subst (Searched us id 0) e (searched id 0 us) in
       let same : j ≡ i = omega arith in
       subst (λ (n : ℕ). Lowest us id n o) same w
 
-  at_lowest : (f : FoundOpen) → open_in id 0 us ≡ f → (i : ℕ) (o : Inbound) → Lowest us id i o → f ≡ FoundOpen.At i o
-  at_lowest (FoundOpen.At j m) e i o w = go (lowest_at j m e) (dec_lt i j) (dec_lt j i)
+  at_lowest : (f : Option (ℕ × Inbound)) → open_in id 0 us ≡ f → (i : ℕ) (o : Inbound) → Lowest us id i o → f ≡ Some (i, o)
+  at_lowest (Some (j, m)) e i o w = go (lowest_at j m e) (dec_lt i j) (dec_lt j i)
     where
-      go : Lowest us id j m → Dec (i < j) → Dec (j < i) → FoundOpen.At j m ≡ FoundOpen.At i o
+      go : Lowest us id j m → Dec (i < j) → Dec (j < i) → ◌≡◌ {A = Option (ℕ × Inbound)} (Some (j, m)) (Some (i, o))
       go v (yes x) y = absurd (v.1 i o x w.0)
       go v (no x) (yes y) = absurd (w.1 j m y v.0)
       go v (no x) (no y) =
           let place : j ≡ i = omega (arith, x, y) in
           let role : receiving m ≡ receiving o = sym v.0.0 ∙ ap (λ (n : ℕ). get_or us n idle) place ∙ w.0.0 in
           let same : m ≡ o = cc in
-          ap₂ FoundOpen.At place same
-  at_lowest FoundOpen.Nothing e i o w = absurd (subst (Searched us id 0) e (searched id 0 us) i o w.0)
+          ap₂ (λ (x : ℕ) (y : Inbound). Some (x, y)) place same
+  at_lowest None e i o w = absurd (subst (Searched us id 0) e (searched id 0 us) i o w.0)
 
 pub found_is_the_lowest_open : FoundIsTheLowestOpen
 unfolding FoundIsTheLowestOpen
@@ -295,20 +294,20 @@ pub nothing_found_is_none_open : NothingFoundIsNoneOpen
 unfolding NothingFoundIsNoneOpen
 nothing_found_is_none_open us id = (λ e. subst (Searched us id 0) e (searched id 0 us), λ w. none_at (open_in id 0 us) (searched id 0 us) w)
   where
-    none_at : (f : FoundOpen) → Searched us id 0 f → ((j : ℕ) (m : Inbound) → OpenUnder us id j m → ⊥) → f ≡ FoundOpen.Nothing
-    none_at (FoundOpen.At i o) (j, e, (x, least)) w = absurd (w j o x)
-    none_at FoundOpen.Nothing s w = refl
+    none_at : (f : Option (ℕ × Inbound)) → Searched us id 0 f → ((j : ℕ) (m : Inbound) → OpenUnder us id j m → ⊥) → f ≡ None
+    none_at (Some (i, o)) (j, e, (x, least)) w = absurd (w j o x)
+    none_at None s w = refl
 
 -- ---- the receive that a packet fits
 
 pub unfit_is_none_waiting : UnfitIsNoneWaiting
 unfolding UnfitIsNoneWaiting
 unfit_is_none_waiting h es = (
-  λ e j r w t. subst (AtMost (slot_entry es j).serial) e (most_each h 0 Fit.Unfit es j r w t),
-  λ w. go (first_posted h 0 Fit.Unfit es) refl w,
+  λ e j r w t. subst (AtMost (slot_entry es j).serial) e (most_each h 0 None es j r w t),
+  λ w. go (first_posted h 0 None es) refl w,
 )
   where
-    go : (f : Fit) → first_posted h 0 Fit.Unfit es ≡ f → ((j : ℕ) (r : Receive) → (slot_entry es j).role ≡ waiting r → fits h r ≡ true → ⊥)
-        → f ≡ Fit.Unfit
-    go Fit.Unfit e w = refl
-    go (Fit.To i r serial) e w = let m = foremost h es i r serial e in absurd (w i r m.waits m.fit)
+    go : (f : Option (ℕ × Receive × ℕ)) → first_posted h 0 None es ≡ f → ((j : ℕ) (r : Receive) → (slot_entry es j).role ≡ waiting r → fits h r ≡ true → ⊥)
+        → f ≡ None
+    go None e w = refl
+    go (Some (i, r, serial)) e w = let m = foremost h es i r serial e in absurd (w i r m.waits m.fit)

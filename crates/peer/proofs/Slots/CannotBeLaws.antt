@@ -23,7 +23,6 @@ and_fails true b e = inr e
 and_fails false b e = inl refl
 
 one_unfit : (area : ℕ) (ss : List Slot) → all_fit area ss ≡ false → (i : ℕ) × (phase_fits area (phase_at ss i) ≡ false)
-unfolding all_fit
 one_unfit area [] e = absurd (true≢false e)
 one_unfit area (s ∷ ss) e =
     ⊎_elim (λ x. (0, x)) (λ x. let (i, y) = one_unfit area ss x in (suc i, y)) (and_fails (phase_fits area s.phase) (all_fit area ss) e)
@@ -33,7 +32,6 @@ not_fails true e = refl
 not_fails false e = absurd (true≢false e)
 
 one_clashes : (f : Phase) (ss : List Slot) → none_clash f ss ≡ false → (j : ℕ) × (clash f (phase_at ss j) ≡ true)
-unfolding none_clash
 one_clashes f [] e = absurd (true≢false e)
 one_clashes f (s ∷ ss) e =
     ⊎_elim (λ x. (0, not_fails (clash f s.phase) x)) (λ x. let (j, y) = one_clashes f ss x in (suc j, y))

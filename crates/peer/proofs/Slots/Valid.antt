@@ -39,24 +39,21 @@ clash_sym (Phase.Open o) (Phase.Open q) =
 -- ---- from the test to the facts, and back
 
 each_fits : (area : ℕ) (ss : List Slot) → all_fit area ss ≡ true → (j : ℕ) → phase_fits area (phase_at ss j) ≡ true
-unfolding all_fit phase_fits
+unfolding phase_fits
 each_fits area [] e j = refl
 each_fits area (s ∷ ss) e zero = and_left (phase_fits area s.phase) (all_fit area ss) e
 each_fits area (s ∷ ss) e (suc j) = each_fits area ss (and_right (phase_fits area s.phase) (all_fit area ss) e) j
 
 all_fit_lem : (area : ℕ) (ss : List Slot) → ((j : ℕ) → phase_fits area (phase_at ss j) ≡ true) → all_fit area ss ≡ true
-unfolding all_fit
 all_fit_lem area [] f = refl
 all_fit_lem area (s ∷ ss) f = and_intro (phase_fits area s.phase) (all_fit area ss) (f 0) (all_fit_lem area ss (λ j. f (suc j)))
 
 none_at : (f : Phase) (ss : List Slot) → none_clash f ss ≡ true → (j : ℕ) → j < length ss → clash f (phase_at ss j) ≡ false
-unfolding none_clash
 none_at f [] e j h = absurd (omega arith)
 none_at f (s ∷ ss) e zero h = not-true (clash f s.phase) (and_left (not (clash f s.phase)) (none_clash f ss) e)
 none_at f (s ∷ ss) e (suc j) h = none_at f ss (and_right (not (clash f s.phase)) (none_clash f ss) e) j (omega arith)
 
 at_none : (f : Phase) (ss : List Slot) → ((j : ℕ) → j < length ss → clash f (phase_at ss j) ≡ false) → none_clash f ss ≡ true
-unfolding none_clash
 at_none f [] g = refl
 at_none f (s ∷ ss) g =
     and_intro (not (clash f s.phase)) (none_clash f ss) (ap not (g 0 (omega arith))) (at_none f ss (λ j h. g (suc j) (omega arith)))

@@ -29,11 +29,11 @@ pub placed-requires : goal.placed-requires
 placed-requires c =
     let ss = c.args.peer.slots in
     let len : length ss ≡ slot_count = search length_mapped in
-    omega (arith, len, (vacant ss _ (sym c.find_vacancy.ensures ∙ c.in-Slot.is)).0)
+    omega (arith, len, (vacant ss _ (sym c.find_vacancy.ensures ∙ c.in-Some.is)).0)
 
-pub returns-in-Full : goal.returns-in-Full
+pub returns-in_default : goal.returns-in_default
 unfolding post_effect placed_in pick
-returns-in-Full c = λ ws.
+returns-in_default c = λ ws.
     let a = c.args in
     let n = a.receive.start + a.receive.capacity in
     rw (
@@ -41,13 +41,13 @@ returns-in-Full c = λ ws.
       ← c.overlaps_some.ensures,
       c.if-overlaps_some.false,
       ← c.find_vacancy.ensures,
-      c.in-Full.is,
-      c.refused-in-Full.ensures,
+      c.in_default.is,
+      c.refused-in_default.ensures,
     ) refl
 
-pub returns-in-Slot : goal.returns-in-Slot
+pub returns : goal.returns
 unfolding post_effect placed_in pick
-returns-in-Slot c = λ ws.
+returns c = λ ws.
     let a = c.args in
     let n = a.receive.start + a.receive.capacity in
     rw (
@@ -55,6 +55,6 @@ returns-in-Slot c = λ ws.
       ← c.overlaps_some.ensures,
       c.if-overlaps_some.false,
       ← c.find_vacancy.ensures,
-      c.in-Slot.is,
+      c.in-Some.is,
       c.placed.ensures,
     )

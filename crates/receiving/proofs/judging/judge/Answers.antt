@@ -8,27 +8,27 @@ use Rattle.receiving.proofs.judging.judge.Goals as goal
 pub judge_again-requires : goal.judge_again-requires
 judge_again-requires c =
     let a = c.args in
-    let found = sym c.find_open.ensures ∙ c.in-At.is in
-    again_placed (length a.words.now) a.peer a.h c.requires _ _ found (sym c.is_rtm-rtm.ensures ∙ c.if-rtm.true)
+    let found = sym c.find_open.ensures ∙ c.in-Some.is in
+    again_placed (length a.words.now) a.peer.now a.h c.requires _ _ found (sym c.is_rtm-rtm.ensures ∙ c.if-rtm.true)
 
 pub judge_data-requires : goal.judge_data-requires
 judge_data-requires c =
     let a = c.args in
-    let found = sym c.find_open.ensures ∙ c.in-At.is in
-    data_placed (length a.words.now) a.peer a.h c.requires _ _ found
+    let found = sym c.find_open.ensures ∙ c.in-Some.is in
+    data_placed (length a.words.now) a.peer.now a.h c.requires _ _ found
 
-pub returns-then-rtm : goal.returns-then-rtm
+pub returns-in-Some : goal.returns-in-Some
 unfolding judge judge_found pick
-returns-then-rtm c = rw (← c.find_open.ensures, c.in-At.is, ← c.is_rtm-rtm.ensures, c.if-rtm.true, c.judge_again.ensures)
+returns-in-Some c = rw (← c.find_open.ensures, c.in-Some.is, ← c.is_rtm-rtm.ensures, c.if-rtm.true, c.judge_again.ensures)
 
-pub returns-else-rtm : goal.returns-else-rtm
+pub returns-in-Some-2 : goal.returns-in-Some-2
 unfolding judge judge_found pick
-returns-else-rtm c = rw (← c.find_open.ensures, c.in-At.is, ← c.is_rtm-rtm.ensures, c.if-rtm.false, c.judge_data.ensures)
+returns-in-Some-2 c = rw (← c.find_open.ensures, c.in-Some.is, ← c.is_rtm-rtm.ensures, c.if-rtm.false, c.judge_data.ensures)
 
-pub returns-then-rtm-2 : goal.returns-then-rtm-2
+pub returns-in-None : goal.returns-in-None
 unfolding judge judge_found pick
-returns-then-rtm-2 c = rw (← c.find_open.ensures, c.in-Nothing.is, ← c.is_rtm-rtm.ensures, c.if-rtm-2.true, c.judge_new.ensures)
+returns-in-None c = rw (← c.find_open.ensures, c.in-None.is, ← c.is_rtm-rtm.ensures, c.if-rtm-2.true, c.judge_new.ensures)
 
-pub returns-else-rtm-2 : goal.returns-else-rtm-2
+pub returns-in-None-2 : goal.returns-in-None-2
 unfolding judge judge_found pick
-returns-else-rtm-2 c = rw (← c.find_open.ensures, c.in-Nothing.is, ← c.is_rtm-rtm.ensures, c.if-rtm-2.false)
+returns-in-None-2 c = rw (← c.find_open.ensures, c.in-None.is, ← c.is_rtm-rtm.ensures, c.if-rtm-2.false)
