@@ -3,9 +3,9 @@ ghost use Rattle.std.specs.Prelude.{◌≡◌, true};
 ghost use Rattle.engine.specs.Gates.{SmallArena, gate_of};
 ghost use Rattle.engine.specs.SetUp.{numbers_fit, lent_fits};
 
-use crate::types::{Engine, Gate};
+use crate::types::Engine;
 use peer::Peer;
-use protocol::{BAD_LENT, BAD_PEER, BAD_STATE, PACKET_LIMIT};
+use protocol::{BAD_LENT, BAD_PEER, BAD_STATE, PACKET_LIMIT, Refusal};
 
 // The limits of the three set-up numbers.
 pub fn numbers_fit(n: usize, area: usize, limit: usize) -> bool
@@ -44,18 +44,25 @@ pub(crate) fn lent_fits(n: usize, area: usize, arena: usize, map: usize) -> bool
 }
 
 // The refusals 2, 3 and 4, in this order.
-pub(crate) fn gate(fits: bool, n: usize, area: usize, arena: usize, map: usize, peer: usize) -> Gate
+pub(crate) fn gate(
+    fits: bool,
+    n: usize,
+    area: usize,
+    arena: usize,
+    map: usize,
+    peer: usize,
+) -> Result<(), Refusal>
     requires { fits ≡ true → SmallArena n area }
     ensures { result ≡ gate_of fits n area arena map peer }
 {
     if !fits {
-        return Gate::Refused(BAD_STATE);
+        return Err(BAD_STATE);
     }
     if !lent_fits(n, area, arena, map) {
-        return Gate::Refused(BAD_LENT);
+        return Err(BAD_LENT);
     }
     if n <= peer {
-        return Gate::Refused(BAD_PEER);
+        return Err(BAD_PEER);
     }
-    Gate::Open
+    Ok(())
 }

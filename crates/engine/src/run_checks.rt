@@ -5,9 +5,9 @@ ghost use Rattle.engine.specs.Gates.{gate_of};
 ghost use Rattle.engine.specs.SetUp.{all_peers_fit, engine_fits, numbers_fit};
 
 use crate::checks;
-use crate::types::{Engine, Gate};
+use crate::types::Engine;
 use peer::Peer;
-use protocol::BAD_STATE;
+use protocol::{BAD_STATE, Refusal};
 
 // Whether each of the first n peers can be.
 fn peers_fit(peers: &[Peer], n: usize, area: usize) -> bool
@@ -39,11 +39,11 @@ pub fn admit(
     arena: usize,
     map: usize,
     peer: usize,
-) -> Gate
+) -> Result<(), Refusal>
     ensures { result ≡ gate_of (good && numbers_fit n area limit) n area arena map peer }
 {
     if !good {
-        return Gate::Refused(BAD_STATE);
+        return Err(BAD_STATE);
     }
     let numbers = checks::numbers_fit(n, area, limit);
     checks::gate(numbers, n, area, arena, map, peer)

@@ -2,9 +2,8 @@
 ghost use Rattle.std.specs.Prelude.{◌<◌, length};
 
 use crate::drive::FILL;
-use engine::Ready;
 use peer::Answer;
-use protocol::CqData;
+use protocol::{CqData, Refusal};
 use std::io;
 
 pub(crate) fn text(rt: &impl Print, bytes: &[u8]) -> io::Result<()> {
@@ -87,10 +86,10 @@ pub(crate) fn answer(rt: &impl Print, answer: Answer) -> io::Result<()> {
     text(rt, b"\n")
 }
 
-pub(crate) fn ready(rt: &impl Print, answer: Ready) -> io::Result<()> {
+pub(crate) fn ready(rt: &impl Print, answer: Result<(), Refusal>) -> io::Result<()> {
     match answer {
-        Ready::Ready => text(rt, b"set up\n"),
-        Ready::Refused(refusal) => {
+        Ok(()) => text(rt, b"set up\n"),
+        Err(refusal) => {
             named(rt, b"set-up refused", refusal.number as usize)?;
             text(rt, b"\n")
         }
