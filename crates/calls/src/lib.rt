@@ -8,7 +8,7 @@ ghost use Rattle.peer.specs.LentCalls.{local_call_of};
 ghost use Rattle.engine.specs.Leaves.{world, silent, call_leaves};
 ghost use Rattle.engine.specs.Steps.{call_turn};
 
-use engine::{Engine, Gate, Outcome};
+use engine::{Engine, Outcome};
 use peer::{Answer, Call, LocalCall, Receive};
 use protocol::Span;
 
@@ -20,8 +20,8 @@ fn local(engine: &mut Engine, peer: usize, call: LocalCall, arena: &[u8], map: &
     let area = engine.area;
     let fits = engine::fits(engine);
     match engine::admit(fits, n, area, engine.limit, arena.len(), map.len(), peer) {
-        Gate::Refused(refusal) => Answer::Refused(refusal),
-        Gate::Open => {
+        Err(refusal) => Answer::Refused(refusal),
+        Ok(()) => {
             let step = lending::local(engine.peers[peer], peer, area, call, map);
             engine.peers[peer] = step.peer;
             step.answer
@@ -52,8 +52,8 @@ pub fn packet(
     let limit = engine.limit;
     let fits = engine::fits(&engine);
     let answer = match engine::admit(fits, engine.n, area, limit, arena.len(), map.len(), peer) {
-        Gate::Refused(refusal) => Answer::Refused(refusal),
-        Gate::Open => {
+        Err(refusal) => Answer::Refused(refusal),
+        Ok(()) => {
             let sender = engine.peers[peer];
             let sent = Span {
                 at: 0,

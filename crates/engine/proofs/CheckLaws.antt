@@ -9,13 +9,14 @@ use mathlib.Core.List.{List, [], ◌∷◌}
 use mathlib.Core.Path.{◌≡◌, refl, sym, ap, ◌∙◌}
 use native.Mathlib.Nat.{mul-le-mul}
 use native.Mathlib.Omega.{arith}
+use Rattle.std.specs.Prelude.{Ok, Err}
 use Rattle.protocol.specs.Refusals.{bad_lent, bad_peer, bad_state}
 use Rattle.engine.specs.Gates.{SmallArena, gate_of, through_gate}
 use Rattle.lending.specs.Lending.{Owned}
 use Rattle.engine.specs.SetUp.{all_peers_fit, engine_fits, lent_fits, numbers_fit, peer_count}
 use Rattle.engine.specs.Steps.{World, call_turn, peer_turn, refused_turn}
 use Rattle.engine.specs.declared.types.Engine.{Engine}
-use Rattle.engine.specs.declared.types.Gate.{Gate}
+use Rattle.engine.specs.Gates.{Gate}
 use Rattle.laws.specs.Choose.{pick}
 use Rattle.protocol.specs.declared.refusals.Refusal.{Refusal}
 use Rattle.peer.specs.Calls.{Call}
@@ -73,7 +74,7 @@ gate_turn w p c =
   where
     go : (a b d : Bool)
         → pick a (pick b (pick d (peer_turn w p c) (refused_turn w bad_peer)) (refused_turn w bad_lent)) (refused_turn w bad_state)
-        ≡ through_gate w p c (pick a (pick b (pick d Gate.Open (Gate.Refused bad_peer)) (Gate.Refused bad_lent)) (Gate.Refused bad_state))
+        ≡ through_gate w p c (pick a (pick b (pick d (Ok tt) (Err bad_peer)) (Err bad_lent)) (Err bad_state))
     go false b d = unfold pick through_gate in refl
     go true false d = unfold pick through_gate in refl
     go true true false = unfold pick through_gate in refl
@@ -84,7 +85,7 @@ pub record Passed (fits : Bool) (n area arena map p : ℕ) : Type 0 where
   pub lent : lent_fits n area arena map ≡ true
   pub peer : p < n
 
-pub gate_open : (fits : Bool) (n area arena map p : ℕ) → gate_of fits n area arena map p ≡ Gate.Open → Passed fits n area arena map p
+pub gate_open : (fits : Bool) (n area arena map p : ℕ) → gate_of fits n area arena map p ≡ Ok tt → Passed fits n area arena map p
 unfolding gate_of
 gate_open fits n area arena map p e =
     let (state, e) = pick_first _ _ _ _ not_open_lem e in
@@ -92,7 +93,7 @@ gate_open fits n area arena map p e =
     let (peer, e) = pick_first _ _ _ _ not_open_lem e in
     record { state = state; lent = lent; peer = ltb-true p n peer }
   where
-    not_open_lem : {k : Refusal} → Gate.Refused k ≡ Gate.Open → ⊥
+    not_open_lem : {k : Refusal} → ◌≡◌ {A = Gate} (Err k) (Ok tt) → ⊥
     not_open_lem x = let z : ◌≡◌ {A = ℕ} 0 1 = cc in omega arith
 
 -- behind an open gate there is a peer of this number, and it owns its part of arena and map
@@ -121,7 +122,7 @@ gated {e} {fits} {arena} {map} {p} k x y =
       says = y ∙ ap (λ (b : Bool). gate_of b e.n e.area arena map p) (ap (λ (b : Bool). b && numbers) x ∙ numbers_twice numbers _);
     }
 
-pub opened : {e : Engine} {arena map p : ℕ} {g : Gate} → Gated e arena map p g → g ≡ Gate.Open → Opened e arena map p
+pub opened : {e : Engine} {arena map p : ℕ} {g : Gate} → Gated e arena map p g → g ≡ Ok tt → Opened e arena map p
 opened {e} {arena} {map} {p} w h =
     let o = gate_open (engine_fits e) e.n e.area arena map p (sym w.says ∙ h) in
     let numbers = fit_numbers e o.state in

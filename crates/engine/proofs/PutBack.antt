@@ -5,11 +5,12 @@ use mathlib.Core.List.{List, []}
 use mathlib.Core.Path.{◌≡◌, sym, ap, ap₂, ◌∙◌}
 use native.Mathlib.Nat.{sub-zero}
 use native.Mathlib.Omega.{arith}
+use Rattle.std.specs.Prelude.{Ok, Err}
 use Rattle.laws.specs.Parts.{part}
 use Rattle.engine.specs.Gates.{through_gate}
 use Rattle.engine.specs.Leaves.{CallLeaves, call_leaves}
 use Rattle.engine.specs.SetUp.{peer_at}
-use Rattle.engine.specs.declared.types.Gate.{Gate}
+use Rattle.engine.specs.Gates.{Gate}
 use Rattle.lending.specs.Lending.{Lent, leaves_at}
 use Rattle.engine.specs.Steps.{World, call_turn, peer_turn, put_back, refused_turn, with_peer, words_of}
 use Rattle.engine.specs.declared.types.Engine.{Engine}
@@ -48,17 +49,17 @@ all_of l = rw sub-zero at (part_rest l 0)
 -- ---- a call that its gate lets through, and one that it does not
 
 module _ (w : World) {p : ℕ} {g : Gate} (x : Gated w.engine (length w.arena) (length w.map) p g) where
-  pub refused_call : {k : Refusal} (c : Call) → g ≡ Gate.Refused k → refused_turn w k ≡ call_turn w p c
+  pub refused_call : {k : Refusal} (c : Call) → g ≡ Err k → refused_turn w k ≡ call_turn w p c
   unfolding through_gate
-  refused_call {k} c z = sym (through w p c (Gate.Refused k) x z)
+  refused_call {k} c z = sym (through w p c (Err k) x z)
 
   -- a refused call leaves what it is lent
-  pub refused_call_leaves : {k : Refusal} (c : Call) (reply : List ℕ) → g ≡ Gate.Refused k
+  pub refused_call_leaves : {k : Refusal} (c : Call) (reply : List ℕ) → g ≡ Err k
       → ◌≡◌ {A = CallLeaves} (record { outcome = record { engine = w.engine; answer = Answer.Refused k }; arena = w.arena; map = w.map; reply = reply })
       (call_leaves reply (call_turn w p c))
   refused_call_leaves c reply z = rw (← refused_call c z) (rw (store_nothing reply 0))
 
-  module _ (z : g ≡ Gate.Open) where
+  module _ (z : g ≡ Ok tt) where
     step_of : (d : Peer) → get_or w.engine.peers p d ≡ peer_at w.engine p
     step_of d = get_d_any w.engine.peers p d fresh_peer (omega (arith, x.eight, (opened x z).below))
 
@@ -69,7 +70,7 @@ module _ (w : World) {p : ℕ} {g : Gate} (x : Gated w.engine (length w.arena) (
     unfolding peer_turn through_gate
     quiet_call c d {q} {a} e =
         sym
-        (through w p c Gate.Open x z
+        (through w p c (Ok tt) x z
         ∙ ap (λ (y : Peer). put_back w p (peer_step w.engine.area w.engine.limit y (words_of w p) c)) (sym (step_of d))
         ∙ ap (put_back w p) (sym e) ∙ quiet_turn w p q a ((opened x z).owns d).mapped.in_map)
 
@@ -84,4 +85,4 @@ module _ (w : World) {p : ℕ} {g : Gate} (x : Gated w.engine (length w.arena) (
         let leaves : Peer → Call → Lent = λ y c. leaves_at 0 w.engine.area p w.arena w.map reply (peer_step w.engine.area w.engine.limit y (words_of w p) c) in
         ap (put_in w.engine p)
         (e ∙ ap₂ leaves (step_of d) (ap₂ packet (all_of bs) (ap length (all_of reply))))
-        ∙ ap (call_leaves reply) (sym (through w p (packet bs (length reply)) Gate.Open x z))
+        ∙ ap (call_leaves reply) (sym (through w p (packet bs (length reply)) (Ok tt) x z))

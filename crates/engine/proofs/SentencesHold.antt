@@ -6,11 +6,11 @@ use mathlib.Core.List.{List}
 use mathlib.Core.Path.{◌≡◌, refl, sym, ap, ◌∙◌, subst}
 use native.Mathlib.Nat.{zero-div}
 use native.Mathlib.Omega.{arith}
+use Rattle.std.specs.Prelude.{Ok}
 use Rattle.bitmap.specs.Map.{bit, bit_at}
 use Rattle.engine.specs.Sentences.{ClearMap, FreshEngine, SameSetUp, SetUpKept, SetUpStartsFresh}
 use Rattle.engine.specs.SetUp.{Prepared, engine_of, lent_fits, not_started, numbers_fit, peer_at, peer_count, set_up}
 use Rattle.engine.specs.Steps.{Turn, World, peer_turn, put_back}
-use Rattle.engine.specs.declared.types.Ready.{Ready}
 use Rattle.peer.specs.Calls.{Call}
 use Rattle.peer.specs.State.{free_slot, fresh_peer, phase_at, slot_count}
 use Rattle.peer.specs.declared.types.Peer.{Peer}
@@ -22,11 +22,11 @@ use Rattle.laws.proofs.Choosing.{and_left, and_right, branch}
 
 -- ---- set-up
 
-pub ready_fits : (n area limit arena : ℕ) (map : List ℕ) → (set_up n area limit arena map).started.answer ≡ Ready.Ready
+pub ready_fits : (n area limit arena : ℕ) (map : List ℕ) → (set_up n area limit arena map).started.answer ≡ Ok tt
     → (numbers_fit n area limit ≡ true) × (lent_fits n area arena (length map) ≡ true)
 unfolding set_up
 ready_fits n area limit arena map =
-    branch (λ (x : Prepared). x.started.answer ≡ Ready.Ready → (numbers_fit n area limit ≡ true) × (lent_fits n area arena (length map) ≡ true))
+    branch (λ (x : Prepared). x.started.answer ≡ Ok tt → (numbers_fit n area limit ≡ true) × (lent_fits n area arena (length map) ≡ true))
     (numbers_fit n area limit && lent_fits n area arena (length map)) _ (not_started map)
     (λ x y. (and_left (numbers_fit n area limit) (lent_fits n area arena (length map)) x, and_right (numbers_fit n area limit) (lent_fits n area arena (length map)) x))
     (λ x y. let u : ◌≡◌ {A = ℕ} 0 1 = cc in absurd (omega arith))
@@ -74,7 +74,7 @@ clear_map map =
 pub set_up_starts_fresh : SetUpStartsFresh
 unfolding SetUpStartsFresh set_up
 set_up_starts_fresh n area limit arena map =
-    branch (λ (x : Prepared). x.started.answer ≡ Ready.Ready → FreshEngine n area limit x.started.engine × ClearMap map x.map)
+    branch (λ (x : Prepared). x.started.answer ≡ Ok tt → FreshEngine n area limit x.started.engine × ClearMap map x.map)
     (numbers_fit n area limit && lent_fits n area arena (length map)) _ (not_started map)
     (λ x y. (fresh_engine n area limit, clear_map map))
     (λ x y. let u : ◌≡◌ {A = ℕ} 0 1 = cc in absurd (omega arith))

@@ -1,6 +1,6 @@
 -- The engine's checks in 01's own words: those of the set-up (1), and of a call 2, 3 and 4, in front of the peer's own. A call is refused by the
 -- first that fails, and by none exactly if it is not refused. Proved in proofs/EngineChecked.antt and proofs/AreaBits.antt.
-use Rattle.std.specs.Prelude.{ℕ, ◌+◌, ◌*◌, ◌/◌, ◌%◌, ◌^◌, ◌≤◌, ◌<◌, length, get_or, List, ◌∷◌, map, ◌⊎◌, ◌↔◌, ◌≢◌, ◌≡◌}
+use Rattle.std.specs.Prelude.{ℕ, ◌+◌, ◌*◌, ◌/◌, ◌%◌, ◌^◌, ◌≤◌, ◌<◌, length, get_or, List, ◌∷◌, map, ◌⊎◌, ◌↔◌, ◌≢◌, ◌≡◌, Ok, Err}
 use Rattle.bitmap.specs.Map.{bit_at}
 use Rattle.protocol.specs.Checks.{Said, gives, refused}
 use Rattle.peer.specs.Calls.{Call}
@@ -14,8 +14,8 @@ use Rattle.engine.specs.Sentences.{Eights}
 use Rattle.engine.specs.SetUp.{peer_at, set_up}
 use Rattle.engine.specs.Steps.{World, call_turn, words_of}
 use Rattle.engine.specs.declared.types.Engine.{Engine}
-use Rattle.engine.specs.declared.types.Ready.{Ready}
 use Rattle.protocol.specs.Refusals.{number}
+use Rattle.engine.specs.SetUp.{Ready}
 
 -- ---- the numbers and the lengths
 
@@ -37,8 +37,8 @@ WrongLengths n area arena map = (arena ≢ n * area) ⊎ (map ≢ n * area / 64)
 
 -- what set-up answers: 01's number, or nothing but that it is ready
 abbrev pub ready_says : Ready → Said (Unit {0})
-ready_says Ready.Ready = gives tt
-ready_says (Ready.Refused k) = refused (number k)
+ready_says (Ok tt) = gives tt
+ready_says (Err k) = refused (number k)
 
 -- 1: "set-up numbers or lent lengths are wrong"
 abbrev pub SetUpFails : ℕ → ℕ → ℕ → ℕ → ℕ → Type 0

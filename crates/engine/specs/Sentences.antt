@@ -1,10 +1,9 @@
 -- What 01 says of the set-up and of what a call leaves alone, over numbers, bits and bytes. Proved in proofs/OthersHold.antt and proofs/SentencesHold.antt.
-use Rattle.std.specs.Prelude.{ℕ, ◌+◌, ◌*◌, ◌<◌, length, get_or, List, ◌≡◌}
+use Rattle.std.specs.Prelude.{ℕ, ◌+◌, ◌*◌, ◌<◌, length, get_or, List, ◌≡◌, Ok}
 use Rattle.bitmap.specs.Map.{bit_at}
 use Rattle.engine.specs.SetUp.{peer_at, peer_count, set_up}
 use Rattle.engine.specs.Steps.{World, call_turn}
 use Rattle.engine.specs.declared.types.Engine.{Engine}
-use Rattle.engine.specs.declared.types.Ready.{Ready}
 use Rattle.peer.specs.Calls.{Call}
 use Rattle.peer.specs.State.{phase_at, slot_count}
 use Rattle.peer.specs.declared.types.Phase.{Phase}
@@ -33,7 +32,7 @@ pub record ClearMap (before after : List ℕ) : Type 0 where
 -- what a set-up that is not refused leaves
 unfoldable pub SetUpStartsFresh : Type 0
 SetUpStartsFresh =
-    (n area limit arena : ℕ) (map : List ℕ) → (set_up n area limit arena map).started.answer ≡ Ready.Ready
+    (n area limit arena : ℕ) (map : List ℕ) → (set_up n area limit arena map).started.answer ≡ Ok tt
     → FreshEngine n area limit (set_up n area limit arena map).started.engine × ClearMap map (set_up n area limit arena map).map
 
 -- ---- what a call leaves alone

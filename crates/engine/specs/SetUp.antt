@@ -1,13 +1,13 @@
 -- The set-up: its limits, the fresh engine, and which engines can be.
-use Rattle.std.specs.Prelude.{ℕ, ◌*◌, ◌/◌, ◌%◌, List, Bool, ◌&&◌, length, get_or, take, replicate, leb, eqb}
+use Rattle.std.specs.Prelude.{ℕ, ◌*◌, ◌/◌, ◌%◌, List, Bool, ◌&&◌, length, get_or, take, replicate, leb, eqb, Ok, Err, Result}
 use Rattle.std.specs.List.{list_all}
 use Rattle.laws.specs.Choose.{pick}
 use Rattle.protocol.specs.Refusals.{bad_set_up}
 use Rattle.protocol.specs.Limits.{packet_limit}
+use Rattle.protocol.specs.declared.types.Refusal.{Refusal}
 use Rattle.peer.specs.declared.types.Peer.{Peer}
 use Rattle.peer.specs.State.{area_limit, fresh_peer, peer_fits}
 use Rattle.engine.specs.declared.types.Engine.{Engine}
-use Rattle.engine.specs.declared.types.Ready.{Ready}
 use Rattle.engine.specs.declared.types.Started.{Started}
 
 abbrev pub peer_count : ℕ
@@ -27,6 +27,10 @@ engine_of n area limit = record { peers = replicate peer_count fresh_peer; n = n
 
 -- ---- the call
 
+-- what it answers
+abbrev pub Ready : Type 0
+Ready = Result (Unit {0}) Refusal
+
 -- what set-up leaves: its result, and the map
 pub record Prepared : Type 0 where
   pub started : Started
@@ -34,13 +38,13 @@ pub record Prepared : Type 0 where
 
 -- refused, the engine is one of no peers, which every call refuses 2
 abbrev pub not_started : List ℕ → Prepared
-not_started map = record { started = record { answer = Ready.Refused bad_set_up; engine = engine_of 0 0 0 }; map = map }
+not_started map = record { started = record { answer = Err bad_set_up; engine = engine_of 0 0 0 }; map = map }
 
 -- "Set-up clears the map and leaves the arena"
 unfoldable pub set_up : ℕ → ℕ → ℕ → ℕ → List ℕ → Prepared
 set_up n area limit arena map =
     pick (numbers_fit n area limit && lent_fits n area arena (length map))
-    (record { started = record { answer = Ready.Ready; engine = engine_of n area limit }; map = replicate (length map) 0 })
+    (record { started = record { answer = Ok tt; engine = engine_of n area limit }; map = replicate (length map) 0 })
     (not_started map)
 
 -- ---- refusal 2

@@ -3,7 +3,7 @@ ghost use Rattle.std.specs.Prelude.{◌≡◌, true};
 ghost use Rattle.engine.specs.Gates.{SmallArena, gate_of};
 ghost use Rattle.engine.specs.SetUp.{numbers_fit, lent_fits};
 
-use crate::types::{Engine, Gate};
+use crate::types::Engine;
 use peer::Peer;
 use protocol::{PACKET_LIMIT, Refusal};
 
@@ -44,18 +44,25 @@ pub(crate) fn lent_fits(n: usize, area: usize, arena: usize, map: usize) -> bool
 }
 
 // The refusals 2, 3 and 4, in this order.
-pub(crate) fn gate(fits: bool, n: usize, area: usize, arena: usize, map: usize, peer: usize) -> Gate
+pub(crate) fn gate(
+    fits: bool,
+    n: usize,
+    area: usize,
+    arena: usize,
+    map: usize,
+    peer: usize,
+) -> Result<(), Refusal>
     requires { fits ≡ true → SmallArena n area }
     ensures { result ≡ gate_of fits n area arena map peer }
 {
     if !fits {
-        return Gate::Refused(Refusal::BadState);
+        return Err(Refusal::BadState);
     }
     if !lent_fits(n, area, arena, map) {
-        return Gate::Refused(Refusal::BadLent);
+        return Err(Refusal::BadLent);
     }
     if n <= peer {
-        return Gate::Refused(Refusal::BadPeer);
+        return Err(Refusal::BadPeer);
     }
-    Gate::Open
+    Ok(())
 }

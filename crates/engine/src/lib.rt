@@ -11,4 +11,4 @@ mod types;
 pub use checks::numbers_fit;
 pub use run_checks::{admit, fits};
 pub use setting_up::set_up;
-pub use types::{Engine, Gate, Outcome, Ready, Started};
+pub use types::{Engine, Outcome, Started};

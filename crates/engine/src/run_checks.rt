@@ -5,7 +5,7 @@ ghost use Rattle.engine.specs.Gates.{gate_of};
 ghost use Rattle.engine.specs.SetUp.{all_peers_fit, engine_fits, numbers_fit};
 
 use crate::checks;
-use crate::types::{Engine, Gate};
+use crate::types::Engine;
 use peer::Peer;
 use protocol::Refusal;
 
@@ -39,11 +39,11 @@ pub fn admit(
     arena: usize,
     map: usize,
     peer: usize,
-) -> Gate
+) -> Result<(), Refusal>
     ensures { result ≡ gate_of (good && numbers_fit n area limit) n area arena map peer }
 {
     if !good {
-        return Gate::Refused(Refusal::BadState);
+        return Err(Refusal::BadState);
     }
     let numbers = checks::numbers_fit(n, area, limit);
     checks::gate(numbers, n, area, arena, map, peer)

@@ -3,7 +3,7 @@ ghost use Rattle.std.specs.Prelude.{◌≡◌, List, ℕ, length};
 ghost use Rattle.engine.specs.SetUp.{engine_of, not_started, set_up};
 
 use crate::checks;
-use crate::types::{Engine, Ready, Started};
+use crate::types::{Engine, Started};
 use peer::Peer;
 use protocol::Refusal;
 
@@ -25,7 +25,7 @@ fn refused() -> Started
     ensures { (map : List ℕ) → record { started = result; map = map } ≡ not_started map }
 {
     Started {
-        answer: Ready::Refused(Refusal::BadSetUp),
+        answer: Err(Refusal::BadSetUp),
         engine: fresh(0, 0, 0),
     }
 }
@@ -44,7 +44,7 @@ pub fn set_up(n: usize, area: usize, limit: usize, arena: &[u8], map: &mut [u64]
     }
     bitmap::clear(map, 0, words * 64);
     Started {
-        answer: Ready::Ready,
+        answer: Ok(()),
         engine: fresh(n, area, limit),
     }
 }

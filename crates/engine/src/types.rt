@@ -12,16 +12,11 @@ pub struct Engine {
     pub limit: usize,
 }
 
-#[derive(Clone, Copy)]
-pub enum Ready {
-    Ready,
-    Refused(Refusal),
-}
-
-// What a set-up answers, and the engine to start with.
+// What a set-up answers, and the engine to start with. `set_up` of specs/ has an engine of no peers for a
+// refused one, and the guarantees speak of it: so this is no Result of an engine.
 #[derive(Clone, Copy)]
 pub struct Started {
-    pub answer: Ready,
+    pub answer: Result<(), Refusal>,
     pub engine: Engine,
 }
 
@@ -30,13 +25,6 @@ pub struct Started {
 pub struct Outcome {
     pub engine: Engine,
     pub answer: Answer,
-}
-
-// Whether a call goes through to its peer.
-#[derive(Clone, Copy)]
-pub enum Gate {
-    Open,
-    Refused(Refusal),
 }
 
 impl Engine {

@@ -1,7 +1,7 @@
 // What a run hands from call to call, and the calls of the engine.
 use crate::call::{Command, LentLengths};
 use crate::print::{self, AnswerLine};
-use engine::{Engine, Ready};
+use engine::Engine;
 use peer::{LocalCall, Peer};
 use std::io;
 
@@ -54,8 +54,8 @@ impl Run {
         let started = engine::set_up(n, area, limit, &self.arena, &mut self.map);
         self.engine = started.engine;
         match started.answer {
-            Ready::Ready => println!(rt; "set up"),
-            Ready::Refused(refusal) => println!(rt; "set-up refused {}", refusal.number()),
+            Ok(()) => println!(rt; "set up"),
+            Err(refusal) => println!(rt; "set-up refused {}", refusal.number()),
         }
     }
 

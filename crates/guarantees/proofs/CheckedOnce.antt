@@ -4,6 +4,7 @@ use lib.ListN.{length, get_or}
 use mathlib.Core.Bool.{Bool, true, false, ◌&&◌}
 use mathlib.Core.Path.{◌≡◌, refl, sym, ◌∙◌}
 use native.Mathlib.Omega.{arith}
+use Rattle.std.specs.Prelude.{Ok, Err}
 use Rattle.peer.specs.Calls.{Call}
 use Rattle.peer.specs.declared.types.Peer.{Peer}
 use Rattle.lending.specs.Lending.{Owned}
@@ -11,7 +12,7 @@ use Rattle.engine.specs.Gates.{gate_of, through_gate}
 use Rattle.engine.specs.SetUp.{engine_fits, numbers_fit, peer_count}
 use Rattle.engine.specs.Steps.{World, call_turn, refused_turn}
 use Rattle.engine.specs.declared.types.Engine.{Engine}
-use Rattle.engine.specs.declared.types.Gate.{Gate}
+use Rattle.engine.specs.Gates.{Gate}
 use Rattle.engine.proofs.CheckLaws.{Gated, Passed, fit_numbers, gate_open, opened, small, through}
 use Rattle.engine.proofs.OthersHold.{checked_good}
 use Rattle.engine.proofs.WorldTurns.{good_called}
@@ -34,11 +35,11 @@ module _ {good : Bool} (w : World) (p : ℕ) (s : CheckedOnce good w.engine) (g 
   gate = record { eight = s.eights.peers; says = rw s.state (rw (good_numbers w.engine good s.state) at y) }
 
   -- a call that is not let through
-  pub once_refused : (k : Refusal) (c : Call) → g ≡ Gate.Refused k → call_turn w p c ≡ refused_turn w k
+  pub once_refused : (k : Refusal) (c : Call) → g ≡ Err k → call_turn w p c ≡ refused_turn w k
   unfolding through_gate
-  once_refused k c z = through w p c (Gate.Refused k) gate z
+  once_refused k c z = through w p c (Err k) gate z
 
-  module _ (z : g ≡ Gate.Open) where
+  module _ (z : g ≡ Ok tt) where
     pub once_passed : Passed good w.engine.n w.engine.area (length w.arena) (length w.map) p
     once_passed = gate_open good w.engine.n w.engine.area (length w.arena) (length w.map) p (rw s.state at (sym gate.says ∙ z))
 

@@ -7,6 +7,7 @@ use mathlib.Core.List.{List, [], ◌∷◌}
 use mathlib.Core.Path.{◌≡◌, refl, sym, ap, subst, ◌∙◌}
 use native.Mathlib.Nat.{add-zero, mul-le-mul}
 use native.Mathlib.Omega.{arith}
+use Rattle.std.specs.Prelude.{Ok, Err}
 use Rattle.laws.specs.Parts.{store_at}
 use Rattle.laws.proofs.Listing.{get_d_any}
 use Rattle.laws.proofs.Storing.{length_part, length_store, store_next, store_nothing}
@@ -23,7 +24,7 @@ use Rattle.engine.specs.Gates.{gate_of}
 use Rattle.engine.specs.Leaves.{world}
 use Rattle.engine.specs.SetUp.{numbers_fit}
 use Rattle.engine.specs.Steps.{Turn, World, put_back, refused_turn, with_peer, words_of}
-use Rattle.engine.specs.declared.types.Gate.{Gate}
+use Rattle.engine.specs.Gates.{Gate}
 use Rattle.engine.proofs.WorldTurns.{turn_own}
 use Rattle.guarantees.specs.Outputs.{RunLeaves, output_of, replies_after, requests_of}
 use Rattle.guarantees.specs.Runs.{world_after}
@@ -140,7 +141,7 @@ module _ {bytes buffers : List ℕ} {form : Answer → List ℕ} {size most : �
     module _ {good : Bool} (s : CheckedOnce good w.engine) (o : Gate)
         (y : o ≡ gate_of (good && numbers_fit w.engine.n w.engine.area w.engine.limit) w.engine.n w.engine.area (length w.arena) (length w.map) q.peer) where
       -- it is refused before it comes to its peer
-      pub run_refused : (k : Refusal) → o ≡ Gate.Refused k → CallMade bytes buffers form size most all qs good output at taken w replies (Answer.Refused k)
+      pub run_refused : (k : Refusal) → o ≡ Err k → CallMade bytes buffers form size most all qs good output at taken w replies (Answer.Refused k)
       run_refused k z =
           let e : refused_turn w k ≡ turn_of w (request_of bytes replies q) =
           unfold turn_of in sym (once_refused w q.peer s o y k (call_of (lent_call_of bytes replies q.call)) z) in
@@ -148,7 +149,7 @@ module _ {bytes buffers : List ℕ} {form : Answer → List ℕ} {size most : �
           record { once = s; next = λ at' output' a b. rw (a, b) (rw n at (run_next (refused_turn w k) e (ap length n))) }
 
       -- its peer makes its step
-      pub run_open : o ≡ Gate.Open → (d : Peer) (l : Lent) → length l.reply ≡ length replies
+      pub run_open : o ≡ Ok tt → (d : Peer) (l : Lent) → length l.reply ≡ length replies
           → l ≡ leaves_at (reply_place q.call) w.engine.area q.peer w.arena w.map replies
           (peer_step w.engine.area w.engine.limit (get_or w.engine.peers q.peer d) (words_of w q.peer) (call_of (lent_call_of bytes replies q.call)))
           → CallMade bytes buffers form size most all qs good output at taken

@@ -3,10 +3,10 @@ use Prim.Native.Nat.{ℕ, ◌<◌}
 use lib.ListN.{length, replicate}
 use mathlib.Core.List.{List}
 use mathlib.Core.Path.{◌≡◌, refl, sym, ap, ◌∙◌, subst, subst₂}
+use Rattle.std.specs.Prelude.{Ok}
 use Rattle.engine.specs.Leaves.{world}
 use Rattle.engine.specs.SetUp.{engine_of, peer_at, set_up}
 use Rattle.engine.specs.Steps.{World, words_of}
-use Rattle.engine.specs.declared.types.Ready.{Ready}
 use Rattle.guarantees.specs.Delivery.{SeenByHistory, demanded}
 use Rattle.guarantees.specs.Receiving.{asked, fresh_world, no_starts, receiving, seen_at, turn_of}
 use Rattle.peer.specs.Calls.{Call, call_of}
@@ -51,7 +51,7 @@ followed p area limit =
     }
 
 -- after a set-up that was not refused, every peer is tracked from a fresh history on
-pub fresh_tracks : (n area limit p : ℕ) (arena map : List ℕ) → (set_up n area limit (length arena) map).started.answer ≡ Ready.Ready → p < n
+pub fresh_tracks : (n area limit p : ℕ) (arena map : List ℕ) → (set_up n area limit (length arena) map).started.answer ≡ Ok tt → p < n
     → Tracks p (fresh_world n area limit arena map) no_starts fresh_plain
 fresh_tracks n area limit p arena map ready h =
     record {
@@ -77,7 +77,7 @@ fresh_tracks n area limit p arena map ready h =
           at = λ i u. unfold fresh_peer in clashing (is_free (phase_at (replicate slot_count free_slot) i)) (ap is_free (fresh_free slot_count i)) u;
         }
 
-pub fresh_follows : (n area limit p : ℕ) (arena map : List ℕ) → (set_up n area limit (length arena) map).started.answer ≡ Ready.Ready → p < n
+pub fresh_follows : (n area limit p : ℕ) (arena map : List ℕ) → (set_up n area limit (length arena) map).started.answer ≡ Ok tt → p < n
     → Follows p area limit (fresh_world n area limit arena map) no_starts fresh_plain
 fresh_follows n area limit p arena map ready h =
     let is = fresh_is n area limit arena map ready in

@@ -5,10 +5,10 @@ use mathlib.Core.Bool.{◌&&◌}
 use mathlib.Core.List.{List, [], ◌∷◌}
 use mathlib.Core.Path.{◌≡◌, refl, sym, ap, ◌∙◌, subst}
 use native.Mathlib.Omega.{arith}
+use Rattle.std.specs.Prelude.{Ok}
 use Rattle.engine.specs.Leaves.{world}
 use Rattle.engine.specs.SetUp.{Prepared, engine_of, lent_fits, not_started, numbers_fit, peer_count, set_up}
 use Rattle.engine.specs.Steps.{World, call_turn}
-use Rattle.engine.specs.declared.types.Ready.{Ready}
 use Rattle.peer.specs.Calls.{call_of}
 use Rattle.guarantees.specs.Runs.{world_after}
 use Rattle.guarantees.specs.Receiving.{LentRequest, fresh_world, receiving, turn_of}
@@ -22,16 +22,16 @@ use Rattle.peer.proofs.Plain.Steps.{fresh_valid}
 use Rattle.peer.proofs.Slots.Valid.{Valid}
 
 -- what a set-up that is not refused leaves, written out
-pub fresh_is : (n area limit : ℕ) (arena map : List ℕ) → (set_up n area limit (length arena) map).started.answer ≡ Ready.Ready
+pub fresh_is : (n area limit : ℕ) (arena map : List ℕ) → (set_up n area limit (length arena) map).started.answer ≡ Ok tt
     → fresh_world n area limit arena map ≡ world (engine_of n area limit) arena (replicate (length map) 0)
 unfolding fresh_world set_up
 fresh_is n area limit arena map =
-    branch (λ (x : Prepared). x.started.answer ≡ Ready.Ready
+    branch (λ (x : Prepared). x.started.answer ≡ Ok tt
     → ◌≡◌ {A = World} (world x.started.engine arena x.map) (world (engine_of n area limit) arena (replicate (length map) 0)))
     (numbers_fit n area limit && lent_fits n area (length arena) (length map)) _ (not_started map)
     (λ x y. refl) (λ x y. let u : ◌≡◌ {A = ℕ} 0 1 = cc in absurd (omega arith))
 
-pub fresh_good : (n area limit : ℕ) (arena map : List ℕ) → (set_up n area limit (length arena) map).started.answer ≡ Ready.Ready → Good (fresh_world n area limit arena map)
+pub fresh_good : (n area limit : ℕ) (arena map : List ℕ) → (set_up n area limit (length arena) map).started.answer ≡ Ok tt → Good (fresh_world n area limit arena map)
 fresh_good n area limit arena map e =
     let (numbers, lent) = ready_fits n area limit (length arena) map e in
     subst Good (sym (fresh_is n area limit arena map e))

@@ -2,7 +2,6 @@
 use Rattle.std.specs.Prelude.{ℕ, ◌+◌, ◌*◌, ◌<◌, eqb, length, true, List, [], ◌∷◌, ◌≡◌, Ok}
 use Rattle.engine.specs.SetUp.{set_up}
 use Rattle.engine.specs.Steps.{World}
-use Rattle.engine.specs.declared.types.Ready.{Ready}
 use Rattle.peer.specs.Calls.{Call, call_of, packet}
 use Rattle.guarantees.specs.Runs.{alone, calls_of, observe}
 use Rattle.guarantees.specs.Receiving.{LentRequest, Seen, fresh_world, no_starts, receiving, turn_of}
@@ -37,7 +36,7 @@ plain_run area limit l cs = alone (demanded area limit) (λ (l : Plain) (c : Cal
 unfoldable pub SeenByHistory : Type 0
 SeenByHistory =
     (n area limit p : ℕ) (arena map : List ℕ)
-    → (set_up n area limit (length arena) map).started.answer ≡ Ready.Ready
+    → (set_up n area limit (length arena) map).started.answer ≡ Ok tt
     → p < n
     → (calls : List LentRequest)
     → observe receiving p (fresh_world n area limit arena map) no_starts calls ≡ plain_run area limit fresh_plain (calls_of receiving p calls)
@@ -92,7 +91,7 @@ pub record DeliveredAll (area limit : ℕ) (calls : List Call) (ss : List Seen) 
 unfoldable pub Delivery : Type 0
 Delivery =
     (n area limit p : ℕ) (arena map : List ℕ)
-    → (set_up n area limit (length arena) map).started.answer ≡ Ready.Ready
+    → (set_up n area limit (length arena) map).started.answer ≡ Ok tt
     → p < n
     → (calls : List LentRequest)
     → DeliveredAll area limit (calls_of receiving p calls) (observe receiving p (fresh_world n area limit arena map) no_starts calls)
@@ -120,7 +119,7 @@ AllWrite p w l gs (q ∷ qs) =
 unfoldable pub OwnRange : Type 0
 OwnRange =
     (n area limit p : ℕ) (arena map : List ℕ)
-    → (set_up n area limit (length arena) map).started.answer ≡ Ready.Ready
+    → (set_up n area limit (length arena) map).started.answer ≡ Ok tt
     → p < n
     → (calls : List LentRequest)
     → AllWrite p (fresh_world n area limit arena map) fresh_plain no_origins calls

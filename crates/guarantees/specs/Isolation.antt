@@ -1,6 +1,5 @@
 -- Demand 3, whole: a single claim about two lists of calls. Proved in proofs/Isolated.antt.
-use Rattle.std.specs.Prelude.{ℕ, ◌<◌, ◌≡◌, List, length}
-use Rattle.engine.specs.declared.types.Ready.{Ready}
+use Rattle.std.specs.Prelude.{ℕ, ◌<◌, ◌≡◌, List, length, Ok}
 use Rattle.engine.specs.SetUp.{set_up}
 use Rattle.guarantees.specs.Runs.{SeesTheSame}
 use Rattle.guarantees.specs.Receiving.{fresh_world, no_starts, receiving}
@@ -12,7 +11,7 @@ use Rattle.guarantees.specs.Receiving.{fresh_world, no_starts, receiving}
 unfoldable pub Isolation : Type 0
 Isolation =
     (n area limit p : ℕ) (arena₁ arena₂ map₁ map₂ : List ℕ)
-    → (set_up n area limit (length arena₁) map₁).started.answer ≡ Ready.Ready
-    → (set_up n area limit (length arena₂) map₂).started.answer ≡ Ready.Ready
+    → (set_up n area limit (length arena₁) map₁).started.answer ≡ Ok tt
+    → (set_up n area limit (length arena₂) map₂).started.answer ≡ Ok tt
     → p < n
     → SeesTheSame receiving p no_starts (fresh_world n area limit arena₁ map₁) (fresh_world n area limit arena₂ map₂)

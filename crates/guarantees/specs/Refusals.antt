@@ -1,11 +1,10 @@
 -- Demand 1: "A refused call answers one number from the table, and the state, the arena, the map and the reply buffer are then as they
 -- were." Proved in proofs/Refused.antt.
-use Rattle.std.specs.Prelude.{ℕ, ◌≡◌, List, ◌∷◌, true, length}
+use Rattle.std.specs.Prelude.{ℕ, ◌≡◌, List, ◌∷◌, true, length, Ok}
 use Rattle.protocol.specs.Checks.{refused}
 use Rattle.protocol.specs.declared.refusals.Refusal.{Refusal}
 use Rattle.peer.specs.declared.types.Answer.{Answer}
 use Rattle.peer.specs.Refusing.{refusals_of, among}
-use Rattle.engine.specs.declared.types.Ready.{Ready}
 use Rattle.engine.specs.Checks.{ready_says}
 use Rattle.engine.specs.SetUp.{set_up}
 use Rattle.engine.specs.Steps.{World}
@@ -39,7 +38,7 @@ RefusedSetUp =
 unfoldable pub NeverBadState : Type 0
 NeverBadState =
     (n area limit : ℕ) (arena map : List ℕ)
-    → (set_up n area limit (length arena) map).started.answer ≡ Ready.Ready
+    → (set_up n area limit (length arena) map).started.answer ≡ Ok tt
     → (before : List LentRequest) (q : LentRequest) (k : Refusal)
     → (turn_of (world_after receiving (fresh_world n area limit arena map) before) q).answer ≡ Answer.Refused k
     → (number k ≡ 2 → ⊥) × (number k ≡ 3 → ⊥)

@@ -6,6 +6,7 @@ use mathlib.Core.List.{List, [], ◌∷◌, ◌++◌}
 use mathlib.Core.Logic.{◌⊎◌, ⊎_elim, ⊎_map}
 use mathlib.Core.Path.{◌≡◌, refl, sym, ap, ◌∙◌, subst}
 use native.Mathlib.Omega.{arith}
+use Rattle.std.specs.Prelude.{Ok}
 use Rattle.laws.specs.Parts.{part, store_at}
 use Rattle.laws.proofs.Choosing.{pick_cases, pick_true}
 use Rattle.laws.proofs.Comparing.{eq_or_ne}
@@ -13,7 +14,6 @@ use Rattle.laws.proofs.Storing.{part_middle, store_start}
 use Rattle.protocol.specs.Refusals.{bad_set_up}
 use Rattle.engine.specs.SetUp.{Prepared, engine_of, not_started, set_up}
 use Rattle.engine.specs.Steps.{World}
-use Rattle.engine.specs.declared.types.Ready.{Ready}
 use Rattle.engine.proofs.Worlds.{Good}
 use Rattle.peer.specs.declared.types.Request as code
 use Rattle.peer.specs.LentCalls.{reply_place}
@@ -159,7 +159,7 @@ module _ (w : World) (earlier : List LentRequest) (b : Batch) where
 
 module _ (n area limit : ℕ) (arena map state : List ℕ) where
   abbrev ready : Prepared
-  ready = record { started = record { answer = Ready.Ready; engine = engine_of n area limit }; map = replicate (length map) 0 }
+  ready = record { started = record { answer = Ok tt; engine = engine_of n area limit }; map = replicate (length map) 0 }
 
   abbrev fresh : Prepared
   fresh = set_up n area limit (length arena) map

@@ -1,10 +1,9 @@
 -- A set-up that answers 0, then any number of runs, each on the words, arena and map that the one before left, are one run of `guarantees`:
 -- that of the requests of all of them, one after the other, from the world that set-up leaves. Proved in proofs/AsOneRun.antt.
-use Rattle.std.specs.Prelude.{ℕ, suc, ◌*◌, ◌<◌, length, get_or, take, drop, List, [], ◌∷◌, ◌++◌, ◌≡◌}
+use Rattle.std.specs.Prelude.{ℕ, suc, ◌*◌, ◌<◌, length, get_or, take, drop, List, [], ◌∷◌, ◌++◌, ◌≡◌, Ok}
 use Rattle.laws.specs.Parts.{part, store_at}
 use Rattle.engine.specs.SetUp.{set_up}
 use Rattle.engine.specs.Steps.{Turn, World}
-use Rattle.engine.specs.declared.types.Ready.{Ready}
 use Rattle.peer.specs.declared.types.Request as code
 use Rattle.peer.specs.LentCalls.{reply_place}
 use Rattle.guarantees.specs.Outputs.{requests_of}
@@ -85,7 +84,7 @@ unfoldable pub StartIsReady : Type 0
 StartIsReady =
     (n area limit : ℕ) (arena map state : List ℕ)
     → (start_of n area limit (length arena) map state).refusal ≡ 0
-    → (set_up n area limit (length arena) map).started.answer ≡ Ready.Ready
+    → (set_up n area limit (length arena) map).started.answer ≡ Ok tt
 
 unfoldable pub RunsAreOneRun : Type 0
 RunsAreOneRun =

@@ -9,7 +9,7 @@ ghost use Rattle.engine.specs.Sentences.{Eights};
 
 use crate::types::{Ran, WORDS};
 use crate::{answers, calls};
-use engine::{Engine, Gate};
+use engine::Engine;
 use peer::{Answer, Peer};
 
 // How many calls there are words for, and for their answers.
@@ -45,8 +45,8 @@ fn run_calls(
         let area = engine.area;
         let limit = engine.limit;
         let answer = match engine::admit(good, n, area, limit, arena.len(), map.len(), p) {
-            Gate::Refused(refusal) => Answer::Refused(refusal),
-            Gate::Open => {
+            Err(refusal) => Answer::Refused(refusal),
+            Ok(()) => {
                 let there = engine.peers[p];
                 let step = lending::step(there, p, area, limit, call, bytes, arena, map, replies);
                 let after = step.peer;

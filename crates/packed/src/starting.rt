@@ -2,8 +2,8 @@
 ghost use Rattle.std.specs.Prelude.{◌≡◌, length};
 ghost use Rattle.packed.specs.Starting.{start_of};
 
-use engine::Ready;
 use protocol::Refusal;
+
 
 // Clears the map and writes the state of an engine of n peers, and answers 0; or answers the number
 // of a refusal, and leaves map and state.
@@ -24,8 +24,8 @@ pub fn set_up(
     let answer = started.answer;
     let engine = started.engine;
     match answer {
-        Ready::Refused(refusal) => refusal.number() as usize,
-        Ready::Ready => {
+        Err(refusal) => refusal.number() as usize,
+        Ok(()) => {
             state_words::save(state, engine);
             0
         }

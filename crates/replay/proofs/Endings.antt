@@ -7,12 +7,12 @@ use lib.ListN.{length, get_or, length-map}
 use mathlib.Core.List.{List, [], ◌∷◌, map}
 use mathlib.Core.Path.{◌≡◌, refl, ap, ◌∙◌}
 use native.Mathlib.Omega.{arith}
-use Rattle.std.specs.Prelude.{Option, None, Some}
+use Rattle.std.specs.Prelude.{Ok, Err, Option, None, Some}
 use Rattle.laws.proofs.Choosing.{branch, pick_either, pick_true}
 use Rattle.peer.specs.declared.types.Call.{Call}
 use Rattle.peer.specs.declared.types.LocalCall.{LocalCall}
 use Rattle.peer.specs.declared.types.Request.{Request}
-use Rattle.engine.specs.declared.types.Ready.{Ready}
+use Rattle.engine.specs.SetUp.{Ready}
 use Rattle.trace.specs.Entries.{entry_at, set_up_at, set_up_is}
 use Rattle.trace.specs.ExactlyRecorded.{CallStands, SetUpStands}
 use Rattle.trace.specs.declared.types.SetUp.{SetUp}
@@ -89,13 +89,13 @@ module _ (s : List ℕ) (k next : ℕ) (reply text : List ℕ) (w : World) (a m 
 
   answered : (r : Ready) → Decodes s reply k next d → EndsAfter s k next r (on_ready r (reported s reply w text d) (told a m reply text)).replayed
   unfolding reported
-  answered (Ready.Refused e) t = (refl, refl)
-  answered Ready.Ready t = (t.0, number t, t.2)
+  answered (Err e) t = (refl, refl)
+  answered (Ok tt) t = (t.0, number t, t.2)
 
   at_most : (r : Ready) → Decodes s reply k next d → TakesAtMost k (on_ready r (reported s reply w text d) (told a m reply text)).replayed
   unfolding reported
-  at_most (Ready.Refused e) t = (omega arith, λ p. let z : ◌≡◌ {A = ℕ} 0 1 = cc in omega arith)
-  at_most Ready.Ready t = rw (number t) (t.2.few, λ p. (rw p at t.2.ends).0)
+  at_most (Err e) t = (omega arith, λ p. let z : ◌≡◌ {A = ℕ} 0 1 = cc in omega arith)
+  at_most (Ok tt) t = rw (number t) (t.2.few, λ p. (rw p at t.2.ends).0)
 
 module _ (s : List ℕ) (budget : ℕ) (arena words reply text : List ℕ) (bytes : (i : ℕ) → get_or s i 0 < 256) where
   replay_started : 64 + 80 * budget ≤ length text → replay_of s budget arena words reply text ≡ started s budget arena words reply text (set_up_at s 0)

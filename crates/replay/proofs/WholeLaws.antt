@@ -8,7 +8,7 @@ use mathlib.Core.Bool.{true, ◌&&◌}
 use mathlib.Core.List.{List, [], ◌++◌}
 use mathlib.Core.Path.{◌≡◌, refl, sym, subst, ◌∙◌}
 use native.Mathlib.Omega.{arith}
-use Rattle.std.specs.Prelude.{Option, None, Some}
+use Rattle.std.specs.Prelude.{Ok, Err, Option, None, Some}
 use Rattle.laws.specs.Parts.{store_at}
 use Rattle.laws.proofs.Choosing.{branch, pick_either}
 use Rattle.laws.proofs.Storing.{length_store, store_next, store_start}
@@ -19,7 +19,7 @@ use Rattle.engine.specs.Sentences.{Eights}
 use Rattle.engine.specs.Leaves.{world}
 use Rattle.engine.specs.SetUp.{Prepared, engine_fits, engine_of, lent_fits, not_started, numbers_fit, set_up}
 use Rattle.engine.specs.Steps.{World}
-use Rattle.engine.specs.declared.types.Ready.{Ready}
+use Rattle.engine.specs.SetUp.{Ready}
 use Rattle.engine.proofs.Worlds.{good_fits}
 use Rattle.trace.specs.Entries.{set_up_at}
 use Rattle.trace.specs.declared.types.SetUp.{SetUp}
@@ -35,11 +35,11 @@ use Rattle.replay.proofs.DecodeLaws.{calls_few}
 
 -- ---- the set-up
 
-refused_or_ready : {k : Refusal} {C : Type 0} → Ready.Refused k ≡ Ready.Ready → C
+refused_or_ready : {k : Refusal} {C : Type 0} → ◌≡◌ {A = Ready} (Err k) (Ok tt) → C
 refused_or_ready e = let z : ◌≡◌ {A = ℕ} 0 1 = cc in absurd (omega arith)
 
 -- the engine of a set-up that is ready can be
-pub ready_holds : (n area limit : ℕ) (arena map : List ℕ) (x : Prepared) → x ≡ set_up n area limit (length arena) map → x.started.answer ≡ Ready.Ready
+pub ready_holds : (n area limit : ℕ) (arena map : List ℕ) (x : Prepared) → x ≡ set_up n area limit (length arena) map → x.started.answer ≡ Ok tt
     → Eights x.started.engine × (engine_fits x.started.engine ≡ true)
 unfolding fresh_world
 ready_holds n area limit arena map x e r =
@@ -50,20 +50,20 @@ module _ (n area limit : ℕ) (s : List ℕ) (next budget : ℕ) (arena map repl
     (e : x ≡ set_up n area limit (length arena) map) where
   -- what holds of a set-up that is ready, and of one that is refused, holds of this one
   either : (P : Prepared → Type 0)
-      → P (record { started = record { answer = Ready.Ready; engine = engine_of n area limit }; map = replicate (length map) 0 })
+      → P (record { started = record { answer = Ok tt; engine = engine_of n area limit }; map = replicate (length map) 0 })
       → P (not_started map) → P x
   unfolding set_up
   either P p q = subst P (sym e) (pick_either P (numbers_fit n area limit && lent_fits n area (length arena) (length map)) p q)
 
-  untouched : (k : Refusal) → x.started.answer ≡ Ready.Refused k → x.map ≡ map
-  untouched k = either (λ (y : Prepared). y.started.answer ≡ Ready.Refused k → y.map ≡ map) (λ r. refused_or_ready (sym r)) (λ r. refl)
+  untouched : (k : Refusal) → x.started.answer ≡ Err k → x.map ≡ map
+  untouched k = either (λ (y : Prepared). y.started.answer ≡ Err k → y.map ≡ map) (λ r. refused_or_ready (sym r)) (λ r. refl)
 
-  pub replay_from_ready : x.started.answer ≡ Ready.Ready
+  pub replay_from_ready : x.started.answer ≡ Ok tt
       → replay_from n area limit s next budget arena map reply text ≡ reported s reply (world x.started.engine arena x.map) text (decode budget s reply next)
   unfolding replay_from fresh_world
   replay_from_ready r = rw (← e, r)
 
-  pub replay_from_refused : (k : Refusal) → x.started.answer ≡ Ready.Refused k
+  pub replay_from_refused : (k : Refusal) → x.started.answer ≡ Err k
       → replay_from n area limit s next budget arena map reply text ≡ told arena x.map reply text (Ending.NotSetUp k)
   unfolding replay_from
   replay_from_refused k r = rw (← e, r, untouched k r)
@@ -156,8 +156,8 @@ module _ (s : List ℕ) (budget : ℕ) (arena map reply text : List ℕ) where
     where
       ready : (r : Ready)
           → (on_ready r (reported s reply (fresh_world n area limit a m) text (decode budget s reply next)) (told a m reply text)).replayed.written ≤ length text
-      ready Ready.Ready = report_room s reply (fresh_world n area limit a m) (decode budget s reply next) budget (length text) (calls_few budget s reply next) room
-      ready (Ready.Refused k) = tell_room (Ending.NotSetUp k) budget (length text) room
+      ready (Ok tt) = report_room s reply (fresh_world n area limit a m) (decode budget s reply next) budget (length text) (calls_few budget s reply next) room
+      ready (Err k) = tell_room (Ending.NotSetUp k) budget (length text) room
 
   started_inside : 64 + 80 * budget ≤ length text → (u : Option (SetUp × ℕ)) → (started s budget arena map reply text u).replayed.written ≤ length text
   unfolding started

@@ -1,9 +1,9 @@
 -- How a replay ends (01, "Replay": "last `end E` (E taken, refused entries too), `stopped 4096` if bytes remain, or `bad trace at B`, B where
 -- the bad entry starts (0 for the first three numbers)"): by the entries that stand in the trace, not by how they are read.
-use Rattle.std.specs.Prelude.{ℕ, ◌+◌, ◌*◌, ◌/◌, ◌≤◌, ◌<◌, List, [], ◌∷◌, map, ◌≡◌, length, get_or}
+use Rattle.std.specs.Prelude.{ℕ, ◌+◌, ◌*◌, ◌/◌, ◌≤◌, ◌<◌, List, [], ◌∷◌, map, ◌≡◌, length, get_or, Ok, Err}
 use Rattle.laws.specs.Parts.{part}
 use Rattle.peer.specs.declared.types.Request.{Request}
-use Rattle.engine.specs.declared.types.Ready.{Ready}
+use Rattle.engine.specs.SetUp.{Ready}
 use Rattle.engine.specs.SetUp.{set_up}
 use Rattle.trace.specs.ExactlyRecorded.{SetUpStands, EntryStands}
 use Rattle.replay.specs.declared.types.Ending.{Ending}
@@ -51,8 +51,8 @@ set_up_answer n area limit arena words =
 
 -- "`setup ok` or `setup 1` (then stops)"
 abbrev pub EndsAfter : List ℕ → ℕ → ℕ → Ready → Replayed → Type 0
-EndsAfter s budget next (Ready.Refused k) r = (r.taken ≡ 0) × (r.ending ≡ Ending.NotSetUp k)
-EndsAfter s budget next Ready.Ready r = (entries : List Request) × (r.taken ≡ length entries) × Taken s budget next entries r.ending
+EndsAfter s budget next (Err k) r = (r.taken ≡ 0) × (r.ending ≡ Ending.NotSetUp k)
+EndsAfter s budget next (Ok tt) r = (entries : List Request) × (r.taken ≡ length entries) × Taken s budget next entries r.ending
 
 abbrev pub ReplayEndsAsSaid : Type 0
 ReplayEndsAsSaid =

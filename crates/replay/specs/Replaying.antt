@@ -1,8 +1,8 @@
 -- A replay (01, "Replay"): the run of the calls that a trace records, and the text about it.
-use Rattle.std.specs.Prelude.{ℕ, ◌+◌, ◌*◌, ◌/◌, List, ◌++◌, Bool, ◌&&◌, Option, None, Some, length, leb}
+use Rattle.std.specs.Prelude.{ℕ, ◌+◌, ◌*◌, ◌/◌, List, ◌++◌, Bool, ◌&&◌, length, leb, Ok, Err, Option, None, Some}
 use Rattle.laws.specs.Choose.{pick}
 use Rattle.laws.specs.Parts.{part, store_at}
-use Rattle.engine.specs.declared.types.Ready.{Ready}
+use Rattle.engine.specs.SetUp.{Ready}
 use Rattle.engine.specs.SetUp.{peer_count, set_up}
 use Rattle.engine.specs.Steps.{World}
 use Rattle.trace.specs.declared.types.SetUp.{SetUp}
@@ -70,8 +70,8 @@ told arena map reply text e =
 
 -- "`setup ok` or `setup 1` (then stops)"
 abbrev pub on_ready : Ready → ReplayLeaves → (Ending → ReplayLeaves) → ReplayLeaves
-on_ready Ready.Ready run stop = run
-on_ready (Ready.Refused k) run stop = stop (Ending.NotSetUp k)
+on_ready (Ok tt) run stop = run
+on_ready (Err k) run stop = stop (Ending.NotSetUp k)
 
 -- the set-up, and the run of what the trace s records from `next` on
 unfoldable pub replay_from : ℕ → ℕ → ℕ → List ℕ → ℕ → ℕ → List ℕ → List ℕ → List ℕ → List ℕ → ReplayLeaves

@@ -8,7 +8,7 @@ ghost use Rattle.replay.specs.Replaying.{ran};
 
 use crate::lines;
 use crate::types::{Ending, Replayed};
-use engine::{Engine, Gate};
+use engine::Engine;
 use peer::{Answer, Call};
 use protocol::Span;
 
@@ -50,8 +50,8 @@ pub(crate) fn run(
         let area = engine.area;
         let limit = engine.limit;
         let answer = match engine::admit(true, engine.n, area, limit, arena.len(), map.len(), p) {
-            Gate::Refused(refusal) => Answer::Refused(refusal),
-            Gate::Open => {
+            Err(refusal) => Answer::Refused(refusal),
+            Ok(()) => {
                 let there = engine.peers[p];
                 let step = lending::step(there, p, area, limit, call, trace, arena, map, reply);
                 let after = step.peer;

@@ -5,7 +5,7 @@ ghost use Rattle.replay.specs.Replaying.{told, replay_from, lent_of, has_room, r
 
 use crate::types::{Ending, Replayed};
 use crate::{entries, lines};
-use engine::{Engine, Ready};
+use engine::Engine;
 use peer::Peer;
 use trace::SetUp;
 
@@ -73,8 +73,8 @@ fn begin(
     let answer = started.answer;
     let engine = started.engine;
     match answer {
-        Ready::Refused(refusal) => tell(text, Ending::NotSetUp(refusal)),
-        Ready::Ready => {
+        Err(refusal) => tell(text, Ending::NotSetUp(refusal)),
+        Ok(()) => {
             let first = text::put_line(text, 0, b"setup ok", &[]);
             let ran = entries::run(engine, trace, from, budget, arena, map, reply, text, first);
             let taken = ran.taken;

@@ -19,7 +19,7 @@ run-ran-requires-clause-eights c =
     let a = set_up_room in
     let p = c.requires in
     let k : length w.new.text ≡ length c.args.text.now = w.auto.text in
-    let (eights, fits) = ready_holds _ _ _ c.args.arena.now _ _ c.set_up-started.ensures c.in-Ready.is in eights
+    let (eights, fits) = ready_holds _ _ _ c.args.arena.now _ _ c.set_up-started.ensures c.in-Ok.is in eights
 
 pub run-ran-requires-clause-start_value : goal.run-ran-requires-clause-start_value
 run-ran-requires-clause-start_value c =
@@ -27,7 +27,7 @@ run-ran-requires-clause-start_value c =
     let a = set_up_room in
     let p = c.requires in
     let k : length w.new.text ≡ length c.args.text.now = w.auto.text in
-    let (eights, fits) = ready_holds _ _ _ c.args.arena.now _ _ c.set_up-started.ensures c.in-Ready.is in fits
+    let (eights, fits) = ready_holds _ _ _ c.args.arena.now _ _ c.set_up-started.ensures c.in-Ok.is in fits
 
 pub run-ran-requires-clause-budget_in_bounds : goal.run-ran-requires-clause-budget_in_bounds
 run-ran-requires-clause-budget_in_bounds c =
@@ -35,7 +35,7 @@ run-ran-requires-clause-budget_in_bounds c =
     let a = set_up_room in
     let p = c.requires in
     let k : length w.new.text ≡ length c.args.text.now = w.auto.text in
-    let (eights, fits) = ready_holds _ _ _ c.args.arena.now _ _ c.set_up-started.ensures c.in-Ready.is in omega arith
+    let (eights, fits) = ready_holds _ _ _ c.args.arena.now _ _ c.set_up-started.ensures c.in-Ok.is in omega arith
 
 pub put_ending-requires : goal.put_ending-requires
 put_ending-requires c =
@@ -44,17 +44,17 @@ put_ending-requires c =
     let r = c.run-ran in
     last_room _ _ _ a.text.now _ a.budget (calls_few a.budget _ _ _) c.requires _ _ w.ensures.0 (rw w.ensures.1 at r.ensures)
 
-pub returns-in-Refused : goal.returns-in-Refused
-returns-in-Refused c =
+pub returns-in-Err : goal.returns-in-Err
+returns-in-Err c =
     c.tell.ensures _ _ _
-    ∙ sym (replay_from_refused _ _ _ _ _ _ _ _ _ _ _ c.set_up-started.ensures _ c.in-Refused.is)
+    ∙ sym (replay_from_refused _ _ _ _ _ _ _ _ _ _ _ c.set_up-started.ensures _ c.in-Err.is)
 
-pub returns-in-Ready : goal.returns-in-Ready
-returns-in-Ready c =
+pub returns-in-Ok : goal.returns-in-Ok
+returns-in-Ok c =
     let a = c.args in
     let w = c.put_line-first in
     let r = c.run-ran in
     let p = c.put_ending in
     reported_by_parts _ _ _ a.text.now _ a.budget (calls_few a.budget _ _ _) c.requires _ _ w.ensures.0 (rw w.ensures.1 at r.ensures) _ _
     p.ensures.0 p.ensures.1
-    ∙ sym (replay_from_ready _ _ _ _ _ _ _ _ _ _ _ c.set_up-started.ensures c.in-Ready.is)
+    ∙ sym (replay_from_ready _ _ _ _ _ _ _ _ _ _ _ c.set_up-started.ensures c.in-Ok.is)
