@@ -2,7 +2,7 @@
 use Rattle.std.specs.Prelude.{ℕ, ◌≤◌, Bool, ltb, Ok, Err, Result}
 use Rattle.laws.specs.Choose.{pick}
 use Rattle.protocol.specs.Refusals.{bad_lent, bad_peer, bad_state}
-use Rattle.protocol.specs.declared.types.Refusal.{Refusal}
+use Rattle.protocol.specs.declared.refusals.Refusal.{Refusal}
 use Rattle.peer.specs.Calls.{Call}
 use Rattle.peer.specs.State.{area_limit}
 use Rattle.engine.specs.SetUp.{lent_fits, peer_count}

@@ -4,7 +4,7 @@ use Rattle.std.specs.List.{list_all}
 use Rattle.laws.specs.Choose.{pick}
 use Rattle.protocol.specs.Refusals.{bad_set_up}
 use Rattle.protocol.specs.Limits.{packet_limit}
-use Rattle.protocol.specs.declared.types.Refusal.{Refusal}
+use Rattle.protocol.specs.declared.refusals.Refusal.{Refusal}
 use Rattle.peer.specs.declared.types.Peer.{Peer}
 use Rattle.peer.specs.State.{area_limit, fresh_peer, peer_fits}
 use Rattle.engine.specs.declared.types.Engine.{Engine}
