@@ -49,11 +49,7 @@ fn total(row: TypeRow, flags: u16, array: usize, raw: usize, size: usize) -> Opt
 fn limited(n: usize) -> Option<usize>
     ensures { result ≡ limited_to n }
 {
-    if PACKET_LIMIT < n {
-        None
-    } else {
-        Some(n)
-    }
+    if PACKET_LIMIT < n { None } else { Some(n) }
 }
 
 // Type, version and flags.
@@ -157,7 +153,12 @@ fn typed(
 // Writes the packet with these numbers, this raw address, if the header says that it has one, and
 // these data to the start of out, and answers its length. Refused, it leaves out as it was.
 // No type of the table has an array yet, so that it is lent an empty one.
-pub fn write(header: Header, raw_address: &[u8], data: &[u8], out: &mut [u8]) -> Result<usize, Refusal>
+pub fn write(
+    header: Header,
+    raw_address: &[u8],
+    data: &[u8],
+    out: &mut [u8],
+) -> Result<usize, Refusal>
     ensures { record { answer = result; out = out.new } ≡ write_of header raw_address.now «data».now out.old }
 {
     let Some(row) = table::find(header.kind) else {

@@ -13,12 +13,12 @@ use Rattle.protocol.specs.ByType.{fields_told}
 use Rattle.protocol.specs.FieldNumbers.{fields_in}
 use Rattle.protocol.specs.Flags.{flags_fit}
 use Rattle.protocol.specs.Optional.{options_fit}
-use Rattle.protocol.specs.Sentences.{ReaderCheck, check_at, head_in, header_cut, no_base, over_limit, reader_checks, refused_as, wrong_flags, wrong_lengths, wrong_type, wrong_version}
+use Rattle.protocol.specs.Sentences.{ReaderCheck, check_at, head_in, header_cut, no_base, over_limit, reader_checks, wrong_flags, wrong_lengths, wrong_type, wrong_version}
 use Rattle.protocol.specs.Layout.{layout}
 use Rattle.protocol.specs.Lengths.{lengths_fit}
 use Rattle.protocol.specs.Reading.{read_of}
 use Rattle.protocol.specs.Types.{admit, every_row, row_of}
-use Rattle.protocol.specs.WriterSentences.{WriterCheck, broken_lengths, misplaced_header, no_type, over_longest, packet_length, short_buffer, write_refused_as, writer_check_at, writer_checks}
+use Rattle.protocol.specs.WriterSentences.{WriterCheck, broken_lengths, misplaced_header, no_type, over_longest, packet_length, short_buffer, writer_check_at, writer_checks}
 use Rattle.protocol.specs.Writing.{WriteLeaves, packet_bytes, write_of}
 use Rattle.protocol.specs.declared.table.TypeRow.{TypeRow}
 use Rattle.protocol.specs.declared.types.Fields.{Fields}

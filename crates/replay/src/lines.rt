@@ -13,7 +13,12 @@ pub(crate) fn put_answer(text: &mut [u8], at: usize, answer: Answer) -> usize
     ensures { (result ≡ at + length (answer_line answer)) × (text.new ≡ store_at text.old at (answer_line answer)) }
 {
     match answer {
-        Answer::Refused(refusal) => text::put_line(text, at, b"refused", &[refusal.number() as u64]),
+        Answer::Refused(refusal) => text::put_line(
+            text,
+            at,
+            b"refused",
+            &[refusal.number() as u64],
+        ),
         Answer::Posted(slot) => text::put_line(text, at, b"posted", &[slot as u64]),
         Answer::Cancelled(slot) => text::put_line(text, at, b"cancelled", &[slot as u64]),
         Answer::Stored => text::put_line(text, at, b"stored", &[]),

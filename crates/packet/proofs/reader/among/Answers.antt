@@ -46,7 +46,7 @@ returns-then-bytes-ne-VERSION c =
     rw (
       le-ltb _ _ c.if-limit-n.false,
       le-ltb _ _ c.if-n-lt4.false,
-      ne_eqb _ _ c.if-bytes-ne-VERSION.true
+      ne_eqb _ _ c.if-bytes-ne-VERSION.true,
     )
 
 pub returns-in_default : goal.returns-in_default

@@ -1,7 +1,6 @@
 -- `packet_words::reading::value_words` meets its contract.
 use mathlib.Core.Path.{◌≡◌, refl}
 use Rattle.std.proofs.Common.{rules}
-use Rattle.words.specs.Presence.{option_value}
 use Rattle.packet_words.specs.Values.{value_words}
 use Rattle.packet_words.proofs.reading.value_words.Goals as goal
 
