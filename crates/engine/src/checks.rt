@@ -1,4 +1,4 @@
-// The checks on numbers and lengths. Those that look at peers stand where the engine is: in `fits`, and in each of the calls.
+// The checks on numbers and lengths. The one that looks at peers is `fits`, in `run_checks`.
 ghost use Rattle.std.specs.Prelude.{◌≡◌, true};
 ghost use Rattle.engine.specs.Gates.{SmallArena, gate_of};
 ghost use Rattle.engine.specs.SetUp.{numbers_fit, lent_fits};
@@ -8,42 +8,30 @@ use peer::Peer;
 use protocol::{PACKET_LIMIT, Refusal};
 
 // The limits of the three set-up numbers.
+#[tactic(auto, unfolding(crate::specs::SetUp::numbers_fit))]
 pub fn numbers_fit(n: usize, area: usize, limit: usize) -> bool
     ensures { result ≡ numbers_fit n area limit }
 {
-    if n < 1 {
-        return false;
-    }
-    if Engine::PEERS < n {
-        return false;
-    }
-    if area < 64 {
-        return false;
-    }
-    if Peer::AREA_LIMIT < area {
-        return false;
-    }
-    if area % 64 != 0 {
-        return false;
-    }
-    if limit < 64 {
-        return false;
-    }
-    limit <= PACKET_LIMIT
+    1 <= n
+        && n <= Engine::PEERS
+        && 64 <= area
+        && area <= Peer::AREA_LIMIT
+        && area % 64 == 0
+        && 64 <= limit
+        && limit <= PACKET_LIMIT
 }
 
 // Whether arena and map have the lengths that the set-up numbers ask for.
+#[tactic(auto, unfolding(crate::specs::SetUp::lent_fits))]
 pub(crate) fn lent_fits(n: usize, area: usize, arena: usize, map: usize) -> bool
     requires { SmallArena n area }
     ensures { result ≡ lent_fits n area arena map }
 {
-    if arena != n * area {
-        return false;
-    }
-    map == n * (area / 64)
+    arena == n * area && map == n * (area / 64)
 }
 
 // The refusals 2, 3 and 4, in this order.
+#[tactic(auto, unfolding(crate::specs::Gates::gate_of, laws::specs::Choose::pick))]
 pub(crate) fn gate(
     fits: bool,
     n: usize,

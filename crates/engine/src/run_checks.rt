@@ -31,6 +31,7 @@ pub fn fits(engine: &Engine) -> bool
 
 // Whether a call of a peer goes through, by what the check of the state said, the set-up numbers, the
 // lengths of arena and map and the peer's number.
+#[tactic(auto, using(crate::proofs::CheckLaws::small), unfolding(crate::specs::Gates::gate_of, laws::specs::Choose::pick))]
 pub fn admit(
     good: bool,
     n: usize,

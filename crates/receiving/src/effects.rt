@@ -83,6 +83,7 @@ fn hold(inbound: Inbound) -> SlotStep
 }
 
 // The message is granted more: a CTS is written, and its granted end moves on.
+#[tactic(auto, using(crate::proofs::Asking::grant_one, peer::proofs::PeerSteps::Kept::grant_le))]
 fn grant(limit: usize, inbound: Inbound, reply: &mut [u8]) -> SlotStep
     requires may_grant { MayGrant limit inbound.message }
     requires in_bounds { 24 ≤ length reply.old }
@@ -98,6 +99,7 @@ fn grant(limit: usize, inbound: Inbound, reply: &mut [u8]) -> SlotStep
 }
 
 // What the map says of the message in slot i after a segment: done, granted or stored.
+#[tactic(auto, using(crate::proofs::Asking::due_remains, laws::proofs::Storing::store_nothing), unfolding(peer::specs::Effects::settled_as))]
 fn settle(limit: usize, i: usize, inbound: Inbound, words: &[u64], reply: &mut [u8]) -> SlotStep
     requires { MayAccept limit inbound (64 * length words.now) (length words.now) (length reply.old) }
     ensures { record { step = result; reply = reply.new } ≡ replies reply.old (settled_as limit i inbound (progress_of words.now inbound)) }
