@@ -30,7 +30,8 @@ pub fn fits(engine: &Engine) -> bool
 }
 
 // Whether a call of a peer goes through, by what the check of the state said, the set-up numbers, the
-// lengths of arena and map and the peer's number.
+// lengths of arena and map and the peer's number. It takes the numbers and no engine, so that whoever
+// keeps the numbers alone can ask.
 #[tactic(auto, using(crate::proofs::CheckLaws::small), unfolding(crate::specs::Gates::gate_of, laws::specs::Choose::pick))]
 pub fn admit(
     good: bool,

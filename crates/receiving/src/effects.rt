@@ -1,4 +1,6 @@
 // A verdict is carried out: bytes and bits of a segment, and what it makes of its message.
+// Area, words and reply are handed on one by one: a struct of `&mut` slices asks for a clause more on each
+// function and for each slice, that it is the same slice still.
 ghost use Rattle.std.specs.Prelude.{◌≡◌, ◌+◌, ◌*◌, ◌≤◌, length};
 ghost use Rattle.receiving.specs.Preconditions.{MayGrant, Mapping, MayAccept, MayStore, MayBegin, MayCarry};
 ghost use Rattle.peer.specs.Effects.{opened, extended, progress_of, finished, granting, holding, settled_as, accept, begun, carry};
