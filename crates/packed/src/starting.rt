@@ -4,7 +4,6 @@ ghost use Rattle.packed.specs.Starting.{start_of};
 
 use protocol::Refusal;
 
-
 // Clears the map and writes the state of an engine of n peers, and answers 0; or answers the number
 // of a refusal, and leaves map and state.
 pub fn set_up(
