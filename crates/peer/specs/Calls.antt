@@ -1,5 +1,5 @@
 -- One peer's step: a call on the peer and its own map words (01's table of refusals: the order of each call's checks from 5 on).
-use Rattle.std.specs.Prelude.{ℕ, ◌+◌, Bool, true, false, List, [], ◌∷◌, length, set, nat_le, nat_lt, Option, Some, None, ◌||◌, Result, Ok, Err}
+use Rattle.std.specs.Prelude.{ℕ, ◌+◌, Bool, true, false, List, [], ◌∷◌, length, set, nat_le, nat_lt, Option, Some, None, Result, Ok, Err}
 use Rattle.std.specs.List.{list_any}
 use Rattle.laws.specs.Choose.{pick}
 use Rattle.bitmap.specs.Map.{count_set, first_clear}

@@ -1,6 +1,6 @@
 -- What the parts of a packet call ask is there: from the peer's own check, from what a packet that was read keeps to, and from the verdict.
 use Rattle.std.specs.Prelude.{Ok}
-use Rattle.std.proofs.Common.{◌≡◌, ℕ, ◌+◌, ◌-◌, ◌*◌, ◌<◌, ◌≤◌, min, max, true, leb, List, [], length, sym, ap, subst, mul-le-mul, arith, leb-true, refl}
+use Rattle.std.proofs.Common.{◌≡◌, ℕ, ◌+◌, ◌-◌, ◌*◌, ◌<◌, ◌≤◌, min, max, true, leb, List, [], length, sym, ap, subst, mul-le-mul, arith, leb-true}
 use borrow.Author.Tests.{eqb-false}
 use Rattle.bitmap.specs.Map.{first_clear}
 use Rattle.protocol.specs.Reading.{packet_in, read_of}
