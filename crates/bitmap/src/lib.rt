@@ -72,6 +72,7 @@ pub fn count_set(map: &[u64], at: usize, n: usize) -> usize
 
 // How many of the n bits from `at` on stand before the first clear one: words first, a run of full ones passed at once,
 // and then the runs of set bits in a word, left at the first clear bit.
+// Two loops, and neither counts by ones: the specification asks for a nested search, left by a label.
 pub fn first_clear(map: &[u64], at: usize, n: usize) -> usize
     requires n_bound { at + n ≤ 64 * length map.now }
     requires n_bound_2 { at + n < 2 ^ 63 }
@@ -79,7 +80,7 @@ pub fn first_clear(map: &[u64], at: usize, n: usize) -> usize
 {
     let end = at + n;
     let mut i = at;
-    while i < end {
+    'words: while i < end {
         let w = map[i / 64];
         let stop = i + ranges::in_word(i % 64, end - i);
         if w == FULL {
@@ -87,11 +88,13 @@ pub fn first_clear(map: &[u64], at: usize, n: usize) -> usize
             let last = end / 64;
             i = stop + 64 * whole_words::full_run(&map[first..last]);
         } else {
-            let run = parts::ones_from(w, i % 64, stop - i);
-            if run == 0 {
-                break;
+            while i < stop {
+                let run = parts::ones_from(w, i % 64, stop - i);
+                if run == 0 {
+                    break 'words;
+                }
+                i += run;
             }
-            i += run;
         }
     }
     i - at
