@@ -1,6 +1,8 @@
 // The map of an arena's bytes, a bit a byte in words of 64 (01: "one bit for each arena byte"):
 // ranges of its bits set, cleared, tested, counted and searched.
 // A range is a part of its first word, whole words, and a part of its last: a part is reached by a mask, and a whole word by one operation.
+// Map, place and count are handed on one by one: a struct of the three would hold a `&mut`, and each function over it would
+// need a clause more, that it is the same map still.
 #![tactic(auto)]
 
 mod parts;

@@ -16,6 +16,7 @@ pub fn has(flags: u16, flag: u16) -> bool
 }
 
 // Whether a packet of this type and with these flags has a raw address, or CQ data.
+// Two functions and not one over the flag: each is one test, and has the name of what it tells.
 pub fn raw_address(row: TypeRow, flags: u16) -> bool
     ensures { result ≡ flagged row flags raw_address }
 {

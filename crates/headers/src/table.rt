@@ -154,6 +154,7 @@ pub fn find(kind: u8) -> Option<TypeRow>
 }
 
 // The same, of all types or only of those that the engine serves.
+// `all` is a truth value and no closure: two tests of a row are all that there are.
 #[tactic(auto, unfolding(protocol::specs::Types::admit, laws::specs::Choose::pick))]
 pub fn find_among(kind: u8, all: bool) -> Option<TypeRow>
     ensures { result ≡ admit (reader_rows all) (row_of kind) }

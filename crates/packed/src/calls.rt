@@ -2,6 +2,7 @@
 ghost use Rattle.std.specs.Prelude.{◌≡◌, ◌+◌, ◌≤◌, length};
 ghost use Rattle.packed.specs.Calls.{packed_packet, packed_post, request_at, words_each};
 
+// A call's words are a slice and a place, and no array of 8: the definitions (`request_at`) read them at a place of all.
 use peer::{Call, LocalCall, Receive, Request};
 use protocol::Span;
 

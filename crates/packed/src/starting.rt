@@ -6,6 +6,7 @@ use protocol::Refusal;
 
 // Clears the map and writes the state of an engine of n peers, and answers 0; or answers the number
 // of a refusal, and leaves map and state.
+// It answers a number and no `Result`, since `quagfeather_set_up` answers it as it is.
 pub fn set_up(
     n: usize,
     area: usize,

@@ -35,6 +35,7 @@ pub(crate) fn decode(
 {
     let mut rest = words::word(line, others);
     let mut count = 0;
+    // a `while`: a turn takes one byte of the text, or two, or all that are left
     while count < out.len() {
         let Some((first, tail)) = rest.split_first() else {
             return Ok(count);

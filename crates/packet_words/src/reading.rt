@@ -39,6 +39,7 @@ fn value_words(packet: Packet) -> [u64; 19]
 
 // Reads a packet of at most 8,192 bytes, puts its values into the first words, and answers 0; or
 // answers the number of a refusal, and leaves them.
+// It answers a number and no `Result`, since `quagfeather_read` answers it as it is.
 pub fn read(bytes: &[u8], values: &mut [u64]) -> usize
     ensures { record { refusal = result; values = values.new } ≡ read_into bytes.now values.old }
 {

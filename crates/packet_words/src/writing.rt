@@ -6,6 +6,8 @@ ghost use Rattle.protocol.specs.Rules.{Sound};
 ghost use Rattle.protocol.specs.Writing.{write_of};
 ghost use Rattle.packet_words.specs.Writing.{all_narrow, fields_fit, holds, words_fit, words_fields, words_cq, words_connid, words_header, put_as, put_typed, write_from};
 
+// The words are a slice of at least 19 and no array of 19: `write_from` and the definitions below it read the words of any list
+// that is long enough.
 use crate::types::{TAKEN, VALUES};
 use protocol::{CREDIT_REQUEST, Fields, Header, MSG_ID, RECV_ID, Refusal, SEND_ID, TypeRow};
 
@@ -202,7 +204,7 @@ fn write_values(
 }
 
 // The same, but puts the length into `size`, and answers 0; or answers the number of a refusal, and
-// leaves both.
+// leaves both. It answers a number and no `Result`, since `quagfeather_write` answers it as it is.
 pub fn write(
     values: &[u64],
     raw_address: &[u8],

@@ -2,6 +2,8 @@
 use protocol::{Refusal, Shape, Span};
 
 // What a post asks for: a range of the peer's area, for messages of a kind and a tag.
+// Tag and ignore stand beside `tagged` and not within it: a plain receive has them too, in a trace and in a
+// state's words (`post_entry`, `phase_words`).
 #[derive(Clone, Copy)]
 pub struct Receive {
     pub tagged: bool,
@@ -29,6 +31,7 @@ pub struct Incoming {
 
 // An open message, as the matching packet began it: shape and tagged are the type's. CTSDATA may
 // reach up to `granted`.
+// It shares eight fields with `Incoming` and is no part of it: the definitions and 01 name each field of a message plainly.
 #[derive(Clone, Copy)]
 pub struct Message {
     pub shape: Shape,

@@ -17,6 +17,8 @@ pub struct Fields {
 
 // The numbers of a packet, and whether it has a raw address. The bytes of raw address and data
 // stand beside it: lent to the writer, in the packet for the reader.
+// `kind` is the number as it stands on the wire: the writer is given any, and refuses those that the table has
+// not (`write_of`).
 #[derive(Clone, Copy, PartialEq, Eq, Debug)]
 pub struct Header {
     pub kind: u8,

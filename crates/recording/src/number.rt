@@ -1,10 +1,10 @@
-// The numbers of a trace, as they are written: groups of seven bits, the least first.
+// The numbers of a trace, as they are written: groups of seven bits, the least first. `size` and `put` go over the same
+// groups, the one to count them and the other to write them; neither counts an index.
 ghost use Rattle.std.specs.Prelude.{◌≡◌, ◌+◌, ◌≤◌, length};
 ghost use Rattle.laws.specs.Parts.{store_at};
 ghost use Rattle.trace.specs.Numbers.{number_bytes};
 
-// A group below this is a number's last.
-const MORE: u64 = 128;
+use trace::MORE;
 
 // How many groups a number takes.
 pub(crate) fn size(v: u64) -> usize

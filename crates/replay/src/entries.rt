@@ -12,6 +12,9 @@ use engine::Engine;
 use peer::{Answer, Call};
 use protocol::Span;
 
+// Gate and step stand in the loop, and so they do in `packed::run_calls`: a function for both would be handed eight things, and
+// would ask of each what the loop's invariant keeps.
+//
 // Runs at most `budget` entries from a place of the trace on, and puts a line for each into the text.
 // The state is one that can be: each call leaves one that can be, so that none is checked again.
 pub(crate) fn run(

@@ -7,6 +7,7 @@ use crate::types::Ending;
 use peer::Answer;
 
 // The line of a call's answer.
+// Each is made by hand and not by `Display`: the clause gives every byte of the line, and the text is lent.
 #[tactic(auto, unfolding(crate::specs::Lines::answer_line))]
 pub(crate) fn put_answer(text: &mut [u8], at: usize, answer: Answer) -> usize
     requires { at + length (answer_line answer) ≤ length text.old }

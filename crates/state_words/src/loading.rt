@@ -4,6 +4,8 @@ ghost use Rattle.peer.specs.State.{slot_with};
 ghost use Rattle.state_words.specs.Saving.{peer_size, state_size};
 ghost use Rattle.state_words.specs.Loading.{receive_in, cq_in, shape_in, message_in, phase_in, peer_in, engine_in, loaded};
 
+// The words of a slot are a slice and a place, and no array of 16: the definitions (`phase_in`) read them at a place of the
+// whole state's.
 use crate::saving;
 use crate::types::{PEER, SLOT, STATE};
 use engine::Engine;

@@ -1,4 +1,6 @@
 // Lines of text in a lent buffer. Each function answers the place behind what it put there.
+// No struct holds buffer and place: each function that takes a `&mut` within a struct needs a clause more, that it is the
+// same buffer still.
 #![tactic(auto)]
 
 ghost use Rattle.std.specs.Prelude.{◌∷◌, ◌≡◌, ◌+◌, ◌≤◌, length};
@@ -7,6 +9,7 @@ ghost use Rattle.text.specs.Decimals.{decimal};
 ghost use Rattle.text.specs.Lines.{line};
 
 // Puts a number's decimal digits at a place.
+// By hand and not by `write!`: the clause gives every byte, and the buffer is lent.
 fn put_decimal(text: &mut [u8], at: usize, v: u64) -> usize
     requires { at + length (decimal v) ≤ length text.old }
     ensures { (result ≡ at + length (decimal v)) × (text.new ≡ store_at text.old at (decimal v)) }

@@ -5,6 +5,6 @@ mod number;
 mod reading;
 mod types;
 
-pub use number::number_at;
+pub use number::{MORE, number_at};
 pub use reading::{entry_at, set_up_at};
 pub use types::SetUp;

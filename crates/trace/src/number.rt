@@ -3,7 +3,7 @@ ghost use Rattle.std.specs.Prelude.{◌≡◌};
 ghost use Rattle.trace.specs.Numbers.{number_at};
 
 // A group below this is a number's last.
-const MORE: u64 = 128;
+pub const MORE: u64 = 128;
 
 // What the tenth group counts. Above 1 it makes 2^64 or more.
 const TENTH: u64 = 1 << 63;
