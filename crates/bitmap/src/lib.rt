@@ -29,6 +29,7 @@ pub fn clear(map: &mut [u64], at: usize, n: usize)
 }
 
 // Sets the n bits from `at` on, as `clear` clears them.
+// It is no one function with `clear` over what is done with a part: that one's clauses would have to carry both definitions.
 pub fn mark(map: &mut [u64], at: usize, n: usize)
     requires n_bound { at + n ≤ 64 * length map.old }
     requires n_bound_2 { at + n < 2 ^ 63 }

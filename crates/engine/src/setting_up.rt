@@ -1,24 +1,10 @@
 // The set-up.
 ghost use Rattle.std.specs.Prelude.{◌≡◌, List, ℕ, length};
-ghost use Rattle.engine.specs.SetUp.{engine_of, not_started, set_up};
+ghost use Rattle.engine.specs.SetUp.{not_started, set_up};
 
 use crate::checks;
 use crate::types::{Engine, Started};
-use peer::Peer;
 use protocol::Refusal;
-
-// An engine whose peers are fresh.
-fn fresh(n: usize, area: usize, limit: usize) -> Engine
-    ensures { result ≡ engine_of n area limit }
-{
-    let peer = Peer::fresh();
-    Engine {
-        peers: [peer; Engine::PEERS],
-        n,
-        area,
-        limit,
-    }
-}
 
 // A refusal, with an engine of no peers.
 fn refused() -> Started
@@ -26,10 +12,12 @@ fn refused() -> Started
 {
     Started {
         answer: Err(Refusal::BadSetUp),
-        engine: fresh(0, 0, 0),
+        engine: Engine::fresh(0, 0, 0),
     }
 }
 
+// The three numbers are handed in one by one, as `quagfeather_set_up` and the definition `set_up` have them.
+//
 // Starts an engine of n peers with `area` bytes each, for packets of at most `limit` bytes. The
 // map is cleared, and the arena left.
 pub fn set_up(n: usize, area: usize, limit: usize, arena: &[u8], map: &mut [u64]) -> Started
@@ -45,6 +33,6 @@ pub fn set_up(n: usize, area: usize, limit: usize, arena: &[u8], map: &mut [u64]
     bitmap::clear(map, 0, words * 64);
     Started {
         answer: Ok(()),
-        engine: fresh(n, area, limit),
+        engine: Engine::fresh(n, area, limit),
     }
 }

@@ -2,7 +2,7 @@
 use crate::call::{Command, LentLengths};
 use crate::print::{self, AnswerLine};
 use engine::Engine;
-use peer::{LocalCall, Peer};
+use peer::LocalCall;
 use std::io;
 
 // What arena and reply buffer hold before a call writes to them.
@@ -36,12 +36,7 @@ impl Run {
     // Before the first set-up.
     pub(crate) fn unset() -> Run {
         Run {
-            engine: Engine {
-                peers: [Peer::fresh(); Engine::PEERS],
-                n: 0,
-                area: 0,
-                limit: 0,
-            },
+            engine: Engine::fresh(0, 0, 0),
             arena: [FILL; ARENA],
             map: [SOILED; MAP],
             lent: WHOLE,

@@ -22,6 +22,7 @@ pub(crate) enum Name {
 }
 
 // The name that a word is. What stands before its last eight bytes does not count, and neither do zeros.
+// So every word has the answer that it always had.
 pub(crate) fn name_of(word: &[u8]) -> Option<Name> {
     let last = word
         .iter()
@@ -50,6 +51,7 @@ pub(crate) fn word_length(text: &[u8]) -> usize
 }
 
 // A number in so many digits of a base.
+// Not by the library's reading of numbers, which takes a sign and more than `LARGE`.
 fn in_base(digits: &[u8], base: u32) -> Option<u64>
     requires { (2 ≤ base) × (base ≤ 36) }
 {
@@ -138,5 +140,5 @@ pub(crate) fn packet_bytes(text: &[u8]) -> Option<PacketBytes> {
             }
         }
     }
-    if high.is_some() { None } else { Some(bytes) }
+    high.is_none().then_some(bytes)
 }

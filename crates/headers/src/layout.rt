@@ -11,6 +11,8 @@ use protocol::{
 };
 use wire::LittleEndian;
 
+// That the bytes hold the header is asked by each of these: a struct of row and bytes would hold a `&mut` for the writers.
+
 // Where a field stands; 0 where the type has no such field.
 pub(crate) fn place(places: u64, unit: u64) -> usize
     requires { 0 < unit }

@@ -2,8 +2,8 @@
 // where fields, optional headers and data lie, and how fields and options are read and written. The
 // reader and the writer of `packet` put it together.
 //
-// `Sound row`, which many of these ask, is no invariant of `TypeRow`: `flags::fit`, `arrays::whole` and others are stated
-// of every row, and so are the laws of a row's array.
+// `Sound row`, which many of these ask, is no ghost field of `TypeRow`: `flags::fit`, `arrays::whole` and others are stated
+// of every row, and so are the laws of a row's array; and a field's fact could not speak of the row, only of its twelve parts.
 #![tactic(auto)]
 
 pub mod arrays;

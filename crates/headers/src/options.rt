@@ -9,6 +9,7 @@ ghost use Rattle.protocol.specs.Rules.{Sound, NumberWidth};
 use protocol::TypeRow;
 use wire::LittleEndian;
 
+// Two functions and not one over the number's type: the clause of one would speak of the value in an Option.
 pub fn read_cq_data(there: bool, bytes: &[u8], at: usize) -> Option<u64>
     requires { there ≡ true → at + 8 ≤ length bytes.now }
     ensures { result ≡ cq_data_in there bytes.now at }

@@ -1,5 +1,8 @@
 // What is lent on to one peer: its own part of the arena and of the map. These serve `calls`,
 // `replay` and `packed`, whose checks show what they require.
+//
+// Arena, map and replies are handed on one by one, as in `receiving::effects`; `Owned` and `WordsOwned` are the records of what a
+// peer, its number and its area must be.
 #![tactic(auto)]
 
 mod dispatch;

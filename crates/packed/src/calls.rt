@@ -54,6 +54,7 @@ fn packet_at(calls: &[u64], at: usize, bytes: usize, replies: usize) -> Option<R
 }
 
 // The call of the words from `at` on, where so many bytes and reply bytes are lent.
+// The kinds are the numbers of `quagfeather_run`'s words.
 #[tactic(auto, unfolding(crate::specs::Calls::request_at, laws::specs::Choose::pick))]
 pub(crate) fn request_at(calls: &[u64], at: usize, bytes: usize, replies: usize) -> Option<Request>
     requires { at + words_each ≤ length calls.now }

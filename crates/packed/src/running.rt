@@ -10,7 +10,7 @@ ghost use Rattle.engine.specs.Sentences.{Eights};
 use crate::types::{Ran, WORDS};
 use crate::{answers, calls};
 use engine::Engine;
-use peer::{Answer, Peer};
+use peer::Answer;
 
 // How many calls there are words for, and for their answers.
 fn budget(calls: usize, answers: usize) -> usize
@@ -62,19 +62,6 @@ fn run_calls(
     }
 }
 
-// An engine of no peers, which every call refuses.
-fn no_peers() -> Engine
-    ensures { result ≡ engine_of 0 0 0 }
-{
-    let peer = Peer::fresh();
-    Engine {
-        peers: [peer; Engine::PEERS],
-        n: 0,
-        area: 0,
-        limit: 0,
-    }
-}
-
 // Runs calls on the engine whose state the words are, and answers how many it ran. Words that are
 // no state's are refused by each call, and stay.
 pub fn run(
@@ -89,7 +76,16 @@ pub fn run(
     ensures { record { taken = result; state = state.new; arena = arena.new; map = map.new; replies = replies.new; answers = answers.new } ≡ run_of state.old arena.old map.old calls.now bytes.now replies.old answers.old }
 {
     let Some(start) = state_words::load(state) else {
-        return run_calls(no_peers(), arena, map, calls, bytes, replies, answers).taken;
+        return run_calls(
+            Engine::fresh(0, 0, 0),
+            arena,
+            map,
+            calls,
+            bytes,
+            replies,
+            answers,
+        )
+        .taken;
     };
     let ran = run_calls(start, arena, map, calls, bytes, replies, answers);
     let after = ran.engine;

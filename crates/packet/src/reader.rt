@@ -70,6 +70,7 @@ fn typed(row: TypeRow, bytes: &[u8]) -> Result<Packet, Refusal>
     whole(row, flags, bytes, at)
 }
 
+// `all` is a truth value, as in `table::find_among`.
 fn among(bytes: &[u8], limit: usize, all: bool) -> Result<Packet, Refusal>
     ensures { result ≡ read_of (reader_rows all) limit bytes.now }
 {

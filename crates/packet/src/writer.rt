@@ -46,10 +46,11 @@ fn total(row: TypeRow, flags: u16, array: usize, raw: usize, size: usize) -> Opt
     limited(head + array + 4 + raw + size)
 }
 
+#[tactic(auto, unfolding(protocol::specs::Totals::limited_to, laws::specs::Choose::pick))]
 fn limited(n: usize) -> Option<usize>
     ensures { result ≡ limited_to n }
 {
-    if PACKET_LIMIT < n { None } else { Some(n) }
+    (n <= PACKET_LIMIT).then_some(n)
 }
 
 // Type, version and flags.

@@ -4,6 +4,7 @@ ghost use Rattle.std.specs.Prelude.{◌≤◌, ◌<◌, length, IfOk, IfSome};
 use crate::{print, words};
 use std::io;
 
+// A digit's value. `to_digit` would take A to F, which are bad here.
 fn digit(c: u8) -> Option<u8>
     ensures { IfSome result (λ d. d < 16) }
 {
@@ -23,6 +24,8 @@ fn pair(text: &[u8]) -> Option<(u8, &[u8])>
     Some((digit(*high)? * 16 + digit(*low)?, rest))
 }
 
+// The buffer is lent, and the count stands beside it, since nothing is allocated.
+//
 // Puts the bytes behind so many words into a buffer of zeros, and answers how many there are. They
 // are bad if they fill it: no vector is so long.
 pub(crate) fn decode(

@@ -120,17 +120,8 @@ pub(crate) fn good(rt: &impl Print, name: &[u8], bytes: &[u8]) -> io::Result<()>
     Ok(())
 }
 
-pub(crate) fn read(rt: &impl Print, name: &[u8], bytes: &[u8]) -> io::Result<()> {
-    answer(rt, name, packet::read(bytes))?;
-    println!(rt; "")
-}
-
-pub(crate) fn read_served(
-    rt: &impl Print,
-    name: &[u8],
-    bytes: &[u8],
-    limit: usize,
-) -> io::Result<()> {
-    answer(rt, name, packet::read_served(bytes, limit))?;
+// A packet that is only read, by either reader.
+pub(crate) fn read(rt: &impl Print, name: &[u8], read: Result<Packet, Refusal>) -> io::Result<()> {
+    answer(rt, name, read)?;
     println!(rt; "")
 }

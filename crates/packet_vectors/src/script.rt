@@ -49,12 +49,12 @@ fn read(rt: &impl Print, line: &[u8], task: Task) -> io::Result<()> {
     let name = word(line, 1);
     match task {
         Task::Good => outcome::good(rt, name, bytes),
-        Task::Served => outcome::read_served(rt, name, bytes, PACKET_LIMIT),
+        Task::Served => outcome::read(rt, name, packet::read_served(bytes, PACKET_LIMIT)),
         Task::Limited => {
             let limit = number(rt, line, 3, PACKET_LIMIT as u64)?;
-            outcome::read_served(rt, name, bytes, limit as usize)
+            outcome::read(rt, name, packet::read_served(bytes, limit as usize))
         }
-        Task::Read | Task::Write => outcome::read(rt, name, bytes),
+        Task::Read | Task::Write => outcome::read(rt, name, packet::read(bytes)),
     }
 }
 

@@ -23,6 +23,7 @@ pub(crate) fn word(line: &[u8], others: usize) -> &[u8] {
 }
 
 // The decimal number that a word is, if it is at most `most`.
+// Not by the library's reading of numbers, which takes a sign and no empty word.
 fn number_in(word: &[u8], most: u64) -> Option<u64>
     ensures { IfSome result (λ n. n ≤ most) }
 {

@@ -5,7 +5,7 @@ ghost use Rattle.packet_words.specs.Values.{value_words, read_into};
 use crate::types::{TAKEN, VALUES};
 use protocol::{Packet, Refusal};
 
-fn value_words(packet: Packet) -> [u64; 19]
+fn value_words(packet: Packet) -> [u64; VALUES]
     ensures { result ≡ value_words packet }
 {
     let header = packet.header;

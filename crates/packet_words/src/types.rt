@@ -2,4 +2,5 @@
 pub const VALUES: usize = 19;
 
 // What reader and writer answer where they are not refused.
+// The number 0, as callers in other languages are told it.
 pub(crate) const TAKEN: usize = 0;

@@ -14,17 +14,13 @@ use protocol::{CREDIT_REQUEST, Fields, Header, MSG_ID, RECV_ID, Refusal, SEND_ID
 // The least number that 32 bits do not hold.
 const WIDE: u64 = 0x1_0000_0000;
 
-// Whether a packet of this type may have the optional headers that the words say: every type may
-// have a connid, and a request the others too.
+// Whether a packet of this type may have the optional headers that the words say.
 fn options_fit(row: TypeRow, values: &[u64]) -> bool
     requires sound { Sound row }
     requires in_bounds { 19 ≤ length values.now }
     ensures { result ≡ options_fit row (words_header values.now) }
 {
-    if row.request {
-        return true;
-    }
-    values[10] == 0 && values[13] == 0
+    headers::flags::options_fit(row, header_in(values))
 }
 
 // Whether 32 bits hold a number, if it is there.
@@ -71,38 +67,32 @@ fn fields_in(values: &[u64]) -> Fields
     ensures { result ≡ words_fields values.now }
 {
     Fields {
-        msg_id: (values[1] % 0x1_0000_0000) as u32,
-        recv_id: (values[2] % 0x1_0000_0000) as u32,
-        send_id: (values[3] % 0x1_0000_0000) as u32,
+        msg_id: (values[1] % WIDE) as u32,
+        recv_id: (values[2] % WIDE) as u32,
+        send_id: (values[3] % WIDE) as u32,
         msg_length: values[4],
         seg_length: values[5],
         recv_length: values[6],
         seg_offset: values[7],
-        credit_request: (values[8] % 0x1_0000_0000) as u32,
+        credit_request: (values[8] % WIDE) as u32,
         tag: values[9],
     }
 }
 
+#[tactic(auto, unfolding(laws::specs::Choose::pick))]
 fn cq_in(values: &[u64]) -> Option<u64>
     requires { 19 ≤ length values.now }
     ensures { result ≡ words_cq values.now }
 {
-    if values[13] == 0 {
-        None
-    } else {
-        Some(values[14])
-    }
+    (values[13] != 0).then_some(values[14])
 }
 
+#[tactic(auto, unfolding(laws::specs::Choose::pick))]
 fn connid_in(values: &[u64]) -> Option<u32>
     requires { 19 ≤ length values.now }
     ensures { result ≡ words_connid values.now }
 {
-    if values[15] == 0 {
-        None
-    } else {
-        Some((values[16] % 0x1_0000_0000) as u32)
-    }
+    (values[15] != 0).then_some((values[16] % WIDE) as u32)
 }
 
 // The header that the words say.

@@ -72,7 +72,7 @@ impl Peer {
         ensures { result ≡ advance self }
     {
         let mut peer = self;
-        peer.next = std::num::wrapping_add_u32(self.next, 1);
+        peer.next = self.next.wrapping_add(1);
         peer
     }
 

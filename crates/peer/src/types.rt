@@ -88,6 +88,7 @@ pub enum Progress {
     Partial,
 }
 
+// What a call answers. A refusal is one of the answers, as 01 counts it, and no error beside them (`said`).
 #[derive(Clone, Copy)]
 pub enum Answer {
     Refused(Refusal),

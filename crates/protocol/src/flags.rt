@@ -1,4 +1,5 @@
 // The flags of the optional headers.
+// They are numbers and no enum: they stand on the wire, several in one.
 
 pub const RAW_ADDRESS: u16 = 0x1;
 

@@ -2,6 +2,7 @@
 // bytes, 0 where the type has no such field.
 
 // The unit of each field's digit in a row's places.
+// They are numbers and no enum: `Layout` divides a row's places by them.
 pub const MSG_ID: u64 = 0x1;
 
 pub const RECV_ID: u64 = 0x10;

@@ -10,6 +10,7 @@ pub enum Shape {
     LongCts,
 }
 
+// A place or a unit of 0 stands for none, and no Option: so `place_by` and `number_there` read it, and a row stays 24 bytes.
 #[derive(Clone, Copy, PartialEq, Eq, Debug)]
 pub struct TypeRow {
     // the type's number

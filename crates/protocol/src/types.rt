@@ -35,6 +35,8 @@ pub struct Span {
     pub size: usize,
 }
 
+// Its raw address is told twice, by a flag in the header and by its place here, since a header that is read is one that can
+// be written (`HeaderReadsBack`), and the writer is lent the bytes.
 // A packet that was read: its numbers, what the table says of its type, and where its raw address,
 // which is empty where there is none, and its data lie.
 #[derive(Clone, Copy, PartialEq, Eq, Debug)]

@@ -17,6 +17,7 @@ use peer::Peer;
 // The most words of a map: a bit for each byte of the largest arena.
 const MAP: usize = Engine::PEERS * Peer::AREA_LIMIT / 64;
 
+// 01's numbers of these refusals, as callers in other languages are told them.
 const BAD_MAP: usize = 3;
 
 const TOUCHED: usize = 16;

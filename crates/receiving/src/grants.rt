@@ -9,6 +9,7 @@ use peer::{Message, Peer};
 use protocol::{Fields, Header};
 
 // The numbers of a CTS packet; its flags are clear.
+// Its type is the wire's number, as a header has it.
 fn cts_header(send_id: u32, recv_id: u32, recv_length: usize) -> Header
     ensures { result ≡ cts_header send_id recv_id recv_length }
 {

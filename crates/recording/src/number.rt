@@ -1,5 +1,6 @@
 // The numbers of a trace, as they are written: groups of seven bits, the least first. `size` and `put` go over the same
-// groups, the one to count them and the other to write them; neither counts an index.
+// groups, the one to count them and the other to write them, each by a `while`: the division itself tells the last group, and no
+// range gives the count beforehand.
 ghost use Rattle.std.specs.Prelude.{◌≡◌, ◌+◌, ◌≤◌, length};
 ghost use Rattle.laws.specs.Parts.{store_at};
 ghost use Rattle.trace.specs.Numbers.{number_bytes};

@@ -12,8 +12,8 @@ use engine::Engine;
 use peer::{Answer, Call};
 use protocol::Span;
 
-// Gate and step stand in the loop, and so they do in `packed::run_calls`: a function for both would be handed eight things, and
-// would ask of each what the loop's invariant keeps.
+// Gate and step stand in the loop, and so they do in `packed::run_calls` and `calls::packet`: a function for all would be handed
+// eight things, and would ask of each what the loop's invariant keeps.
 //
 // Runs at most `budget` entries from a place of the trace on, and puts a line for each into the text.
 // The state is one that can be: each call leaves one that can be, so that none is checked again.
@@ -38,6 +38,7 @@ pub(crate) fn run(
     let mut written = at;
     let mut taken: usize = 0;
     // a `while`: the entries differ in length, and either the budget or the trace ends it
+    // (a `for` over the budget would tell the trace's end at a second place)
     while taken < budget && place < trace.len() {
         let Some((request, next)) = trace_reader::read_entry(trace, place) else {
             let ending = Ending::Bad(place);

@@ -25,15 +25,12 @@ fn receive_in(words: &[u64], at: usize) -> Receive
     }
 }
 
+#[tactic(auto, unfolding(laws::specs::Choose::pick))]
 fn cq_in(words: &[u64], at: usize) -> Option<u64>
     requires { at + 16 ≤ length words.now }
     ensures { result ≡ cq_in words.now at }
 {
-    if words[at + 14] == 1 {
-        Some(words[at + 15])
-    } else {
-        None
-    }
+    (words[at + 14] == 1).then_some(words[at + 15])
 }
 
 // The shape with this number. It is no `From`: `Shape` is another crate's, and a number past the last shape's is taken for
@@ -110,13 +107,7 @@ fn engine_in(words: &[u64]) -> Engine
     requires { length words.now ≡ state_size }
     ensures { result ≡ engine_in words.now }
 {
-    let peer = Peer::fresh();
-    let mut engine = Engine {
-        peers: [peer; Engine::PEERS],
-        n: words[0] as usize,
-        area: words[1] as usize,
-        limit: words[2] as usize,
-    };
+    let mut engine = Engine::fresh(words[0] as usize, words[1] as usize, words[2] as usize);
     for (p, peer) in engine.peers.iter_mut().enumerate() {
         *peer = peer_in(words, 3 + PEER * p);
     }

@@ -17,7 +17,7 @@ fn sort_word(shape: Shape, tagged: bool) -> u64
 
 // The words of an open slot.
 #[tactic(auto, unfolding(crate::specs::Saving::phase_words))]
-fn open_words(inbound: Inbound) -> [u64; 16]
+fn open_words(inbound: Inbound) -> [u64; SLOT]
     ensures { result ≡ phase_words (Phase.Open inbound) }
 {
     let receive = inbound.receive;
@@ -46,7 +46,7 @@ fn open_words(inbound: Inbound) -> [u64; 16]
 
 // The words of a slot with a receive of this age.
 #[tactic(auto, unfolding(crate::specs::Saving::phase_words))]
-fn posted_words(receive: Receive, age: u64) -> [u64; 16]
+fn posted_words(receive: Receive, age: u64) -> [u64; SLOT]
     ensures { result ≡ phase_words (Phase.Posted receive age) }
 {
     [
@@ -70,7 +70,7 @@ fn posted_words(receive: Receive, age: u64) -> [u64; 16]
 }
 
 #[tactic(auto, unfolding(crate::specs::Saving::phase_words))]
-fn slot_words(slot: Slot) -> [u64; 16]
+fn slot_words(slot: Slot) -> [u64; SLOT]
     ensures { result ≡ slot_words slot }
 {
     let phase = slot.phase;

@@ -97,6 +97,7 @@ fn cancel_at(s: &[u8], at: usize) -> Option<(Request, usize)>
     Some((request, next))
 }
 
+// Entries have the numbers of 01's trace.
 // The entry at a place. A packet's bytes lie in the trace, and its reply buffer is left empty: whoever makes the
 // call lends one.
 #[tactic(auto, unfolding(crate::specs::Entries::entry_at, laws::specs::Choose::pick))]

@@ -32,4 +32,4 @@ returns c =
     let a = c.args in
     let all : c.loop-p.p ≡ peer_count = omega arith in
     let peers : c.loop-p.peer-items ≡ tabulate (read a.words.now) peer_count = rw all at c.loop-p.invariant ∙ tabulate_all (read a.words.now) peer_count fresh refl in
-    rw (← peers)
+    rw (c.fresh-engine.ensures, ← peers)
