@@ -5,7 +5,7 @@ use Rattle.state_words.proofs.Reading.{loaded_some}
 use Rattle.packed.proofs.running.run.Goals as goal
 
 pub returns-in_default : goal.returns-in_default
-returns-in_default c = run_left _ _ _ _ _ _ _ _ _ c.run_calls.ensures (sym c.load.ensures ∙ c.in_default.is) c.no_peers.ensures
+returns-in_default c = run_left _ _ _ _ _ _ _ _ _ c.run_calls.ensures (sym c.load.ensures ∙ c.in_default.is) c.fresh.ensures
 
 pub run_calls-ran-requires : goal.run_calls-ran-requires
 run_calls-ran-requires c = loaded_eights _ _ (sym c.load.ensures ∙ c.in-Some.is)
