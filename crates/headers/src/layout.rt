@@ -34,29 +34,8 @@ fn number<T: LittleEndian>(bytes: &[u8], places: u64, unit: u64) -> T
     T::read(bytes, at)
 }
 
-// The fields of a request, which is most packets: three of them it never has.
-// It is read apart from `read_any`, so that most packets are spared three look-ups.
-fn read_request(row: TypeRow, bytes: &[u8]) -> Fields
-    requires sound { Sound row }
-    requires header_in_bounds { row.header ≤ length bytes.now }
-    requires request_value { row.request ≡ true }
-    ensures { result ≡ fields_in (layout row) 4 bytes.now }
-{
-    Fields {
-        msg_id: number(bytes, row.places, MSG_ID),
-        recv_id: 0,
-        send_id: number(bytes, row.places, SEND_ID),
-        msg_length: number(bytes, row.places, MSG_LENGTH),
-        seg_length: 0,
-        recv_length: 0,
-        seg_offset: number(bytes, row.places, SEG_OFFSET),
-        credit_request: number(bytes, row.places, CREDIT_REQUEST),
-        tag: number(bytes, row.places, TAG),
-    }
-}
-
-// The fields of any packet.
-fn read_any(row: TypeRow, bytes: &[u8]) -> Fields
+// All fields of a packet.
+pub fn read(row: TypeRow, bytes: &[u8]) -> Fields
     requires sound { Sound row }
     requires header_in_bounds { row.header ≤ length bytes.now }
     ensures { result ≡ fields_in (layout row) 4 bytes.now }
@@ -72,18 +51,6 @@ fn read_any(row: TypeRow, bytes: &[u8]) -> Fields
         credit_request: number(bytes, row.places, CREDIT_REQUEST),
         tag: number(bytes, row.places, TAG),
     }
-}
-
-// All fields of a packet.
-pub fn read(row: TypeRow, bytes: &[u8]) -> Fields
-    requires sound { Sound row }
-    requires header_in_bounds { row.header ≤ length bytes.now }
-    ensures { result ≡ fields_in (layout row) 4 bytes.now }
-{
-    if row.request {
-        return read_request(row, bytes);
-    }
-    read_any(row, bytes)
 }
 
 // The count of an array; 0 where the type has none.

@@ -1,10 +1,10 @@
--- `headers::layout::read_any` meets its contract: each field is read where the row says.
+-- `headers::layout::read` meets its contract: each field is read where the row says.
 use mathlib.Core.Path.{◌≡◌, ◌∙◌}
 use native.Mathlib.Omega.{arith}
 use Rattle.protocol.specs.FieldNumbers.{field_in, fields_in, number_there}
 use Rattle.protocol.specs.Layout.{Field, credit_request, layout, msg_id, msg_length, place_of, recv_id, recv_length, seg_length, seg_offset, send_id, tag, width}
 use Rattle.protocol.proofs.LayoutLaws.{read_there}
-use Rattle.headers.proofs.layout.read_any.Goals as goal
+use Rattle.headers.proofs.layout.read.Goals as goal
 
 pub number-requires-clause-unit_in_bounds : goal.number-requires-clause-unit_in_bounds
 number-requires-clause-unit_in_bounds c =
