@@ -9,3 +9,4 @@ pub mod Isolated
 pub mod Replied
 pub mod CheckedOnce
 pub mod RunInvariant
+pub mod TurnTaken

@@ -1,35 +1,23 @@
 -- The invariant of a loop over requests (specs/Outputs.antt): the calls so far have left world, replies and output, and the calls to come make
 -- the whole run from there. It goes on over a call that its gate refuses, and over one whose peer makes its step.
 use Prim.Native.Nat.{ℕ, suc, ◌+◌, ◌-◌, ◌*◌, ◌≤◌}
-use lib.ListN.{length, get_or, length-append}
-use mathlib.Core.Bool.{Bool, ◌&&◌}
+use lib.ListN.{length, length-append}
+use mathlib.Core.Bool.{Bool}
 use mathlib.Core.List.{List, [], ◌∷◌}
-use mathlib.Core.Path.{◌≡◌, refl, sym, ap, subst, ◌∙◌}
+use mathlib.Core.Path.{◌≡◌, refl, sym, ◌∙◌}
 use native.Mathlib.Nat.{add-zero, mul-le-mul}
 use native.Mathlib.Omega.{arith}
-use Rattle.std.specs.Prelude.{Ok, Err}
 use Rattle.laws.specs.Parts.{store_at}
-use Rattle.laws.proofs.Listing.{get_d_any}
 use Rattle.laws.proofs.Storing.{length_part, length_store, store_next, store_nothing}
-use Rattle.protocol.specs.declared.refusals.Refusal.{Refusal}
-use Rattle.peer.specs.Calls.{call_of, peer_step}
-use Rattle.peer.specs.State.{fresh_peer}
 use Rattle.peer.specs.declared.types.Answer.{Answer}
 use Rattle.peer.specs.declared.types.Call.{Call}
-use Rattle.peer.specs.declared.types.Peer.{Peer}
 use Rattle.peer.specs.declared.types.Request.{Request}
-use Rattle.peer.specs.LentCalls.{LiesWithin, lent_call_of, reply_place}
-use Rattle.lending.specs.Lending.{Lent, leaves_at}
-use Rattle.engine.specs.Gates.{gate_of}
-use Rattle.engine.specs.Leaves.{world}
-use Rattle.engine.specs.SetUp.{numbers_fit}
-use Rattle.engine.specs.Steps.{Turn, World, put_back, refused_turn, with_peer, words_of}
-use Rattle.engine.specs.Gates.{Gate}
-use Rattle.engine.proofs.WorldTurns.{turn_own}
+use Rattle.peer.specs.LentCalls.{LiesWithin, reply_place}
+use Rattle.engine.specs.Steps.{Turn, World}
 use Rattle.guarantees.specs.Outputs.{RunLeaves, output_of, replies_after, requests_of}
 use Rattle.guarantees.specs.Runs.{world_after}
 use Rattle.guarantees.specs.Receiving.{receiving, request_of, turn_of}
-use Rattle.guarantees.proofs.CheckedOnce.{CheckedOnce, once_good, once_in_peers, once_passed, once_refused, once_turn}
+use Rattle.guarantees.proofs.CheckedOnce.{CheckedOnce}
 
 -- of a reply buffer only the length counts
 turn_lent : (w : World) (bytes a b : List ℕ) (peer : ℕ) (c : Call) → length a ≡ length b → LiesWithin (length bytes) (length a) c
@@ -138,36 +126,10 @@ module _ {bytes buffers : List ℕ} {form : Answer → List ℕ} {size most : �
           whole = g.whole ∙ rw e at next (omega arith);
         }
 
-    module _ {good : Bool} (s : CheckedOnce good w.engine) (o : Gate)
-        (y : o ≡ gate_of (good && numbers_fit w.engine.n w.engine.area w.engine.limit) w.engine.n w.engine.area (length w.arena) (length w.map) q.peer) where
-      -- it is refused before it comes to its peer
-      pub run_refused : (k : Refusal) → o ≡ Err k → CallMade bytes buffers form size most all qs good output at taken w replies (Answer.Refused k)
-      run_refused k z =
-          let e : refused_turn w k ≡ turn_of w (request_of bytes replies q) =
-          unfold turn_of in sym (once_refused w q.peer s o y k (call_of (lent_call_of bytes replies q.call)) z) in
-          let n = store_nothing replies (reply_place q.call) in
-          record { once = s; next = λ at' output' a b. rw (a, b) (rw n at (run_next (refused_turn w k) e (ap length n))) }
-
-      -- its peer makes its step
-      pub run_open : o ≡ Ok tt → (d : Peer) (l : Lent) → length l.reply ≡ length replies
-          → l ≡ leaves_at (reply_place q.call) w.engine.area q.peer w.arena w.map replies
-          (peer_step w.engine.area w.engine.limit (get_or w.engine.peers q.peer d) (words_of w q.peer) (call_of (lent_call_of bytes replies q.call)))
-          → CallMade bytes buffers form size most all qs good output at taken
-          (world (with_peer w.engine q.peer l.step.peer) l.arena l.map) l.reply l.step.answer
-      unfolding put_back
-      run_open z d l n e =
-          let p = q.peer in
-          let call = call_of (lent_call_of bytes replies q.call) in
-          let below = (once_passed w p s o y z).peer in
-          let f = peer_step w.engine.area w.engine.limit (get_or w.engine.peers p fresh_peer) (words_of w p) call in
-          let own = turn_own w (once_good w p s o y z) p below call in
-          let e' : l ≡ leaves_at (reply_place q.call) w.engine.area p w.arena w.map replies f =
-          e ∙ ap (λ (x : Peer). leaves_at (reply_place q.call) w.engine.area p w.arena w.map replies (peer_step w.engine.area w.engine.limit x (words_of w p) call))
-          (get_d_any w.engine.peers p d fresh_peer (once_in_peers w p s o y z)) in
-          let t : put_back w p f ≡ turn_of w (request_of bytes replies q) = unfold turn_of in sym own in
-          subst
-          (λ (l : Lent). length l.reply ≡ length replies → CallMade bytes buffers form size most all qs good output at taken
-          (world (with_peer w.engine p l.step.peer) l.arena l.map) l.reply l.step.answer)
-          (sym e')
-          (λ m. record { once = rw own at (once_turn w p s o y z call); next = λ at' output' a b. rw (a, b) (run_next (put_back w p f) t m) })
-          n
+    -- the call is made: this world, these replies and this answer are those of its turn
+    pub run_made : {good : Bool} {w' : World} {replies' : List ℕ} {a : Answer} → let t = turn_of w (request_of bytes replies q) in
+        w' ≡ t.world → a ≡ t.answer → replies' ≡ store_at replies (reply_place q.call) t.reply → length replies' ≡ length replies
+        → CheckedOnce good w'.engine → CallMade bytes buffers form size most all qs good output at taken w' replies' a
+    run_made x y z n s =
+        let t = turn_of w (request_of bytes replies q) in
+        rw (x, y, z) (record { once = rw x at s; next = λ at' output' b c. rw (b, c) (run_next t refl (rw z at n)) })

@@ -10,7 +10,6 @@ ghost use Rattle.engine.specs.Sentences.{Eights};
 use crate::types::{Ran, WORDS};
 use crate::{answers, calls};
 use engine::Engine;
-use peer::Answer;
 
 // How many calls there are words for, and for their answers.
 fn budget(calls: usize, answers: usize) -> usize
@@ -39,21 +38,7 @@ fn run_calls(
         let Some(request) = calls::request_at(calls, at, bytes.len(), replies.len()) else {
             return Ran { engine, taken };
         };
-        let p = request.peer;
-        let call = request.call;
-        let n = engine.n;
-        let area = engine.area;
-        let limit = engine.limit;
-        let answer = match engine::admit(good, n, area, limit, arena.len(), map.len(), p) {
-            Err(refusal) => Answer::Refused(refusal),
-            Ok(()) => {
-                let there = engine.peers[p];
-                let step = lending::step(there, p, area, limit, call, bytes, arena, map, replies);
-                let after = step.peer;
-                engine.peers[p] = after;
-                step.answer
-            }
-        };
+        let answer = turns::turn(&mut engine, good, request, bytes, arena, map, replies);
         at = answers::put_answer(answers, at, answer);
     }
     Ran {

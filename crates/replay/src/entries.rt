@@ -9,12 +9,9 @@ ghost use Rattle.replay.specs.Replaying.{ran};
 use crate::lines;
 use crate::types::{Ending, Replayed};
 use engine::Engine;
-use peer::{Answer, Call};
+use peer::{Call, Request};
 use protocol::Span;
 
-// Gate and step stand in the loop, and so they do in `packed::run_calls` and `calls::packet`: a function for all would be handed
-// eight things, and would ask of each what the loop's invariant keeps.
-//
 // Runs at most `budget` entries from a place of the trace on, and puts a line for each into the text.
 // The state is one that can be: each call leaves one that can be, so that none is checked again.
 pub(crate) fn run(
@@ -48,21 +45,10 @@ pub(crate) fn run(
                 ending,
             };
         };
-        let p = request.peer;
-        let recorded = request.call;
-        let call = with_buffer(recorded, reply.len());
-        let area = engine.area;
-        let limit = engine.limit;
-        let answer = match engine::admit(true, engine.n, area, limit, arena.len(), map.len(), p) {
-            Err(refusal) => Answer::Refused(refusal),
-            Ok(()) => {
-                let there = engine.peers[p];
-                let step = lending::step(there, p, area, limit, call, trace, arena, map, reply);
-                let after = step.peer;
-                engine.peers[p] = after;
-                step.answer
-            }
-        };
+        let call = with_buffer(request.call, reply.len());
+        let peer = request.peer;
+        let lent = Request { peer, call };
+        let answer = turns::turn(&mut engine, true, lent, trace, arena, map, reply);
         written = lines::put_answer(text, written, answer);
         place = next;
         taken += 1;

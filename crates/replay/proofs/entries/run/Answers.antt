@@ -3,16 +3,13 @@ use Prim.Native.Nat.{◌<◌}
 use lib.ListN.{length}
 use mathlib.Core.Logic.{inl, inr}
 use mathlib.Core.Path.{◌≡◌, refl, sym, ◌∙◌}
-use native.Mathlib.Omega.{arith}
-use Rattle.engine.specs.Leaves.{world}
 use Rattle.trace.specs.Entries.{entry_at}
-use Rattle.std.specs.Prelude.{Some}
-use Rattle.guarantees.proofs.CheckedOnce.{once_in_peers, once_owned}
-use Rattle.guarantees.proofs.RunInvariant.{run_open, run_refused}
+use Rattle.std.specs.Prelude.{Some, true}
+use Rattle.guarantees.proofs.CheckedOnce.{CheckedOnce}
+use Rattle.guarantees.proofs.RunInvariant.{run_made}
 use Rattle.replay.proofs.ReplayInvariant.{replay_again, replay_bad, replay_end, replay_inside, replay_next, replay_start}
-use Rattle.engine.specs.SetUp.{peer_count}
 use Rattle.replay.proofs.entries.run.Goals as goal
-use Rattle.replay.proofs.entries.run.Goals.{After-admit, In-Ok, else-loop-taken-test, in-Ok, in-Err, then-loop-taken-test+else-place-trace}
+use Rattle.replay.proofs.entries.run.Goals.{After-turn-answer, else-loop-taken-test, then-loop-taken-test+else-place-trace}
 
 pub loop-taken-init : goal.loop-taken-init
 loop-taken-init c =
@@ -24,74 +21,43 @@ returns-in_default c =
 
 -- ---- an entry that was read
 
-inside : (c : After-admit) → c.loop-taken.place < length c.args.trace.now
+inside : (c : After-turn-answer) → c.loop-taken.place < length c.args.trace.now
 inside c = c.if-place-trace.true
 
-read : (c : After-admit) → entry_at c.args.trace.now c.loop-taken.place ≡ Some (c.in-Some.request, c.in-Some.next)
+read : (c : After-turn-answer) → entry_at c.args.trace.now c.loop-taken.place ≡ Some (c.in-Some.request, c.in-Some.next)
 read c = sym c.read_entry.ensures ∙ c.in-Some.is
 
--- behind an open gate its peer is there
-below : (c : In-Ok) → c.in-Some.request.peer < peer_count
-below c =
-    let l = c.loop-taken in
-    let s = l.invariant.4 in
-    let h = once_in_peers (world l.engine l.arena l.map) _ s _ c.admit.ensures c.in-Ok.is in
-    omega (arith, h, s.eights.peers)
+pub turn-answer-requires-clause-eights : goal.turn-answer-requires-clause-eights
+turn-answer-requires-clause-eights c = c.loop-taken.invariant.4.eights
 
-pub offset_bounds-engine-p : goal.offset_bounds-engine-p
-offset_bounds-engine-p c = omega (arith, below (goal.at.offset_bounds-engine-p c).In-Ok)
+pub turn-answer-requires-clause-state : goal.turn-answer-requires-clause-state
+turn-answer-requires-clause-state c = c.loop-taken.invariant.4.state
 
-pub bounds-engine-p : goal.bounds-engine-p
-bounds-engine-p c = omega (arith, below (goal.at.bounds-engine-p c).In-Ok)
-
-pub step-step-requires-clause-owned : goal.step-step-requires-clause-owned
-step-step-requires-clause-owned c =
-    let l = c.loop-taken in
-    let o = once_owned (world l.engine l.arena l.map) _ l.invariant.4 _ c.admit.ensures c.in-Ok.is _ in o
-
-pub step-step-requires-clause-lies_within : goal.step-step-requires-clause-lies_within
-step-step-requires-clause-lies_within c =
-    let l = c.loop-taken in
-    rw c.with_buffer-call.ensures (replay_inside l.invariant.5 c.loop-taken-test.true (inside (goal.at.step-step-requires-clause-lies_within c).After-admit) _ _ (read (goal.at.step-step-requires-clause-lies_within c).After-admit))
-
-pub offset_bounds-engine-p-in-Ok : goal.offset_bounds-engine-p-in-Ok
-offset_bounds-engine-p-in-Ok c = omega (arith, below (goal.at.offset_bounds-engine-p-in-Ok c).In-Ok)
-
-pub bounds-engine-p-in-Ok : goal.bounds-engine-p-in-Ok
-bounds-engine-p-in-Ok c = omega (arith, below (goal.at.bounds-engine-p-in-Ok c).In-Ok)
+pub turn-answer-requires-clause-lies_within : goal.turn-answer-requires-clause-lies_within
+turn-answer-requires-clause-lies_within c =
+    rw c.with_buffer-call.ensures
+    (replay_inside c.loop-taken.invariant.5 c.loop-taken-test.true c.if-place-trace.true _ _ (sym c.read_entry.ensures ∙ c.in-Some.is))
 
 pub loop-taken-preserved : goal.loop-taken-preserved
 loop-taken-preserved c =
     let l = c.loop-taken in
     let g = l.invariant.5 in
     let h = c.loop-taken-test.true in
-    let r = replay_next g h (inside (goal.at.loop-taken-preserved c).After-admit) _ _ (read (goal.at.loop-taken-preserved c).After-admit) in
-    let i = replay_inside g h (inside (goal.at.loop-taken-preserved c).After-admit) _ _ (read (goal.at.loop-taken-preserved c).After-admit) in
-    let p = c.put_answer-written in
-    elim c.match-admit.branch [
-      | in-Err w ↦
-          let m = run_refused r i l.invariant.4 _ c.admit.ensures _ w.in-Err.is in
-          rw (w.arena-is, w.map-is, w.reply-is, w.engine-is) (
-            l.invariant.0,
-            l.invariant.1,
-            l.invariant.2,
-            p.auto.text ∙ l.invariant.3,
-            m.once,
-            replay_again g h (inside (goal.at.loop-taken-preserved c).After-admit) _ _ (read (goal.at.loop-taken-preserved c).After-admit) m _ _ (rw w.answer-is at p.ensures.0) (rw w.answer-is at p.ensures.1),
-          )
-      | in-Ok w ↦
-          let q = w.step-step in
-          let n = q.auto.replies in
-          let m = run_open r i l.invariant.4 _ c.admit.ensures w.in-Ok.is _ _ n (rw c.with_buffer-call.ensures at q.ensures) in
-          rw (w.arena-is, w.map-is, w.reply-is, w.engine-is) (
-            q.auto.arena ∙ l.invariant.0,
-            q.auto.map ∙ l.invariant.1,
-            n ∙ l.invariant.2,
-            p.auto.text ∙ l.invariant.3,
-            m.once,
-            replay_again g h (inside (goal.at.loop-taken-preserved c).After-admit) _ _ (read (goal.at.loop-taken-preserved c).After-admit) m _ _ (rw w.answer-is at p.ensures.0) (rw w.answer-is at p.ensures.1),
-          )
-    ]
+    let k = inside (goal.at.loop-taken-preserved c).After-turn-answer in
+    let f = read (goal.at.loop-taken-preserved c).After-turn-answer in
+    let q = c.turn-answer in
+    let n = q.auto.replies in
+    let e = c.with_buffer-call.ensures in
+    let once : CheckedOnce true q.new.engine = record { eights = q.ensures.eights_after; state = q.ensures.state_after } in
+    let m = run_made (replay_next g h k _ _ f) (replay_inside g h k _ _ f) (rw e at q.ensures.world_after) (rw e at q.ensures.answer) (rw e at q.ensures.replied) n once in
+    let p = c.put_answer-written in (
+      q.auto.arena ∙ l.invariant.0,
+      q.auto.map ∙ l.invariant.1,
+      n ∙ l.invariant.2,
+      p.auto.text ∙ l.invariant.3,
+      once,
+      replay_again g h k _ _ f m _ _ p.ensures.0 p.ensures.1,
+    )
 
 pub returns : goal.returns
 returns c =
