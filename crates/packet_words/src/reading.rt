@@ -5,7 +5,8 @@ ghost use Rattle.packet_words.specs.Values.{value_words, read_into};
 use crate::types::{TAKEN, VALUES};
 use protocol::{Packet, Refusal};
 
-fn value_words(packet: Packet) -> [u64; VALUES]
+// 19 and not `VALUES`: another length than the definition's is refused by the clause, and not by the array.
+fn value_words(packet: Packet) -> [u64; 19]
     ensures { result ≡ value_words packet }
 {
     let header = packet.header;
