@@ -16,6 +16,7 @@ use peer::{Answer, Request};
 
 // Makes a call, whose packet lies in `bytes` and whose reply buffer in `replies`. What the check of the state said of the engine
 // is `good`, and it would say the same of the engine that the call leaves.
+#[inline(always)]
 pub fn turn(
     engine: &mut Engine,
     good: bool,
