@@ -6,6 +6,7 @@ ghost use Rattle.peer.specs.State.{slot_count, slot_with};
 use peer::{Peer, Phase, Receive, Slot};
 
 // Whether a receive is posted here.
+#[inline(always)]
 fn is_posted(slot: &Slot) -> bool
     ensures { result ≡ is_posted slot.now.phase }
 {
@@ -13,6 +14,7 @@ fn is_posted(slot: &Slot) -> bool
 }
 
 // How many receives are posted.
+#[inline(always)]
 #[tactic(auto, using(peer::proofs::Slots::SlotTurns::posted_counted))]
 fn count_posted(peer: &Peer) -> u64
     ensures { result ≡ count_posted peer.now.slots }
@@ -21,6 +23,7 @@ fn count_posted(peer: &Peer) -> u64
 }
 
 // Whether a receive is posted here that is older than this age.
+#[inline(always)]
 fn is_older(slot: &Slot, age: u64) -> bool
     ensures { result ≡ is_older age slot.now.phase }
 {
@@ -28,6 +31,7 @@ fn is_older(slot: &Slot, age: u64) -> bool
 }
 
 // How many posted receives are older than this age.
+#[inline(always)]
 #[tactic(auto, using(peer::proofs::Slots::SlotTurns::older_counted))]
 fn count_older(peer: &Peer, age: u64) -> u64
     ensures { result ≡ count_older age peer.now.slots }
@@ -39,6 +43,7 @@ fn count_older(peer: &Peer, age: u64) -> u64
 }
 
 // The slot, with the number of older receives among all as its receive's age.
+#[inline(always)]
 fn renumbered_slot(slot: Slot, all: &Peer) -> Slot
     ensures { result ≡ slot_with (renumbered_phase all.now.slots slot.phase) }
 {
@@ -51,6 +56,7 @@ fn renumbered_slot(slot: Slot, all: &Peer) -> Slot
 }
 
 // The peer, with ages from 0 on in the order of posting.
+#[inline(always)]
 fn renumbered(all: Peer) -> Peer
     ensures { result ≡ record { next = all.next; slots = renumbered all.slots all.slots } }
 {
@@ -62,6 +68,7 @@ fn renumbered(all: Peer) -> Peer
 }
 
 // The peer with a receive in slot i, the youngest there.
+#[inline(always)]
 #[tactic(auto, unfolding(peer::specs::Calls::placed))]
 pub(crate) fn placed(peer: Peer, receive: Receive, i: usize) -> Peer
     requires { i < slot_count }

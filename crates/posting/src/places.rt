@@ -7,6 +7,7 @@ ghost use Rattle.peer.specs.Matching.{vacancy};
 use peer::{Peer, Phase, Receive, Slot};
 
 // Whether the slot's range shares a byte with a receive's.
+#[inline(always)]
 #[tactic(auto, unfolding(peer::specs::State::overlaps_use))]
 fn overlaps_use(slot: &Slot, receive: Receive) -> bool
     ensures { result ≡ overlaps_use receive slot.now.phase }
@@ -19,6 +20,7 @@ fn overlaps_use(slot: &Slot, receive: Receive) -> bool
 }
 
 // Whether a used range shares a byte with a receive's.
+#[inline(always)]
 pub(crate) fn overlaps_some(peer: &Peer, receive: Receive) -> bool
     ensures { result ≡ overlaps_some receive peer.now.slots }
 {
@@ -26,6 +28,7 @@ pub(crate) fn overlaps_some(peer: &Peer, receive: Receive) -> bool
 }
 
 // The lowest free slot.
+#[inline(always)]
 pub(crate) fn find_vacancy(peer: &Peer) -> Option<usize>
     ensures { result ≡ vacancy 0 peer.now.slots }
 {

@@ -9,6 +9,7 @@ use peer::{Inbound, Incoming, Peer, Receive, Verdict};
 use protocol::Refusal;
 
 // A segment of this message, which is open in slot i, is taken if none of its bytes is in.
+#[inline(always)]
 fn judge_more(inbound: Inbound, i: usize, h: Incoming, words: &[u64]) -> Verdict
     requires { Placed (length words.now) inbound h }
     ensures { result ≡ judge_more words.now i inbound h }
@@ -23,6 +24,7 @@ fn judge_more(inbound: Inbound, i: usize, h: Incoming, words: &[u64]) -> Verdict
 }
 
 // A packet that names this message by its id.
+#[inline(always)]
 #[tactic(auto, unfolding(peer::specs::Judging::judge_again, laws::specs::Choose::pick))]
 fn judge_again(inbound: Inbound, i: usize, h: Incoming, words: &[u64]) -> Verdict
     requires { same_message inbound.message h ≡ true → Placed (length words.now) inbound h }
@@ -36,6 +38,7 @@ fn judge_again(inbound: Inbound, i: usize, h: Incoming, words: &[u64]) -> Verdic
 }
 
 // CTSDATA that names this message.
+#[inline(always)]
 #[tactic(auto, unfolding(peer::specs::Judging::judge_data, laws::specs::Choose::pick))]
 fn judge_data(inbound: Inbound, i: usize, h: Incoming, words: &[u64]) -> Verdict
     requires { nat_le (h.offset + h.size) inbound.message.granted ≡ true → Placed (length words.now) inbound h }
@@ -53,6 +56,7 @@ fn judge_data(inbound: Inbound, i: usize, h: Incoming, words: &[u64]) -> Verdict
 }
 
 // A packet with the next id, by the oldest receive that it fits.
+#[inline(always)]
 #[tactic(auto, unfolding(peer::specs::Judging::judge_fit, laws::specs::Choose::pick))]
 fn judge_fit(fit: Option<(usize, Receive, u64)>, h: Incoming) -> Verdict
     ensures { result ≡ judge_fit h fit }
@@ -65,6 +69,7 @@ fn judge_fit(fit: Option<(usize, Receive, u64)>, h: Incoming) -> Verdict
 }
 
 // A packet whose id is open nowhere.
+#[inline(always)]
 #[tactic(auto, unfolding(peer::specs::Judging::judge_new, laws::specs::Choose::pick))]
 fn judge_new(peer: &Peer, h: Incoming) -> Verdict
     ensures { result ≡ judge_new peer.now h }
@@ -80,6 +85,7 @@ fn judge_new(peer: &Peer, h: Incoming) -> Verdict
 }
 
 // A packet that was read.
+#[inline(always)]
 pub(crate) fn judge(peer: &Peer, h: Incoming, words: &[u64]) -> Verdict
     requires { MayJudge (length words.now) peer.now h }
     ensures { result ≡ judge peer.now words.now h }

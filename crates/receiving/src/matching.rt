@@ -6,6 +6,7 @@ use crate::shapes;
 use peer::{Inbound, Incoming, Message, Phase, Receive, Slot};
 
 // How far an id is ahead of the next one, round at 2^32.
+#[inline(always)]
 #[tactic(auto, unfolding(peer::specs::Matching::ahead))]
 pub(crate) fn ahead_of(id: u32, next: u32) -> u32
     ensures { result ≡ ahead id next }
@@ -14,6 +15,7 @@ pub(crate) fn ahead_of(id: u32, next: u32) -> u32
 }
 
 // Whether a packet is of this message's type, and that a medium one.
+#[inline(always)]
 #[tactic(auto, unfolding(peer::specs::Matching::same_medium))]
 fn same_medium(message: Message, h: Incoming) -> bool
     ensures { result ≡ same_medium message h }
@@ -22,6 +24,7 @@ fn same_medium(message: Message, h: Incoming) -> bool
 }
 
 // Whether a packet is a further segment of this message.
+#[inline(always)]
 #[tactic(auto, unfolding(peer::specs::Matching::same_message))]
 pub(crate) fn goes_on(message: Message, h: Incoming) -> bool
     ensures { result ≡ same_message message h }
@@ -30,6 +33,7 @@ pub(crate) fn goes_on(message: Message, h: Incoming) -> bool
 }
 
 // Whether a packet is of this receive's kind, with a tag that it takes.
+#[inline(always)]
 #[tactic(auto, unfolding(peer::specs::Matching::fits, peer::specs::Matching::same_outside, laws::specs::Choose::pick))]
 fn takes(receive: Receive, h: Incoming) -> bool
     ensures { result ≡ fits h receive }
@@ -42,6 +46,7 @@ fn takes(receive: Receive, h: Incoming) -> bool
 }
 
 // The older of the best so far, with its slot and its age, and a receive in slot i.
+#[inline(always)]
 #[tactic(auto, unfolding(peer::specs::Matching::older, laws::specs::Choose::pick))]
 fn older(
     best: Option<(usize, Receive, u64)>,
@@ -58,6 +63,7 @@ fn older(
 }
 
 // The same, with slot i, if it has a receive that the packet fits.
+#[inline(always)]
 #[tactic(auto, unfolding(peer::specs::Matching::older_here, laws::specs::Choose::pick))]
 fn older_here(
     best: Option<(usize, Receive, u64)>,
@@ -74,6 +80,7 @@ fn older_here(
 }
 
 // The message that is open here, in slot i, under an id.
+#[inline(always)]
 #[tactic(auto, unfolding(peer::specs::Matching::open_here, laws::specs::Choose::pick))]
 fn open_under(slot: &Slot, id: u32, i: usize) -> Option<(usize, Inbound)>
     ensures { result ≡ open_here id i slot.now.phase }
@@ -85,6 +92,7 @@ fn open_under(slot: &Slot, id: u32, i: usize) -> Option<(usize, Inbound)>
 }
 
 // The message that is open under an id among the slots, with its slot.
+#[inline(always)]
 #[tactic(auto, using(peer::proofs::Slots::SlotTurns::open_turn, peer::proofs::Slots::SlotTurns::open_end))]
 pub(crate) fn find_open(slots: &[Slot], id: u32) -> Option<(usize, Inbound)>
     ensures { result ≡ find_open id 0 slots.now }
@@ -99,6 +107,7 @@ pub(crate) fn find_open(slots: &[Slot], id: u32) -> Option<(usize, Inbound)>
 }
 
 // The oldest receive among the slots that a packet fits, with its slot and its age.
+#[inline(always)]
 #[tactic(auto, using(peer::proofs::Slots::SlotTurns::oldest_turn, peer::proofs::Slots::SlotTurns::oldest_end))]
 pub(crate) fn find_oldest(slots: &[Slot], h: Incoming) -> Option<(usize, Receive, u64)>
     ensures { result ≡ oldest h 0 None slots.now }

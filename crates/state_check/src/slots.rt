@@ -6,6 +6,7 @@ use crate::open;
 use peer::{Inbound, Phase, Receive, Slot};
 
 // Whether the slot by itself can be in a peer with this area.
+#[inline(always)]
 #[tactic(auto, unfolding(peer::specs::State::phase_fits))]
 pub(crate) fn fits(slot: &Slot, area: usize) -> bool
     ensures { result ≡ phase_fits area slot.now.phase }
@@ -18,6 +19,7 @@ pub(crate) fn fits(slot: &Slot, area: usize) -> bool
 }
 
 // Whether a posted receive and a slot cannot stand together.
+#[inline(always)]
 #[tactic(auto, unfolding(peer::specs::State::clash))]
 fn clashes_posted(slot: &Slot, receive: Receive, age: u64) -> bool
     ensures { result ≡ clash (Phase.Posted receive age) slot.now.phase }
@@ -30,6 +32,7 @@ fn clashes_posted(slot: &Slot, receive: Receive, age: u64) -> bool
 }
 
 // Whether an open message and a slot cannot stand together.
+#[inline(always)]
 #[tactic(auto, unfolding(peer::specs::State::clash))]
 fn clashes_open(slot: &Slot, inbound: Inbound) -> bool
     ensures { result ≡ clash (Phase.Open inbound) slot.now.phase }
@@ -42,6 +45,7 @@ fn clashes_open(slot: &Slot, inbound: Inbound) -> bool
 }
 
 // Whether two slots cannot stand together.
+#[inline(always)]
 #[tactic(auto, unfolding(peer::specs::State::clash))]
 pub(crate) fn clashes(slot: &Slot, other: &Slot) -> bool
     ensures { result ≡ clash slot.now.phase other.now.phase }
