@@ -1,5 +1,5 @@
 // The fields of a packet, read and written where its type's row says that they stand.
-ghost use Rattle.std.specs.Prelude.{[], ◌∷◌, true, ◌≡◌, ◌+◌, ◌≤◌, ◌<◌, length};
+ghost use Rattle.std.specs.Prelude.{[], ◌∷◌, ◌≡◌, ◌+◌, ◌≤◌, ◌<◌, length};
 ghost use Rattle.laws.specs.Parts.{store_at};
 ghost use Rattle.protocol.specs.FieldNumbers.{count_in, field_bytes, fields_in, number_there, put_fields, put_there};
 ghost use Rattle.protocol.specs.Layout.{Field, credit_request, layout, msg_id, msg_length, multiuse, padding, place_by, recv_id, recv_length, seg_length, seg_offset, send_id, tag};

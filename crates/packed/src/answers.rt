@@ -24,7 +24,7 @@ fn done_words(slot: usize, id: u32, length: usize, cq_data: Option<u64>) -> [u64
 }
 
 #[tactic(auto, unfolding(crate::specs::Answers::answer_words))]
-// The kinds are the numbers of `quagfeather_run`'s words.
+// The kinds are the numbers of `quagfeather_run`'s words. It is no `From`, since `Answer` is another crate's.
 fn answer_words(answer: Answer) -> [u64; WORDS]
     ensures { result ≡ answer_words answer }
 {

@@ -2,7 +2,6 @@
 // once: a call of an engine whose state can be leaves one whose state can be.
 ghost use Rattle.std.specs.Prelude.{◌≡◌, ◌*◌};
 ghost use Rattle.engine.specs.Leaves.{world};
-ghost use Rattle.engine.specs.SetUp.{engine_of};
 ghost use Rattle.packed.specs.Calls.{words_each};
 ghost use Rattle.packed.specs.Running.{budget_of, ran_from, run_of};
 ghost use Rattle.engine.specs.Sentences.{Eights};

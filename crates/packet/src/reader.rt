@@ -1,5 +1,5 @@
 // Reading a packet: its checks in their order, then its numbers and where its bytes lie.
-ghost use Rattle.std.specs.Prelude.{◌≡◌, true, false, ◌≤◌, length};
+ghost use Rattle.std.specs.Prelude.{◌≡◌, ◌≤◌, length};
 ghost use Rattle.protocol.specs.Reading.{header_in, packet_in, read_lengths, read_flags, read_of};
 ghost use Rattle.protocol.specs.Rules.{Sound, SectionsInside};
 ghost use Rattle.protocol.specs.Types.{every_row, served_row, reader_rows};

@@ -5,7 +5,8 @@ ghost use Rattle.packet_words.specs.Values.{value_words, read_into};
 use crate::types::{TAKEN, VALUES};
 use protocol::{Packet, Refusal};
 
-// 19 and not `VALUES`: another length than the definition's is refused by the clause, and not by the array.
+// It is no `From`, since `Packet` is another crate's. 19 and not `VALUES`: another length than the definition's is refused by
+// the clause, and not by the array.
 fn value_words(packet: Packet) -> [u64; 19]
     ensures { result ≡ value_words packet }
 {

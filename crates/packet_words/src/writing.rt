@@ -24,42 +24,33 @@ fn options_fit(row: TypeRow, values: &[u64]) -> bool
 }
 
 // Whether 32 bits hold a number, if it is there.
+#[tactic(auto, unfolding(laws::specs::Choose::pick))]
 fn holds(there: u64, word: u64) -> bool
     ensures { result ≡ holds there word }
 {
-    if there == 0 {
-        return true;
-    }
-    word < WIDE
+    there == 0 || word < WIDE
 }
 
 // Whether each own field of the type holds its number. A field of 64 bits does.
+#[tactic(auto, using(crate::proofs::Fitting::own_fit))]
 fn fields_fit(row: TypeRow, values: &[u64]) -> bool
     requires sound { Sound row }
     requires in_bounds { 19 ≤ length values.now }
     ensures { result ≡ fields_fit values.now (own_fields row) }
 {
-    if !holds(row.places / MSG_ID % 16, values[1]) {
-        return false;
-    }
-    if !holds(row.places / RECV_ID % 16, values[2]) {
-        return false;
-    }
-    if !holds(row.places / SEND_ID % 16, values[3]) {
-        return false;
-    }
-    holds(row.places / CREDIT_REQUEST % 16, values[8])
+    holds(row.places / MSG_ID % 16, values[1])
+        && holds(row.places / RECV_ID % 16, values[2])
+        && holds(row.places / SEND_ID % 16, values[3])
+        && holds(row.places / CREDIT_REQUEST % 16, values[8])
 }
 
+#[tactic(auto, unfolding(crate::specs::Writing::words_fit))]
 fn numbers_fit(row: TypeRow, values: &[u64]) -> bool
     requires sound { Sound row }
     requires in_bounds { 19 ≤ length values.now }
     ensures { result ≡ words_fit row values.now }
 {
-    if !fields_fit(row, values) {
-        return false;
-    }
-    holds(values[15], values[16])
+    fields_fit(row, values) && holds(values[15], values[16])
 }
 
 fn fields_in(values: &[u64]) -> Fields
@@ -95,7 +86,7 @@ fn connid_in(values: &[u64]) -> Option<u32>
     (values[15] != 0).then_some((values[16] % WIDE) as u32)
 }
 
-// The header that the words say.
+// The header that the words say. It is no `From`, since `Header` is another crate's.
 fn header_in(values: &[u64]) -> Header
     requires { 19 ≤ length values.now }
     ensures { result ≡ words_header values.now }
@@ -113,23 +104,16 @@ fn header_in(values: &[u64]) -> Header
 }
 
 // Whether every number of 32 bits is one: then no row has to be looked at for them.
+#[tactic(auto, unfolding(crate::specs::Writing::all_narrow))]
 fn all_narrow(values: &[u64]) -> bool
     requires { 19 ≤ length values.now }
     ensures { result ≡ all_narrow values.now }
 {
-    if WIDE <= values[1] {
-        return false;
-    }
-    if WIDE <= values[2] {
-        return false;
-    }
-    if WIDE <= values[3] {
-        return false;
-    }
-    if WIDE <= values[8] {
-        return false;
-    }
-    values[16] < WIDE
+    values[1] < WIDE
+        && values[2] < WIDE
+        && values[3] < WIDE
+        && values[8] < WIDE
+        && values[16] < WIDE
 }
 
 // The packet writer on the header that the words say.

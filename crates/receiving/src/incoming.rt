@@ -31,7 +31,7 @@ fn message_length(shape: Shape, fields: Fields, size: usize) -> usize
     }
 }
 
-// What the packet says.
+// What the packet says. It is no `From`, since both types are other crates'.
 #[tactic(auto, unfolding(peer::specs::Incomings::incoming_of))]
 pub(crate) fn incoming_of(packet: Packet) -> Incoming
     ensures { result ≡ incoming_of packet }

@@ -12,6 +12,7 @@ use engine::Engine;
 use peer::{Inbound, Message, Peer, Phase, Receive, Slot};
 use protocol::Shape;
 
+// A receive is made of numbers here, of a trace's in `trace` and of a call's in `packed`: each reads another form.
 fn receive_in(words: &[u64], at: usize) -> Receive
     requires { at + 16 ≤ length words.now }
     ensures { result ≡ receive_in words.now at }

@@ -3,11 +3,12 @@ use Rattle.std.proofs.Common.{◌<◌, arith}
 use Rattle.peer.specs.declared.types.Answer.{Answer}
 use Rattle.engine.specs.Leaves.{world}
 use Rattle.engine.specs.SetUp.{peer_count}
+use Rattle.engine.specs.Steps.{with_peer}
 use Rattle.guarantees.specs.Receiving.{request_of, turn_of}
 use Rattle.guarantees.proofs.CheckedOnce.{CheckedOnce, once_in_peers, once_owned}
 use Rattle.guarantees.proofs.TurnTaken.{TurnTaken, turn_open, turn_refused}
 use Rattle.turns.proofs.turn.Goals as goal
-use Rattle.turns.proofs.turn.Goals.{In-Err, In-Ok}
+use Rattle.turns.proofs.turn.Goals.{After-step-step, In-Err, In-Ok}
 
 -- behind an open gate its peer is there
 below : (c : In-Ok) → c.args.request.peer < peer_count
@@ -53,26 +54,22 @@ returns-in-Err-clause-answer c = (refused (goal.at.returns-in-Err-clause-answer 
 pub returns-in-Err-clause-replied : goal.returns-in-Err-clause-replied
 returns-in-Err-clause-replied c = (refused (goal.at.returns-in-Err-clause-replied c).In-Err).reply
 
-pub returns-in-Ok-clause-world_after : goal.returns-in-Ok-clause-world_after
-returns-in-Ok-clause-world_after c =
+made : (c : After-step-step) → let a = c.args in let l = c.step-step in
+    TurnTaken a.replies.now a.request a.good (turn_of (world a.engine.now a.arena.now a.map.now) (request_of a.bytes.now a.replies.now a.request))
+    (world (with_peer a.engine.now a.request.peer l.result.peer) l.new.arena l.new.map) l.new.replies l.result.answer
+made c =
     let a = c.args in
     let s : CheckedOnce a.good a.engine.now = record { eights = c.requires.eights; state = c.requires.state } in
-    (turn_open a.bytes.now a.replies.now (world a.engine.now a.arena.now a.map.now) a.request s _ c.admit.ensures c.in-Ok.is _ _ c.step-step.ensures).world
+    turn_open a.bytes.now a.replies.now (world a.engine.now a.arena.now a.map.now) a.request s _ c.admit.ensures c.in-Ok.is _ _ c.step-step.ensures
+
+pub returns-in-Ok-clause-world_after : goal.returns-in-Ok-clause-world_after
+returns-in-Ok-clause-world_after c = (made (goal.at.returns-in-Ok-clause-world_after c).After-step-step).world
 
 pub returns-in-Ok-clause-answer : goal.returns-in-Ok-clause-answer
-returns-in-Ok-clause-answer c =
-    let a = c.args in
-    let s : CheckedOnce a.good a.engine.now = record { eights = c.requires.eights; state = c.requires.state } in
-    (turn_open a.bytes.now a.replies.now (world a.engine.now a.arena.now a.map.now) a.request s _ c.admit.ensures c.in-Ok.is _ _ c.step-step.ensures).answer
+returns-in-Ok-clause-answer c = (made (goal.at.returns-in-Ok-clause-answer c).After-step-step).answer
 
 pub returns-in-Ok-clause-replied : goal.returns-in-Ok-clause-replied
-returns-in-Ok-clause-replied c =
-    let a = c.args in
-    let s : CheckedOnce a.good a.engine.now = record { eights = c.requires.eights; state = c.requires.state } in
-    (turn_open a.bytes.now a.replies.now (world a.engine.now a.arena.now a.map.now) a.request s _ c.admit.ensures c.in-Ok.is _ _ c.step-step.ensures).reply
+returns-in-Ok-clause-replied c = (made (goal.at.returns-in-Ok-clause-replied c).After-step-step).reply
 
 pub returns-in-Ok-clause-state_after : goal.returns-in-Ok-clause-state_after
-returns-in-Ok-clause-state_after c =
-    let a = c.args in
-    let s : CheckedOnce a.good a.engine.now = record { eights = c.requires.eights; state = c.requires.state } in
-    (turn_open a.bytes.now a.replies.now (world a.engine.now a.arena.now a.map.now) a.request s _ c.admit.ensures c.in-Ok.is _ _ c.step-step.ensures).once.state
+returns-in-Ok-clause-state_after c = (made (goal.at.returns-in-Ok-clause-state_after c).After-step-step).once.state
