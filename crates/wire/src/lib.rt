@@ -82,14 +82,16 @@ impl LittleEndian for u64 {
     }
 }
 
-// Puts bytes at a place, and answers the place behind them.
+// Puts bytes at a place, and answers the place behind them. Byte by byte, which the compiler turns into vector moves: with
+// `copy_from_slice` the library for C would need `memmove` from outside.
 pub fn write_bytes(s: &mut [u8], at: usize, bytes: &[u8]) -> usize
     requires { at + length bytes.now ≤ length s.old }
     ensures { (result ≡ at + length bytes.now) × (s.new ≡ store_at s.old at bytes.now) }
 {
-    let end = at + bytes.len();
-    s[at..end].copy_from_slice(bytes);
-    end
+    for (i, byte) in bytes.iter().enumerate() {
+        s[at + i] = *byte;
+    }
+    at + bytes.len()
 }
 
 // Whether `size` bytes from `at` on end at `end` or before, as whole numbers.
