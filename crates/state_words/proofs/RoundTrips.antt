@@ -21,17 +21,22 @@ use Rattle.peer.specs.declared.types.Slot.{Slot}
 use Rattle.engine.specs.SetUp.{engine_of, peer_at, peer_count}
 use Rattle.engine.specs.declared.types.Engine.{Engine}
 use Rattle.state_words.specs.Flat.{flat, same}
-use Rattle.state_words.specs.Loading.{engine_in, is_state, peer_in, phase_in, shape_in, state_of}
-use Rattle.state_words.specs.RoundTrip.{Held, LoadedAgain, MessageHeld, PeerHeld, SavedAgain}
+use Rattle.state_words.specs.Loading.{engine_in, is_state, loaded, peer_in, phase_in, shape_in, state_of}
+use Rattle.state_words.specs.RoundTrip.{Held, LoadedAgain, LoadedThenSaved, MessageHeld, PeerHeld, SavedAgain, SavedThenLoaded}
 use Rattle.words.specs.Presence.{bool_bit, option_bit, option_value}
 use Rattle.state_words.specs.Saving.{engine_words, peer_size, peer_words, phase_words, shape_number, slot_size, slot_words, sort_word}
 use Rattle.laws.proofs.Choosing.{pick_true}
 use Rattle.state_words.proofs.FlatLaws.{length_flat, tabulate_is, same_refl, same_true}
+use Rattle.state_words.proofs.Reading.{loaded_some}
 use Rattle.state_words.proofs.Sizes.{length_peer, length_slot}
 
 pub saved_again : SavedAgain
 unfolding SavedAgain is_state state_of
 saved_again w e = ap engine_words (pick_true (engine_in w) (engine_of 0 0 0) e) ∙ sym (same_true w (engine_words (engine_in w)) e)
+
+pub loaded_then_saved : LoadedThenSaved
+unfolding LoadedThenSaved SavedAgain
+loaded_then_saved w e h = let t = loaded_some w e h in ap engine_words (sym t.1) ∙ saved_again w t.0
 
 -- ---- the words s stand in w from `at` on
 
@@ -141,3 +146,7 @@ saved_is_state e held = let w = engine_words e in ap (λ (x : Engine). same w (e
 pub loaded_again : LoadedAgain
 unfolding LoadedAgain state_of
 loaded_again e held = pick_true (engine_in (engine_words e)) (engine_of 0 0 0) (saved_is_state e held) ∙ engine_read e held
+
+pub saved_then_loaded : SavedThenLoaded
+unfolding SavedThenLoaded loaded
+saved_then_loaded e held = pick_true (Some (engine_in (engine_words e))) None (saved_is_state e held) ∙ ap Some (engine_read e held)

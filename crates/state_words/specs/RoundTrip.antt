@@ -1,5 +1,5 @@
 -- Saving and loading undo each other. Proved in proofs/RoundTrips.antt.
-use Rattle.std.specs.Prelude.{ℕ, ◌^◌, ◌<◌, length, true, List, ◌≡◌}
+use Rattle.std.specs.Prelude.{ℕ, ◌^◌, ◌<◌, length, true, List, ◌≡◌, Some}
 use Rattle.peer.specs.State.{phase_at, slot_count}
 use Rattle.peer.specs.declared.types.Inbound.{Inbound}
 use Rattle.peer.specs.declared.types.Message.{Message}
@@ -7,12 +7,16 @@ use Rattle.peer.specs.declared.types.Peer.{Peer}
 use Rattle.peer.specs.declared.types.Phase.{Phase}
 use Rattle.engine.specs.SetUp.{peer_at, peer_count}
 use Rattle.engine.specs.declared.types.Engine.{Engine}
-use Rattle.state_words.specs.Loading.{is_state, state_of}
+use Rattle.state_words.specs.Loading.{is_state, loaded, state_of}
 use Rattle.state_words.specs.Saving.{engine_words}
 
 -- a state's words are those of the state that they are read as
 unfoldable pub SavedAgain : Type 0
 SavedAgain = (w : List ℕ) → is_state w ≡ true → engine_words (state_of w) ≡ w
+
+-- words that an engine was loaded from are those that it is saved as
+unfoldable pub LoadedThenSaved : Type 0
+LoadedThenSaved = (w : List ℕ) (e : Engine) → loaded w ≡ Some e → engine_words e ≡ w
 
 -- ---- an engine as the code holds it: its arrays have their lengths, and numbers of fewer than 64 bits are within their types
 
@@ -33,3 +37,7 @@ pub record Held (e : Engine) : Type 0 where
 -- such an engine is read from its words
 unfoldable pub LoadedAgain : Type 0
 LoadedAgain = (e : Engine) → Held e → state_of (engine_words e) ≡ e
+
+-- and is loaded from the words that it was saved as
+unfoldable pub SavedThenLoaded : Type 0
+SavedThenLoaded = (e : Engine) → Held e → loaded (engine_words e) ≡ Some e
