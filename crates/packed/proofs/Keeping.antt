@@ -45,7 +45,7 @@ read_eights w =
 none_eights : Eights (engine_of 0 0 0)
 none_eights = record { peers = length-replicate peer_count fresh_peer; slots = λ p h. absurd (omega arith) }
 
-state_eights : (w : List ℕ) → Eights (state_of w)
+pub state_eights : (w : List ℕ) → Eights (state_of w)
 unfolding state_of
 state_eights w = pick_either Eights (is_state w) (read_eights w) none_eights
 
