@@ -3,11 +3,12 @@
 // has a gate and a step of its own.
 #![tactic(auto)]
 
-ghost use Rattle.std.specs.Prelude.{◌≡◌, length};
+ghost use Rattle.std.specs.Prelude.{◌≡◌, length, true, Ok};
 ghost use Rattle.laws.specs.Parts.{store_at};
 ghost use Rattle.peer.specs.LentCalls.{LiesWithin, reply_place};
 ghost use Rattle.engine.specs.Leaves.{world};
 ghost use Rattle.engine.specs.Sentences.{Eights};
+ghost use Rattle.engine.specs.Gates.{gate_of};
 ghost use Rattle.engine.specs.SetUp.{engine_fits};
 ghost use Rattle.guarantees.specs.Receiving.{request_of, turn_of};
 
@@ -36,26 +37,47 @@ pub fn turn(
     ensures state_after { engine_fits engine.new ≡ good }
 {
     let p = request.peer;
-    let call = request.call;
     let n = engine.n;
     let area = engine.area;
     let limit = engine.limit;
     match engine::admit(good, n, area, limit, arena.len(), map.len(), p) {
         Err(refusal) => Answer::Refused(refusal),
-        Ok(()) => {
-            let step = lending::step(
-                engine.peers[p],
-                p,
-                area,
-                limit,
-                call,
-                bytes,
-                arena,
-                map,
-                replies,
-            );
-            engine.peers[p] = step.peer;
-            step.answer
-        }
+        Ok(()) => passed(engine, request, bytes, arena, map, replies),
     }
+}
+
+// Makes a call that the gate let through. It is a function of its own for its step: a function clears room for its locals as it
+// begins, and in `turn` a call that is refused would pay for that too.
+#[inline(always)]
+fn passed(
+    engine: &mut Engine,
+    request: Request,
+    bytes: &[u8],
+    arena: &mut [u8],
+    map: &mut [u64],
+    replies: &mut [u8],
+) -> Answer
+    requires eights { Eights engine.old }
+    requires gate { gate_of (engine_fits engine.old) engine.old.n engine.old.area (length arena.old) (length map.old) request.peer ≡ Ok tt }
+    requires lies_within { LiesWithin (length bytes.now) (length replies.old) request.call }
+    ensures world_after { world engine.new arena.new map.new ≡ (turn_of (world engine.old arena.old map.old) (request_of bytes.now replies.old request)).world }
+    ensures answer { result ≡ (turn_of (world engine.old arena.old map.old) (request_of bytes.now replies.old request)).answer }
+    ensures replied { replies.new ≡ store_at replies.old (reply_place request.call) (turn_of (world engine.old arena.old map.old) (request_of bytes.now replies.old request)).reply }
+    ensures eights_after { Eights engine.new }
+    ensures state_after { engine_fits engine.new ≡ true }
+{
+    let p = request.peer;
+    let step = lending::step(
+        engine.peers[p],
+        p,
+        engine.area,
+        engine.limit,
+        request.call,
+        bytes,
+        arena,
+        map,
+        replies,
+    );
+    engine.peers[p] = step.peer;
+    step.answer
 }
